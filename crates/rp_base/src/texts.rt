@@ -1,0 +1,68 @@
+ghost use Rattle.std.specs.Prelude.{◌≡◌, List, [], ◌++◌, length, OnOk, OnErr};
+ghost use Rattle.std.specs.Fmt.{decimal};
+
+use crate::memory::NoMemory;
+use std::alloc::Global;
+use std::marker::Model;
+
+/// Text that grows. Contracts see its bytes.
+#[derive(Drop)]
+pub struct Text {
+    text: String,
+}
+
+impl Model for Text {
+    ghost use Rattle.std.specs.Prelude.{List, ℕ, string_bytes};
+
+    ghost Value = { List ℕ };
+
+    ghost view = { λ t. string_bytes t.text };
+}
+
+impl Text {
+    /// The empty text. It takes no memory.
+    pub fn new(alloc: Global) -> Text
+        ensures { result ≡ [] }
+    {
+        Text {
+            text: String::new(alloc),
+        }
+    }
+
+    pub fn as_bytes(&self) -> &[u8]
+        ensures { result.now ≡ self.now }
+    {
+        self.text.as_bytes()
+    }
+
+    pub fn as_str(&self) -> &str
+        ensures { result.now ≡ self.now }
+    {
+        self.text.as_str()
+    }
+
+    pub fn len(&self) -> usize
+        ensures { result ≡ length self.now }
+    {
+        self.text.len()
+    }
+}
+
+/// Appends the word.
+pub fn push_word(out: &mut Text, word: &str) -> Result<(), NoMemory>
+    ensures ok { OnOk result (out.new ≡ out.old ++ word.now) }
+    ensures err { OnErr result (out.new ≡ out.old) }
+{
+    out.text.push_str(word)?;
+    Ok(())
+}
+
+/// Appends the shortest decimal of a number.
+pub fn push_number(out: &mut Text, n: u64) -> Result<(), NoMemory>
+    ensures ok { OnOk result (out.new ≡ out.old ++ decimal n) }
+    ensures err { OnErr result (out.new ≡ out.old) }
+{
+    let digits = n.to_string(*out.text.allocator())?;
+    out.text.push_str(&digits)?;
+    Ok(())
+}
