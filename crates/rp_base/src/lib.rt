@@ -1,10 +1,20 @@
 //! What all crates of the product speak of: lists, text, keys and numbers.
 #![tactic(auto)]
 
+mod ids;
+mod items;
+mod leases;
+mod limits;
 mod lists;
 mod memory;
+mod ranges;
 mod texts;
 
+pub use ids::{CmdId, NodeId, RangeId};
+pub use items::Item;
+pub use leases::{Lease, LeaseAsk, LeaseIndex, LeaseSeq, Tick};
+pub use limits::Which;
 pub use lists::{Bytes, Calls, Grown, Seq};
 pub use memory::NoMemory;
+pub use ranges::Desc;
 pub use texts::{Text, push_number, push_word};
