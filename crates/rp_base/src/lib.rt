@@ -3,18 +3,23 @@
 
 mod ids;
 mod items;
+mod keys;
+pub mod laws;
 mod leases;
 mod limits;
 mod lists;
 mod memory;
+mod numbers;
 mod ranges;
 mod texts;
 
 pub use ids::{CmdId, NodeId, RangeId};
 pub use items::Item;
+pub use keys::{BadKey, Key, push_bound, push_key};
 pub use leases::{Lease, LeaseAsk, LeaseIndex, LeaseSeq, Tick};
 pub use limits::Which;
 pub use lists::{Bytes, Calls, Grown, Seq};
 pub use memory::NoMemory;
+pub use numbers::{NumberFault, read_u64};
 pub use ranges::Desc;
 pub use texts::{Text, push_number, push_word};

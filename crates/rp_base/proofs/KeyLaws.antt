@@ -1,0 +1,110 @@
+-- Keys: what is read is what is spelled.
+use Rattle.std.proofs.Common.{◌≡◌, ℕ, ◌-◌, ◌<◌, ◌≤◌, ◌≢◌, ◌⊎◌, inl, inr, true, List, ◌++◌, length, replicate, take, get_or, lit<, Ok, Err, sym, ap, ◌∙◌, arith, length-append}
+use Rattle.std.specs.Bool.{◌==◌}
+use Rattle.std.specs.Int.{w128, from_be_bytes, to_be_bytes}
+use Rattle.std.specs.Str.{IsAscii, IsUtf8}
+use Rattle.std.proofs.lemmas.Str.{IsUtf8-from_ascii}
+use Rattle.std.specs.List.{prefix_len, position_or_len}
+use Rattle.std.specs.Ordering.{nat_cmp}
+use Rattle.std.specs.Cmp.Lexicographic.{slice_cmp}
+use Rattle.std.proofs.lemmas.Bool.Decides.{nat_tests}
+use Rattle.std.proofs.lemmas.Bool.{cases_lt}
+use Rattle.std.proofs.lemmas.List.{length-replicate, get_or_past}
+use Rattle.std.proofs.lemmas.List.Sums.{prefix_len-le-length, prefix_len_passes}
+use Rattle.rp_base.specs.Keys.{is_key_byte, key_len, key_number, key_of, key_text, IsKey}
+use Rattle.rp_base.proofs.KeyBytes.{AreLetters, worth, sum_worth, worth-padded, letters_of-worth, worth-order, AreLetters-whole}
+
+-- what stops short, or is empty, is no key
+pub key_of_err : (bs : List ℕ) → (key_len bs ≡ 0) ⊎ (key_len bs < length bs) → key_of bs ≡ Err (record { place = key_len bs })
+unfolding key_of
+key_of_err bs h = grind (arith, nat_tests)
+
+-- all else is one
+pub key_of_ok : (bs : List ℕ) → 0 < key_len bs → key_len bs ≡ length bs → key_of bs ≡ Ok (key_number bs)
+unfolding key_of
+key_of_ok bs some all = grind (arith, nat_tests)
+
+-- the same, as the code finds it
+pub key_of_bytes : (bs : List ℕ) (good n : ℕ) → good ≡ key_len bs → good ≢ 0 → length bs ≤ good → n ≡ from_be_bytes w128 (bs ++ replicate (16 - length bs) 0) → key_of bs ≡ Ok n
+unfolding key_number
+key_of_bytes bs good n e some all number =
+    let front : prefix_len is_key_byte bs ≤ length bs = prefix_len-le-length is_key_byte bs in
+    let whole : key_len bs ≡ length bs = omega arith in
+    key_of_ok bs (omega arith) whole ∙ ap Ok (sym number)
+
+-- the text spells a key with this number
+pub record Spells (bs : List ℕ) (n : ℕ) : Type 0 where
+  pub good : prefix_len is_key_byte bs ≡ length bs
+  pub some : 0 < length bs
+  pub short : length bs ≤ 16
+  pub number : n ≡ key_number bs
+
+pub Spells-from_ok : (bs : List ℕ) (n : ℕ) → key_of bs ≡ Ok n → Spells bs n
+Spells-from_ok bs n h = elim (cases_lt 0 (key_len bs)) [
+  | inl some ↦ elim (cases_lt (key_len bs) (length bs)) [
+    | inl stops ↦ absurd (let e = key_of_err bs (inr stops) in cc)
+    | inr all ↦
+        let front : prefix_len is_key_byte bs ≤ length bs = prefix_len-le-length is_key_byte bs in
+        let whole : key_len bs ≡ length bs = omega arith in
+        let e = key_of_ok bs some whole in
+        record { good = omega arith; some = omega arith; short = omega arith; number = cc }
+  ]
+  | inr none ↦ absurd (let zero : key_len bs ≡ 0 = omega arith in let e = key_of_err bs (inl zero) in cc)
+]
+
+pub key_byte_plain : (b : ℕ) → is_key_byte b ≡ true → b < 128
+key_byte_plain b h = grind (arith, nat_tests)
+
+pub key_byte_fits : (b : ℕ) → is_key_byte b ≡ true → (0 < b) × (b < 256)
+key_byte_fits b h = grind (arith, nat_tests)
+
+pub letters_of_key : (bs : List ℕ) (n : ℕ) → Spells bs n → AreLetters bs
+letters_of_key bs n s = AreLetters-whole is_key_byte key_byte_fits bs s.good
+
+pub key_number-worth : (bs : List ℕ) → length bs ≤ 16 → key_number bs ≡ worth 16 bs
+unfolding key_number
+key_number-worth bs short =
+    let whole : length (bs ++ replicate (16 - length bs) 0) ≡ 16 = omega (arith, length-append bs (replicate (16 - length bs) 0), length-replicate {A = ℕ} (16 - length bs) 0) in
+    sum_worth 15 (bs ++ replicate (16 - length bs) 0) whole ∙ worth-padded 16 (16 - length bs) bs
+
+-- what is read is so spelled
+pub spelled_as_read : (bs : List ℕ) (n : ℕ) → key_of bs ≡ Ok n → key_text n ≡ bs
+unfolding key_text
+spelled_as_read bs n h =
+    let s = Spells-from_ok bs n h in
+    let e : n ≡ worth 16 bs = s.number ∙ key_number-worth bs s.short in
+    rw e (letters_of-worth 16 bs (letters_of_key bs n s) s.short)
+
+-- each spelling is read
+pub read_as_spelled : (n : ℕ) → IsKey n → key_of (key_text n) ≡ Ok n
+read_as_spelled n (bs, h) = ap key_of (spelled_as_read bs n h) ∙ h
+
+-- the order of keys' numbers is that of their bytes
+pub order_of_bytes : (m n : ℕ) → IsKey m → IsKey n → nat_cmp m n ≡ slice_cmp nat_cmp (key_text m) (key_text n)
+order_of_bytes m n (xs, hm) (ys, hn) =
+    let s = Spells-from_ok xs m hm in
+    let t = Spells-from_ok ys n hn in
+    let em : m ≡ worth 16 xs = s.number ∙ key_number-worth xs s.short in
+    let en : n ≡ worth 16 ys = t.number ∙ key_number-worth ys t.short in
+    rw (spelled_as_read xs m hm, spelled_as_read ys n hn) (rw (em, en) (worth-order 16 xs ys (letters_of_key xs m s) (letters_of_key ys n t) s.short t.short))
+
+-- a spelling is plain text
+pub IsAscii-key : (bs : List ℕ) (n : ℕ) → Spells bs n → IsAscii bs
+IsAscii-key bs n s i = elim (cases_lt i (length bs)) [
+  | inl here ↦ (key_byte_plain (get_or bs i 0) (prefix_len_passes is_key_byte bs i 0 (omega (arith, s.good))))
+  | inr past ↦ rw (get_or_past bs i 0 past) (lit< tt)
+]
+
+pub IsUtf8-key_text : (n : ℕ) → IsKey n → IsUtf8 (key_text n)
+IsUtf8-key_text n (bs, h) = rw (spelled_as_read bs n h) (IsUtf8-from_ascii bs (IsAscii-key bs n (Spells-from_ok bs n h)))
+
+-- the same, as the code finds it
+pub IsUtf8-spelled : (n end : ℕ) (bytes : List ℕ) → IsKey n → bytes ≡ to_be_bytes w128 n → end ≡ position_or_len (λ b. b == 0) bytes → (take end bytes ≡ key_text n) × IsUtf8 (take end bytes)
+unfolding key_text
+IsUtf8-spelled n end bytes key is stops =
+    let e : take end bytes ≡ key_text n = rw (stops, is) in
+    (e, rw e (IsUtf8-key_text n key))
+
+-- two keys with one number are one key
+pub one_spelling : (xs ys : List ℕ) (n : ℕ) → key_of xs ≡ Ok n → key_of ys ≡ Ok n → xs ≡ ys
+one_spelling xs ys n hx hy = sym (spelled_as_read xs n hx) ∙ spelled_as_read ys n hy
