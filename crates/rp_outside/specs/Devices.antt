@@ -16,6 +16,11 @@ abbrev pub IsAtEnd : Option (List ℕ) → Type 0
 IsAtEnd (Some left) = left ≡ []
 IsAtEnd None = Unit {0}
 
+-- these bytes are all that was left, where that is told
+abbrev pub IsAll : Option (List ℕ) → List ℕ → Type 0
+IsAll (Some left) bytes = bytes ≡ left
+IsAll None bytes = Unit {0}
+
 -- these bytes were added, as far as it is told. What is no longer told stays untold
 abbrev pub Adds : Option (List ℕ) → List ℕ → Option (List ℕ) → Type 0
 Adds (Some old) bytes (Some new) = new ≡ old ++ bytes

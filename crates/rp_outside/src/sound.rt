@@ -1,5 +1,5 @@
-ghost use Rattle.std.specs.Prelude.{◌≡◌, ◌+◌, ◌-◌, ◌*◌, ◌<◌, ◌≤◌, Some, None, [], ◌++◌, length, take, drop, min, IfOk, OnOk, OnErr, option_map, if◌then◌else◌};
-ghost use Rattle.rp_outside.specs.Devices.{Rose, Comes, IsAtEnd, Adds};
+ghost use Rattle.std.specs.Prelude.{◌≡◌, ◌+◌, ◌-◌, ◌*◌, ◌<◌, ◌≤◌, Some, None, [], ◌++◌, length, take, drop, min, IfOk, IsOkAnd, OnOk, OnErr, option_map, if◌then◌else◌};
+ghost use Rattle.rp_outside.specs.Forms.{Reads, held_with};
 
 use crate::devices::{Failed, Sink, Source};
 use crate::tapes::Tape;
@@ -36,6 +36,13 @@ impl SoundSource {
             piece,
         }
     }
+
+    /// The bytes still to come.
+    pub fn left(&self) -> &[u8]
+        ensures { result.now ≡ self.now.left }
+    {
+        self.tape.left()
+    }
 }
 
 impl Source for SoundSource {
@@ -43,7 +50,13 @@ impl Source for SoundSource {
 
     ghost faults = { λ _. 0 };
 
-    fn read(&mut self, buf: &mut [u8]) -> Result<usize, Failed> {
+    fn read(&mut self, buf: &mut [u8]) -> Result<usize, Failed>
+        // It never fails.
+        ensures reads { IsOkAnd result (λ n. Reads self.old buf.old n buf.new self.new) }
+        ensures within { IfOk result (λ n. n ≤ length buf.new) }
+        ensures comes { IfOk result (λ n. self.old.left ≡ take n buf.new ++ self.new.left) }
+        ensures end { IfOk result (λ n. n ≡ 0 → 0 < length buf.new → self.new.left ≡ []) }
+    {
         Ok(self.tape.give(self.piece, buf))
     }
 }
@@ -109,9 +122,16 @@ impl Sink for SoundSink {
 
     ghost faults = { λ _. 0 };
 
-    fn write(&mut self, piece: &[u8]) -> Result<usize, Failed> {
+    fn write(&mut self, piece: &[u8]) -> Result<usize, Failed>
+        // It never fails.
+        ensures count { result ≡ Ok (min self.old.piece (length piece.now)) }
+        ensures some { IfOk result (λ n. 0 < length piece.now → 0 < n) }
+        ensures held { self.new.held ≡ held_with self.old (take self.old.piece piece.now) }
+        ensures room { self.old.spare ≤ self.new.spare + min self.old.piece (length piece.now) }
+        ensures piece { self.new.piece ≡ self.old.piece }
+    {
         let n = self.piece.min(piece.len());
-        if n <= self.bytes.spare() {
+        if self.whole && n <= self.bytes.spare() {
             self.bytes.append_slice(&piece[..n]);
         } else {
             self.whole = false;

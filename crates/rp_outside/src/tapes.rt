@@ -27,6 +27,12 @@ impl Tape {
         Tape { bytes, at: 0 }
     }
 
+    pub(crate) fn left(&self) -> &[u8]
+        ensures { result.now ≡ self.now }
+    {
+        &self.bytes.as_slice()[self.at..]
+    }
+
     /// Puts the next bytes in the front of the buffer, as many as are left and fit, at most `piece`.
     pub(crate) fn give(&mut self, piece: usize, buf: &mut [u8]) -> usize
         ensures count { result ≡ min piece (min (length buf.old) (length self.old)) }
