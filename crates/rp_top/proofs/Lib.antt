@@ -1,0 +1,3 @@
+pub mod NextWord
+pub mod ReadsLines
+pub mod ReadsSource

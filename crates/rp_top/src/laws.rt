@@ -1,0 +1,10 @@
+//! Laws about the definitions that the calls' contracts cite. Each is the clause of an empty function.
+
+ghost use Rattle.rp_top.specs.Reading.{ReadsMeaning};
+
+/// To read a script byte after byte, as the reader does, gives its meaning, which is said line by line.
+#[tactic(auto, using(crate::proofs::ReadsLines::reads_meaning))]
+pub fn reads_meaning()
+    ensures { ReadsMeaning }
+{
+}

@@ -1,0 +1,5 @@
+//! The calls of the program: from words and bytes to bytes and a status.
+#![tactic(auto)]
+
+pub mod laws;
+mod script;

@@ -1,0 +1,8 @@
+//! The meaning of a script's bytes.
+
+mod faults;
+mod lines;
+mod reader;
+mod source;
+mod stops;
+mod words;
