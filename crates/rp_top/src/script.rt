@@ -1,5 +1,6 @@
 //! The meaning of a script's bytes.
 
+mod clients;
 mod faults;
 mod lines;
 mod reader;

@@ -4,6 +4,7 @@ ghost use Rattle.rp_base.specs.Numbers.{u64_of};
 ghost use Rattle.rp_top.specs.Words.{words_of};
 ghost use Rattle.rp_top.specs.Lines.{keyword_of, is_number, is_single, is_first_range, put_of, group_of, line_of};
 
+use super::clients::Client;
 use super::words::Words;
 use rp_base::{Key, read_u64};
 
@@ -11,8 +12,7 @@ use rp_base::{Key, read_u64};
 /// is flushed and applied at once.
 #[derive(Clone, Copy, Debug, PartialEq, Eq)]
 pub struct Group {
-    /// 1 to 64.
-    pub client: u16,
+    pub client: Client,
     pub key: Key,
     pub value: u64,
 }
@@ -103,14 +103,8 @@ fn put_of(client: &[u8], key: &[u8], value: &[u8]) -> Option<Group>
     let Ok(value) = read_u64(value) else {
         return None;
     };
-    if client < 1 || 64 < client {
-        return None;
-    }
-    Some(Group {
-        client: client as u16,
-        key,
-        value,
-    })
+    let client = Client::new(client)?;
+    Some(Group { client, key, value })
 }
 
 /// The group that the words behind `send` begin.
