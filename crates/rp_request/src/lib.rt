@@ -1,0 +1,13 @@
+//! Requests and what they do: their types, replies and refusals, commands, payloads, and the
+//! items that a range's replicas apply.
+#![tactic(auto)]
+
+mod commands;
+mod items;
+mod outcomes;
+mod requests;
+
+pub use commands::{Batch, Command, Op, Payload, Waiting};
+pub use items::{Place, Record, Why};
+pub use outcomes::{Ambiguity, End, Outcome, Refusal, Reply};
+pub use requests::{Request, RequestList};
