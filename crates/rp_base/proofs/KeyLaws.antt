@@ -1,5 +1,5 @@
 -- Keys: what is read is what is spelled.
-use Rattle.std.proofs.Common.{◌≡◌, ℕ, ◌-◌, ◌<◌, ◌≤◌, ◌≢◌, ◌⊎◌, inl, inr, true, List, ◌++◌, length, replicate, take, get_or, lit<, Ok, Err, sym, ap, ◌∙◌, arith, length-append}
+use Rattle.std.proofs.Common.{◌≡◌, ℕ, ◌-◌, ◌^◌, ◌<◌, ◌≤◌, ◌≢◌, ◌⊎◌, inl, inr, true, List, [], ◌∷◌, refl, ◌++◌, length, replicate, take, get_or, lit<, Ok, Err, sym, ap, ◌∙◌, arith, length-append}
 use Rattle.std.specs.Bool.{◌==◌}
 use Rattle.std.specs.Int.{w128, from_be_bytes, to_be_bytes}
 use Rattle.std.specs.Str.{IsAscii, IsUtf8}
@@ -12,7 +12,7 @@ use Rattle.std.proofs.lemmas.Bool.{cases_lt}
 use Rattle.std.proofs.lemmas.List.{length-replicate, get_or_past}
 use Rattle.std.proofs.lemmas.List.Sums.{prefix_len-le-length, prefix_len_passes}
 use Rattle.rp_base.specs.Keys.{is_key_byte, key_len, key_number, key_of, key_text, IsKey}
-use Rattle.rp_base.proofs.KeyBytes.{AreLetters, worth, sum_worth, worth-padded, letters_of-worth, worth-order, AreLetters-whole}
+use Rattle.rp_base.proofs.KeyBytes.{AreLetters, worth, sum_worth, worth-padded, letters_of-worth, worth-order, AreLetters-whole, passes_whole, worth-lt}
 
 -- what stops short, or is empty, is no key
 pub key_of_err : (bs : List ℕ) → (key_len bs ≡ 0) ⊎ (key_len bs < length bs) → key_of bs ≡ Err (record { place = key_len bs })
@@ -67,6 +67,14 @@ key_number-worth bs short =
     let whole : length (bs ++ replicate (16 - length bs) 0) ≡ 16 = omega (arith, length-append bs (replicate (16 - length bs) 0), length-replicate {A = ℕ} (16 - length bs) 0) in
     sum_worth 15 (bs ++ replicate (16 - length bs) 0) whole ∙ worth-padded 16 (16 - length bs) bs
 
+pub worth_inside : (bs : List ℕ) → 0 < length bs → prefix_len is_key_byte bs ≡ length bs → AreLetters bs → (0 < worth 16 bs) × (worth 16 bs < 2 ^ 128 - 1)
+worth_inside [] some good letters = absurd (omega arith)
+worth_inside (b ∷ bs) some good letters =
+    let low : b < 128 = key_byte_plain b (passes_whole is_key_byte b bs (is_key_byte b) refl good).0 in
+    let rest : worth 15 bs < 256 ^ 15 = worth-lt 15 bs letters.2 in
+    let first : 0 < b = letters.0 in
+    (omega arith, omega arith)
+
 -- what is read is so spelled
 pub spelled_as_read : (bs : List ℕ) (n : ℕ) → key_of bs ≡ Ok n → key_text n ≡ bs
 unfolding key_text
@@ -108,3 +116,10 @@ IsUtf8-spelled n end bytes key is stops =
 -- two keys with one number are one key
 pub one_spelling : (xs ys : List ℕ) (n : ℕ) → key_of xs ≡ Ok n → key_of ys ≡ Ok n → xs ≡ ys
 one_spelling xs ys n hx hy = sym (spelled_as_read xs n hx) ∙ spelled_as_read ys n hy
+
+-- a key's number is neither the least bound nor the greatest
+pub key_inside : (n : ℕ) → IsKey n → (0 < n) × (n < 2 ^ 128 - 1)
+key_inside n (bs, h) =
+    let s = Spells-from_ok bs n h in
+    let e : n ≡ worth 16 bs = s.number ∙ key_number-worth bs s.short in
+    rw e (worth_inside bs s.some s.good (letters_of_key bs n s))

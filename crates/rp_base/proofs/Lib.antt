@@ -1,3 +1,6 @@
 pub mod KeyBytes
 pub mod KeyLaws
+pub mod LeaseLaws
 pub mod NumberLaws
+pub mod SpanLaws
+pub mod SplitLaws

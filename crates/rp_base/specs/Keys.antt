@@ -1,5 +1,5 @@
 -- How keys are spelled, and the numbers that stand for them.
-use Rattle.std.specs.Prelude.{◌≡◌, ℕ, ◌-◌, ◌^◌, min, Bool, ◌&&◌, ◌||◌, ◌==◌, nat_lt, if◌then◌else◌, ◌⊎◌, List, [], ◌∷◌, ◌++◌, length, replicate, Result, Ok, Err}
+use Rattle.std.specs.Prelude.{◌≡◌, ℕ, ◌-◌, ◌^◌, min, Bool, ◌&&◌, ◌||◌, ◌==◌, nat_lt, if◌then◌else◌, ◌⊎◌, List, [], ◌∷◌, ◌++◌, length, replicate, Option, None, Some, Result, Ok, Err}
 use Rattle.std.specs.Char.{is_ascii_lowercase, is_ascii_digit}
 use Rattle.std.specs.Int.{w128, to_be_bytes, from_be_bytes}
 use Rattle.std.specs.List.{prefix_len, before_first}
@@ -38,3 +38,8 @@ IsShown n = (n ≡ 0) ⊎ (n ≡ 2 ^ 128 - 1) ⊎ IsKey n
 -- how a bound is shown: `^` for the least, `~` for the greatest, else as a key
 abbrev pub bound_text : ℕ → List ℕ
 bound_text n = if n == 0 then 94 ∷ [] else (if n == 2 ^ 128 - 1 then 126 ∷ [] else key_text n)
+
+-- the end of a span of keys: a key's number, or the greatest bound where none is given
+abbrev pub end_of : Option ℕ → ℕ
+end_of None = 2 ^ 128 - 1
+end_of (Some key) = key

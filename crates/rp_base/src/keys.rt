@@ -1,4 +1,4 @@
-ghost use Rattle.std.specs.Prelude.{◌≡◌, ◌-◌, ◌≤◌, ◌==◌, ◌++◌, length, replicate, OnOk, OnErr};
+ghost use Rattle.std.specs.Prelude.{◌≡◌, ◌-◌, ◌^◌, ◌<◌, ◌≤◌, ◌==◌, ◌++◌, length, replicate, OnOk, OnErr};
 ghost use Rattle.std.specs.List.{prefix_len, position_or_len};
 ghost use Rattle.rp_base.specs.Keys.{is_key_byte, key_of, key_text, IsKey, IsShown, bound_text};
 
@@ -66,10 +66,12 @@ impl Key {
         Ok(Key(u128::from_be_bytes(in_front(text))))
     }
 
-    /// The key's number.
+    /// The key's number. It is neither the least bound nor the greatest.
     pub fn bound(self) -> u128
         ensures value { result ≡ self }
         ensures key { IsKey result }
+        ensures above { 0 < result }
+        ensures below { result < 2 ^ 128 - 1 }
     {
         self.0
     }

@@ -1,10 +1,17 @@
 //! Laws of the definitions, for the proofs above. No program calls these functions.
-ghost use Rattle.std.specs.Prelude.{◌≡◌, ℕ, ◌^◌, ◌<◌, List, Ok};
+ghost use Rattle.std.specs.Prelude.{◌≡◌, ◌≢◌, ℕ, ◌+◌, ◌^◌, ◌<◌, ◌≤◌, ◌↔◌, ◌⊎◌, IsTrue, List, Some, Ok};
 ghost use Rattle.std.specs.Fmt.{decimal};
 ghost use Rattle.std.specs.Ordering.{nat_cmp};
 ghost use Rattle.std.specs.Cmp.Lexicographic.{slice_cmp};
 ghost use Rattle.rp_base.specs.Keys.{key_of, key_text, IsKey};
 ghost use Rattle.rp_base.specs.Numbers.{u64_of};
+ghost use Rattle.rp_base.specs.Spans.{Holds, Overlaps, meets, LiesWithin, within, one_key};
+ghost use Rattle.rp_base.specs.Splits.{InBounds, split_of, ComesFrom};
+ghost use Rattle.rp_base.specs.Leases.{lease_after};
+ghost use Rattle.rp_base.specs.declared.spans.Span.{Span};
+ghost use Rattle.rp_base.specs.declared.ranges.Desc.{Desc};
+ghost use Rattle.rp_base.specs.declared.leases.Lease.{Lease};
+ghost use Rattle.rp_base.specs.declared.leases.LeaseAsk.{LeaseAsk};
 
 /// A key that is read is so spelled.
 #[tactic(auto, using(crate::proofs::KeyLaws::spelled_as_read))]
@@ -34,4 +41,60 @@ pub fn keys_in_order_of_bytes()
 #[tactic(auto, using(crate::proofs::NumberLaws::read_as_written))]
 pub fn number_read_as_written()
     ensures { (n : ℕ) → n < 2 ^ 64 → u64_of (decimal n) ≡ Ok n }
+{}
+
+/// The test says whether two spans share a number.
+#[tactic(auto, using(crate::proofs::SpanLaws::meets_overlaps))]
+pub fn spans_meet_where_they_share()
+    ensures { (s : Span) (t : Span) → IsTrue (meets s t) ↔ Overlaps s t }
+{}
+
+/// The test says whether all numbers of a span lie within bounds.
+#[tactic(auto, using(crate::proofs::SpanLaws::within_lies))]
+pub fn spans_lie_within()
+    ensures { (s : Span) (start : ℕ) (end : ℕ) → IsTrue (within s start end) ↔ LiesWithin s start end }
+{}
+
+/// A key's span has the key's number and no other.
+#[tactic(auto, using(crate::proofs::SpanLaws::one_key_holds))]
+pub fn one_key_alone()
+    ensures { (key : ℕ) (n : ℕ) → Holds (one_key key) n ↔ (n ≡ key) }
+{}
+
+/// The two parts of a split have no number in common.
+#[tactic(auto, using(crate::proofs::SplitLaws::parts_apart))]
+pub fn parts_meet_nowhere()
+    ensures { (d : Desc) (key : ℕ) (left : Desc) (right : Desc) → split_of d key ≡ Ok (left, right) → (n : ℕ) → InBounds left n → ¬ (InBounds right n) }
+{}
+
+/// The two parts of a split have together the numbers of the whole.
+#[tactic(auto, using(crate::proofs::SplitLaws::parts_together))]
+pub fn parts_are_the_whole()
+    ensures { (d : Desc) (key : ℕ) (left : Desc) (right : Desc) → split_of d key ≡ Ok (left, right) → InBounds d key → (n : ℕ) → InBounds d n ↔ (InBounds left n ⊎ InBounds right n) }
+{}
+
+/// The right part's id is the left one's plus 2 to the level before the split.
+#[tactic(auto, using(crate::proofs::SplitLaws::right_id))]
+pub fn right_id_above_left()
+    ensures { (d : Desc) (key : ℕ) (left : Desc) (right : Desc) → split_of d key ≡ Ok (left, right) → right.id ≡ left.id + 2 ^ d.level }
+{}
+
+/// Whatever splits follow, the ranges that come from the two parts have different ids.
+#[tactic(auto, using(crate::proofs::SplitLaws::ids_apart))]
+pub fn range_ids_differ()
+    ensures { (d : Desc) (key : ℕ) (left : Desc) (right : Desc) (a : Desc) (b : Desc) → split_of d key ≡ Ok (left, right) → ComesFrom left a → ComesFrom right b → a.id ≢ b.id }
+{}
+
+/// A lease's sequence never falls.
+#[tactic(auto, using(crate::proofs::LeaseLaws::lease_seq_rises))]
+pub fn lease_seq_never_falls()
+    ensures { (old : Lease) (ask : LeaseAsk) (new : Lease) → lease_after old ask ≡ Some new → old.seq ≤ new.seq }
+{}
+
+/// Either holder and sequence stay and the expiry does not fall, or the holder is another and the
+/// sequence rises by one.
+#[tactic(auto, using(crate::proofs::LeaseLaws::lease_follows))]
+pub fn lease_stays_or_moves()
+    ensures { (old : Lease) (ask : LeaseAsk) (new : Lease) → lease_after old ask ≡ Some new
+        → ((new.holder ≡ old.holder) × (new.seq ≡ old.seq) × (old.expires ≤ new.expires)) ⊎ ((new.holder ≢ old.holder) × (new.seq ≡ old.seq + 1)) }
 {}

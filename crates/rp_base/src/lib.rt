@@ -11,6 +11,7 @@ mod lists;
 mod memory;
 mod numbers;
 mod ranges;
+mod spans;
 mod texts;
 
 pub use ids::{CmdId, NodeId, RangeId};
@@ -21,5 +22,6 @@ pub use limits::Which;
 pub use lists::{Bytes, Calls, Grown, Seq};
 pub use memory::NoMemory;
 pub use numbers::{NumberFault, read_u64};
-pub use ranges::Desc;
+pub use ranges::{Desc, SplitFault};
+pub use spans::{KeySpan, Span, Spans};
 pub use texts::{Text, push_number, push_word};

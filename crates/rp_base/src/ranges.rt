@@ -13,3 +13,12 @@ pub struct Desc {
     pub ghost level_to_three: { level ≤ 3 },
     pub ghost id_of_level: { id < 2 ^ level },
 }
+
+/// Why a range is not split.
+#[derive(Clone, Copy, Debug, PartialEq, Eq, Hash)]
+pub enum SplitFault {
+    /// The key is the range's start.
+    NotInside,
+    /// The range has been split three times.
+    SplitLimit { level: u8 },
+}
