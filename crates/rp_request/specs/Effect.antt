@@ -1,11 +1,14 @@
 -- The effect of a request: what it makes of a table and of a range's description, and what it
 -- answers; or why it is refused, which changes nothing. Of two refusals that would both hold, the
 -- one that is tested first is named.
-use Rattle.std.specs.Prelude.{ℕ, ◌+◌, ◌-◌, ◌^◌, ◌==◌, nat_eq, nat_lt, if◌then◌else◌, Option, unwrap_or, Result, Ok, Err}
+use Rattle.std.specs.Prelude.{ℕ, ◌+◌, ◌-◌, ◌==◌, nat_eq, nat_lt, if◌then◌else◌, Option, Result, Ok, Err}
 use Rattle.std.specs.Option.{option_eq}
 use Rattle.std.specs.FinMap.{get, insert, remove}
-use Rattle.rp_base.specs.declared.Desc.{Desc}
-use Rattle.rp_base.specs.declared.KeySpan.{KeySpan}
+use Rattle.rp_base.specs.Keys.{end_of}
+use Rattle.rp_base.specs.Splits.{split_of}
+use Rattle.rp_base.specs.declared.ranges.Desc.{Desc}
+use Rattle.rp_base.specs.declared.ranges.SplitFault.{SplitFault}
+use Rattle.rp_base.specs.declared.ranges.SplitFault.TheVariants as faults
 use Rattle.rp_request.specs.declared.requests.Request.{Request}
 use Rattle.rp_request.specs.declared.requests.Request.TheVariants.{Put, Add, CPut, Del, Wipe, Move, Split}
 use Rattle.rp_request.specs.declared.outcomes.Reply.{Reply}
@@ -13,7 +16,6 @@ use Rattle.rp_request.specs.declared.outcomes.Reply.TheVariants.{Old, Now, Set, 
 use Rattle.rp_request.specs.declared.outcomes.Refusal.{Refusal}
 use Rattle.rp_request.specs.declared.outcomes.Refusal.TheVariants.{ConditionFailed, Overflow, Short, TooWide, NotInside, SplitLimit}
 use Rattle.rp_request.specs.Table.{Table, greatest, value_at, count_in, without, below}
-use Rattle.rp_request.specs.Halves.{left_of, right_id}
 
 -- what a request leaves, and the reply
 pub record Effect : Type 0 where
@@ -24,10 +26,6 @@ pub record Effect : Type 0 where
 -- the table changes and the description stays
 abbrev pub writes : Table → Desc → Reply → Result Effect Refusal
 writes t d reply = Ok (record { table = t; desc = d; reply = reply })
-
--- where a span of keys ends
-abbrev pub end_of : KeySpan → ℕ
-end_of span = unwrap_or span.end (2 ^ 128 - 1)
 
 -- the key's value rises by so much
 abbrev pub add : Table → Desc → ℕ → ℕ → Result Effect Refusal
@@ -61,19 +59,17 @@ move t d from to by = if nat_lt (value_at t from) by
     then writes (insert t from (value_at t from)) d (Now (value_at t from))
     else pass_on t d from to by)
 
--- the keys from this one on leave for a range of their own
-abbrev pub split : Table → Desc → ℕ → Result Effect Refusal
-split t d key = if key == d.start
-    then Err NotInside
-    else (if d.level == 3
-    then Err (SplitLimit d.level)
-    else Ok (record { table = below t key; desc = left_of d key; reply = Range (right_id d) }))
+-- the keys from this one on leave for a range of their own, whose number is the reply
+abbrev pub split : Table → ℕ → Result (Desc × Desc) SplitFault → Result Effect Refusal
+split t key (Ok parts) = Ok (record { table = below t key; desc = parts.0; reply = Range parts.1.id })
+split t key (Err faults.NotInside) = Err NotInside
+split t key (Err (faults.SplitLimit level)) = Err (SplitLimit level)
 
 abbrev pub effect : Table → Desc → Request → Result Effect Refusal
 effect t d (Put key value) = writes (insert t key value) d (Old (get t key))
 effect t d (Add key by) = add t d key by
 effect t d (CPut key expect value) = put_if t d key expect value
 effect t d (Del key) = writes (remove t key) d (Old (get t key))
-effect t d (Wipe span) = wipe t d span.start (end_of span)
+effect t d (Wipe span) = wipe t d span.start (end_of span.end)
 effect t d (Move from to by) = move t d from to by
-effect t d (Split key) = split t d key
+effect t d (Split key) = split t key (split_of d key)

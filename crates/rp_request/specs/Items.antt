@@ -1,7 +1,7 @@
 -- What a range's applied items make of a state: its table, its description and its lease.
 use Rattle.std.specs.Prelude.{List, [], ◌∷◌, Option, Some, None, option_and_then, Result, Ok, Err}
-use Rattle.rp_base.specs.declared.Desc.{Desc}
-use Rattle.rp_base.specs.declared.Lease as lease_type
+use Rattle.rp_base.specs.declared.ranges.Desc.{Desc}
+use Rattle.rp_base.specs.declared.leases.Lease as lease_type
 use Rattle.rp_request.specs.declared.requests.Request.{Request}
 use Rattle.rp_request.specs.declared.requests.Request.TheVariants as requests
 use Rattle.rp_request.specs.declared.outcomes.Refusal.{Refusal}

@@ -1,5 +1,5 @@
 pub mod Table
-pub mod Halves
+pub mod Covers
 pub mod Effect
 pub mod Items
 pub mod Places

@@ -1,7 +1,7 @@
 -- Places of a command: the applied items that name it, by client and by the command's number among
 -- the client's, whichever attempt they name.
 use Rattle.std.specs.Prelude.{ℕ, ◌≤◌, Bool, false, ◌==◌, ◌&&◌, List, count_by, sum_by}
-use Rattle.rp_base.specs.declared.CmdId.{CmdId}
+use Rattle.rp_base.specs.declared.ids.CmdId.{CmdId}
 use Rattle.rp_request.specs.declared.items.Place.{Place}
 use Rattle.rp_request.specs.declared.items.Place.TheVariants.{Write, Split, Lease}
 

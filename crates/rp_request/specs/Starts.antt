@@ -1,23 +1,14 @@
 -- From which state a range starts, by the applied lists of all ranges.
-use Rattle.std.specs.Prelude.{◌≡◌, ℕ, ◌-◌, ◌<◌, ◌^◌, nat_le, if◌then◌else◌, List, ◌∷◌, ◌++◌, Some}
-use Rattle.std.proofs.Common.{lit≤, lit<}
+use Rattle.std.specs.Prelude.{◌≡◌, ℕ, ◌-◌, ◌<◌, nat_le, if◌then◌else◌, List, ◌∷◌, ◌++◌, Some, Ok}
 use Rattle.std.specs.FinMap.{empty}
-use Rattle.rp_base.specs.declared.CmdId.{CmdId}
-use Rattle.rp_base.specs.declared.Desc.{Desc}
-use Rattle.rp_base.specs.declared.Lease.{Lease}
+use Rattle.rp_base.specs.declared.ids.CmdId.{CmdId}
+use Rattle.rp_base.specs.declared.ranges.Desc.{Desc}
+use Rattle.rp_base.specs.Leases.{first_lease}
+use Rattle.rp_base.specs.Splits.{first_desc, split_of}
 use Rattle.rp_request.specs.declared.items.Place.{Place}
 use Rattle.rp_request.specs.declared.items.Place.TheVariants.{Split}
 use Rattle.rp_request.specs.Table.{from_on}
-use Rattle.rp_request.specs.Halves.{IsRightOf}
 use Rattle.rp_request.specs.Items.{State, fold}
-
--- range 0 before any split: all keys
-abbrev pub first_desc : Desc
-first_desc = record { id = 0; level = 0; start = 0; end = 2 ^ 128 - 1; level_to_three = lit≤ tt; id_of_level = lit< tt }
-
--- lease 1, of node 1, up to tick 40
-abbrev pub first_lease : Lease
-first_lease = record { holder = 1; seq = 1; expires = 40 }
 
 -- range 0 starts with no key
 abbrev pub first_state : State
@@ -30,8 +21,9 @@ left_range r = if nat_le 4 r then r - 4 else (if nat_le 2 r then r - 2 else r - 
 
 -- the state of the range from the key on, where a range in this state splits
 pub record IsRightStart (s : State) (key : ℕ) (right : State) : Type 0 where
+  pub left : Desc
+  pub desc : split_of s.desc key ≡ Ok (left, right.desc)
   pub table : right.table ≡ from_on s.table key
-  pub desc : IsRightOf s.desc key right.desc
   pub lease : right.lease ≡ s.lease
 
 -- these items, from this state on, split range r off, which starts from that state

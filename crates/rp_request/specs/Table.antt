@@ -1,7 +1,8 @@
 -- Tables: what a range holds, as a finite map from the numbers of keys to values.
 use Rattle.std.specs.Prelude.{ℕ, ◌^◌, ◌-◌, Bool, nat_lt, nat_le, ◌&&◌, not, unwrap_or}
 use Rattle.std.specs.Ordering.{nat_cmp}
-use Rattle.std.specs.FinMap.{FinMap, get, len, retain_keys}
+use Rattle.std.specs.Coded.{Coded, coded_ℕ}
+use Rattle.std.specs.FinMap.{FinMap, code, get, len, retain_keys}
 
 abbrev pub Table : Type 0
 Table = FinMap {K = ℕ} nat_cmp ℕ
@@ -37,3 +38,6 @@ below t key = retain_keys t (λ k. nat_lt k key)
 -- the part of a table from the key on
 abbrev pub from_on : Table → ℕ → Table
 from_on t key = retain_keys t (λ k. nat_le key k)
+
+abbrev pub table_code : Coded Table
+table_code = code coded_ℕ coded_ℕ

@@ -4,10 +4,12 @@
 
 mod commands;
 mod items;
+mod notes;
 mod outcomes;
 mod requests;
 
 pub use commands::{Batch, Command, Op, Payload, Waiting};
 pub use items::{Place, Record, Why};
+pub use notes::{Answer, Note, Notes, Replies};
 pub use outcomes::{Ambiguity, End, Outcome, Refusal, Reply};
 pub use requests::{Request, RequestList};
