@@ -1,0 +1,96 @@
+ghost use Rattle.std.specs.Prelude.{◌≡◌, ◌≤◌, ◌<◌, [], ◌∷◌, ◌++◌, length, IfOk, OnOk, OnErr};
+
+use crate::outcomes::Reply;
+use crate::requests::Request;
+use rp_base::{CmdId, Key, LeaseAsk, LeaseIndex, LeaseSeq, NoMemory};
+use std::alloc::Global;
+use std::marker::Model;
+
+/// One write to a table.
+#[derive(Clone, Copy, Debug, PartialEq, Eq)]
+pub enum Op {
+    /// The key gets the value.
+    Set { key: Key, value: u64 },
+    /// The key is taken away.
+    Remove { key: Key },
+}
+
+/// The writes of one request, in order, at most 16. Contracts see the list.
+#[derive(Drop)]
+pub struct Batch {
+    ops: Vec<Op>,
+}
+
+impl Model for Batch {
+    ghost use Rattle.std.specs.Prelude.{◌≤◌, List, length};
+    ghost use Rattle.rp_request.specs.declared.commands.Op.{Op};
+
+    ghost Value = { List Op };
+
+    ghost view = { λ b. b.ops.items };
+
+    ghost invariant = { λ b. length b.ops.items ≤ 16 };
+}
+
+impl Batch {
+    /// No writes. It takes no memory.
+    pub fn new(alloc: Global) -> Batch
+        ensures { result ≡ [] }
+    {
+        Batch {
+            ops: Vec::new(alloc),
+        }
+    }
+
+    /// Puts a write at the end.
+    pub fn push(&mut self, op: Op) -> Result<(), NoMemory>
+        requires { length self.old < 16 }
+        ensures ok { OnOk result (self.new ≡ self.old ++ op ∷ []) }
+        ensures err { OnErr result (self.new ≡ self.old) }
+    {
+        self.ops.push(op)?;
+        Ok(())
+    }
+
+    pub fn copy(&self) -> Result<Batch, NoMemory>
+        ensures { IfOk result (λ b. b ≡ self.now) }
+    {
+        let ops = Vec::from_slice(*self.ops.allocator(), &self.ops)?;
+        Ok(Batch { ops })
+    }
+
+    pub fn as_slice(&self) -> &[Op]
+        ensures ops { result.now ≡ self.now }
+        ensures most { length result.now ≤ 16 }
+    {
+        &self.ops
+    }
+}
+
+/// A request that was evaluated: the writes that replicas are to make, and the reply.
+#[derive(Drop)]
+pub struct Command {
+    pub id: CmdId,
+    pub request: Request,
+    pub batch: Batch,
+    pub reply: Reply,
+    /// The lease sequence under which it was evaluated.
+    pub seq: LeaseSeq,
+    /// It takes effect only where the lease applied index is below this.
+    pub max: LeaseIndex,
+}
+
+/// What an entry of a range's log carries.
+#[derive(Drop)]
+pub enum Payload {
+    Nothing,
+    Write(Command),
+    Lease(LeaseAsk),
+}
+
+/// A command that waits for a lease index, and the lease sequence under which it was evaluated.
+#[derive(Clone, Copy, Debug, PartialEq, Eq)]
+pub struct Waiting {
+    pub id: CmdId,
+    pub seq: LeaseSeq,
+}

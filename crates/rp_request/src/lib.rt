@@ -1,0 +1,15 @@
+//! Requests and what they do: their types, replies and refusals, commands, payloads, and the
+//! items that a range's replicas apply.
+#![tactic(auto)]
+
+mod commands;
+mod items;
+mod notes;
+mod outcomes;
+mod requests;
+
+pub use commands::{Batch, Command, Op, Payload, Waiting};
+pub use items::{Place, Record, Why};
+pub use notes::{Answer, Note, Notes, Replies};
+pub use outcomes::{Ambiguity, End, Outcome, Refusal, Reply};
+pub use requests::{Request, RequestList};
