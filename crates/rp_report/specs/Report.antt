@@ -2,11 +2,12 @@
 use Rattle.std.specs.Prelude.{ℕ, ◌+◌, List, [], ◌∷◌, ◌++◌, flat_map, codes}
 use Rattle.std.specs.Fmt.{decimal}
 use Rattle.rp_base.specs.Keys.{key_text}
+use Rattle.rp_base.specs.declared.CmdId.{CmdId}
 use Rattle.rp_base.specs.declared.Desc.{Desc}
 use Rattle.rp_base.specs.declared.Lease.{Lease}
 use Rattle.rp_request.specs.declared.items.Record.{Record}
-use Rattle.rp_report.specs.declared.views.Note.{Note}
-use Rattle.rp_report.specs.declared.views.ReplyLine.{ReplyLine}
+use Rattle.rp_request.specs.declared.notes.Note.{Note}
+use Rattle.rp_request.specs.declared.notes.Answer.{Answer}
 use Rattle.rp_report.specs.declared.views.Row.{Row}
 use Rattle.rp_report.specs.declared.views.ReplicaView.{ReplicaView}
 use Rattle.rp_report.specs.declared.views.ReplicaView.TheVariants.{Live, Removed, Absent}
@@ -19,8 +20,12 @@ use Rattle.rp_report.specs.Outcomes.{end_text}
 abbrev pub note_line : Note → List ℕ
 note_line note = codes "note" ++ spaced note.line ++ codes " " ++ note.text ++ newline
 
-abbrev pub reply_line : ReplyLine → List ℕ
-reply_line reply = codes "reply " ++ attempt_text reply.id ++ codes " " ++ end_text reply.end ++ newline
+-- the attempt that an answer names
+abbrev pub attempt_of : Answer → CmdId
+attempt_of answer = record { client = answer.client; seq = answer.seq; attempt = answer.attempt }
+
+abbrev pub answer_line : Answer → List ℕ
+answer_line answer = codes "reply " ++ attempt_text (attempt_of answer) ++ codes " " ++ end_text answer.end ++ newline
 
 -- a range's number and its bounds
 abbrev pub bounds_text : Desc → List ℕ
@@ -62,5 +67,5 @@ range_lines range = range_line range.desc range.lease ++ record_lines range.firs
 -- the whole report
 abbrev pub report : View → List ℕ
 report view = codes "nodes" ++ spaced view.nodes ++ newline
-    ++ flat_map note_line view.notes ++ flat_map reply_line view.replies ++ flat_map range_lines view.ranges
+    ++ flat_map note_line view.notes ++ flat_map answer_line view.replies ++ flat_map range_lines view.ranges
     ++ codes "end" ++ newline

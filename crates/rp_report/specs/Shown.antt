@@ -8,7 +8,7 @@ use Rattle.rp_request.specs.declared.outcomes.Outcome.{Outcome}
 use Rattle.rp_request.specs.declared.outcomes.Outcome.TheVariants.{Refused}
 use Rattle.rp_request.specs.declared.outcomes.End.{End}
 use Rattle.rp_request.specs.declared.outcomes.End.TheVariants as ends
-use Rattle.rp_report.specs.declared.views.ReplyLine.{ReplyLine}
+use Rattle.rp_request.specs.declared.notes.Answer.{Answer}
 use Rattle.rp_report.specs.declared.views.RangeView.{RangeView}
 use Rattle.rp_report.specs.declared.views.View.{View}
 
@@ -28,8 +28,8 @@ IsShownEnd (ends.Outcome outcome) = IsShownOutcome outcome
 IsShownEnd (ends.Tries last) = IsShownRefusal last
 IsShownEnd ends.Unsent = Unit {0}
 
-abbrev pub IsShownReply : ReplyLine → Type 0
-IsShownReply reply = IsShownEnd reply.end
+abbrev pub IsShownAnswer : Answer → Type 0
+IsShownAnswer answer = IsShownEnd answer.end
 
 abbrev pub IsShownRange : RangeView → Type 0
 IsShownRange range = IsShownDesc range.desc
@@ -40,6 +40,6 @@ IndexesFit range = range.first + length range.records < 2 ^ 64
 
 -- all bounds and indexes of a view can be shown
 pub record IsShownView (view : View) : Type 0 where
-  pub replies : All IsShownReply view.replies
+  pub replies : All IsShownAnswer view.replies
   pub ranges : All IsShownRange view.ranges
   pub indexes : All IndexesFit view.ranges

@@ -8,4 +8,4 @@ mod views;
 mod words;
 
 pub use texts::write_text;
-pub use views::{Note, Notes, RangeView, ReplicaView, ReplyLine, Replies, Row, View};
+pub use views::{RangeView, ReplicaView, Row, View};

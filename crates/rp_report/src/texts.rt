@@ -1,14 +1,14 @@
 ghost use Rattle.std.specs.Prelude.{◌≡◌, ◌+◌, ◌<◌, ◌≤◌, ◌^◌, ◌++◌, length, OnOk, OnErr, flat_map, All};
 ghost use Rattle.rp_report.specs.Items.{record_line};
-ghost use Rattle.rp_report.specs.Report.{note_line, reply_line, bounds_text, range_line, record_lines, row_line, live_text, state_text, replica_lines_of, replica_lines, range_lines, report};
-ghost use Rattle.rp_report.specs.Shown.{IsShownDesc, IsShownEnd, IsShownReply, IsShownRange, IndexesFit, IsShownView};
+ghost use Rattle.rp_report.specs.Report.{note_line, answer_line, bounds_text, range_line, record_lines, row_line, live_text, state_text, replica_lines_of, replica_lines, range_lines, report};
+ghost use Rattle.rp_report.specs.Shown.{IsShownDesc, IsShownEnd, IsShownAnswer, IsShownRange, IndexesFit, IsShownView};
 
 use crate::items::push_record;
 use crate::outcomes::push_end;
-use crate::views::{Note, RangeView, ReplicaView, ReplyLine, Row, View};
+use crate::views::{RangeView, ReplicaView, Row, View};
 use crate::words::{push_attempt, push_lease, push_number_line, push_number_word, push_spaced, push_spaced_bound};
-use rp_base::{Desc, Lease, LeaseIndex, NoMemory, Text, push_key, push_word};
-use rp_request::Record;
+use rp_base::{CmdId, Desc, Lease, LeaseIndex, NoMemory, Text, push_key, push_word};
+use rp_request::{Answer, Note, Record};
 
 fn push_note(out: &mut Text, note: &Note) -> Result<(), NoMemory>
     ensures { OnOk result (out.new ≡ out.old ++ note_line note.now) }
@@ -29,23 +29,28 @@ fn push_notes(out: &mut Text, notes: &[Note]) -> Result<(), NoMemory>
     Ok(())
 }
 
-fn push_reply_line(out: &mut Text, reply: &ReplyLine) -> Result<(), NoMemory>
+fn push_answer(out: &mut Text, reply: &Answer) -> Result<(), NoMemory>
     requires { IsShownEnd reply.now.end }
-    ensures { OnOk result (out.new ≡ out.old ++ reply_line reply.now) }
+    ensures { OnOk result (out.new ≡ out.old ++ answer_line reply.now) }
 {
     push_word(out, "reply ")?;
-    push_attempt(out, reply.id)?;
+    let id = CmdId {
+        client: reply.client,
+        seq: reply.seq,
+        attempt: reply.attempt,
+    };
+    push_attempt(out, id)?;
     push_word(out, " ")?;
     push_end(out, reply.end)?;
     push_word(out, "\n")
 }
 
-fn push_replies(out: &mut Text, replies: &[ReplyLine]) -> Result<(), NoMemory>
-    requires { All IsShownReply replies.now }
-    ensures { OnOk result (out.new ≡ out.old ++ flat_map reply_line replies.now) }
+fn push_replies(out: &mut Text, replies: &[Answer]) -> Result<(), NoMemory>
+    requires { All IsShownAnswer replies.now }
+    ensures { OnOk result (out.new ≡ out.old ++ flat_map answer_line replies.now) }
 {
     for reply in replies {
-        push_reply_line(out, reply)?;
+        push_answer(out, reply)?;
     }
     Ok(())
 }

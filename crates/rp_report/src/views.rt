@@ -1,26 +1,5 @@
-use rp_base::{CmdId, Desc, Key, Lease, LeaseIndex, Seq, Text};
-use rp_request::{End, Record};
-
-/// What a line of the script answered.
-#[derive(Drop)]
-pub struct Note {
-    /// From 1.
-    pub line: u32,
-    pub text: Text,
-}
-
-/// Notes in the order of the lines.
-pub type Notes = Seq<Note>;
-
-/// How an attempt of a command ended.
-#[derive(Clone, Copy, Debug, PartialEq, Eq)]
-pub struct ReplyLine {
-    pub id: CmdId,
-    pub end: End,
-}
-
-/// Replies by client, command and attempt, ascending.
-pub type Replies = Seq<ReplyLine>;
+use rp_base::{Desc, Key, Lease, LeaseIndex, Seq};
+use rp_request::{Notes, Record, Replies};
 
 /// A key that has a value.
 #[derive(Clone, Copy, Debug, PartialEq, Eq)]

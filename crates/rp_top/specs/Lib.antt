@@ -3,3 +3,4 @@ pub mod Lines
 pub mod Script
 pub mod Reading
 pub mod Gives
+pub mod Book
