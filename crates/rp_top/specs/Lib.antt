@@ -4,3 +4,7 @@ pub mod Script
 pub mod Reading
 pub mod Gives
 pub mod Book
+pub mod World
+pub mod Playing
+pub mod Status
+pub mod Answers

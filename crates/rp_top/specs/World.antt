@@ -10,9 +10,11 @@ use Rattle.rp_request.specs.declared.outcomes.End.TheVariants.{Outcome}
 use Rattle.rp_request.specs.declared.notes.Answer.{Answer}
 use Rattle.rp_request.specs.declared.items.Place.{Place}
 use Rattle.rp_request.specs.declared.items.Place.TheVariants.{Write, Split, Lease}
+use Rattle.rp_request.specs.declared.items.Record.{Record}
 use Rattle.rp_request.specs.declared.items.Record.TheVariants.{Took}
 use Rattle.rp_request.specs.Table.{Table}
-use Rattle.rp_request.specs.Starts.{first_desc, first_lease}
+use Rattle.rp_base.specs.Splits.{first_desc}
+use Rattle.rp_base.specs.Leases.{first_lease}
 use Rattle.rp_report.specs.declared.views.Row.{Row}
 use Rattle.rp_report.specs.declared.views.ReplicaView.TheVariants.{Live}
 use Rattle.rp_report.specs.declared.views.View.{View}
@@ -57,10 +59,10 @@ answer_of e = record { client = e.0.client; seq = e.0.seq; attempt = e.0.attempt
 abbrev pub row_of : ℕ × ℕ → Row
 row_of e = record { key = e.0; value = e.1 }
 
--- what is shown of one node that applied so many items: the replies by command, the applied list from
--- index 1 on, and the rows of the table by key
-abbrev pub shown : List (CmdId × Reply) → List Place → Table → View
-shown replies items table = record {
+-- what is shown of one node: the replies by command, its records from index 1 on, and the rows of its
+-- table by key
+abbrev pub shown : List (CmdId × Reply) → List Record → Table → View
+shown replies records table = record {
   nodes = 1;
   notes = [];
   replies = map answer_of replies;
@@ -68,12 +70,12 @@ shown replies items table = record {
     desc = first_desc;
     lease = first_lease;
     first = 1;
-    records = map Took items;
-    replicas = Live 1 (length items) (length items) (map row_of (entries table)) ∷ [];
+    records = records;
+    replicas = Live 1 (length records) (length records) (map row_of (entries table)) ∷ [];
   } ∷ [];
   messages = 0;
 }
 
 -- what a script shows
 abbrev pub view_of : List Group → View
-view_of groups = shown (entries (book_from empty (items_of groups))) (items_of groups) (table_from empty groups)
+view_of groups = shown (entries (book_from empty (items_of groups))) (map Took (items_of groups)) (table_from empty groups)

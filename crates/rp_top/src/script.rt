@@ -7,3 +7,9 @@ mod reader;
 mod source;
 mod stops;
 mod words;
+
+pub use clients::Client;
+pub use faults::{Fault, LineKind};
+pub use lines::Group;
+pub use source::read_script;
+pub use stops::Stop;
