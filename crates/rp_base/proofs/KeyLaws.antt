@@ -12,7 +12,7 @@ use Rattle.std.proofs.lemmas.Bool.{cases_lt}
 use Rattle.std.proofs.lemmas.List.{length-replicate, get_or_past}
 use Rattle.std.proofs.lemmas.List.Sums.{prefix_len-le-length, prefix_len_passes}
 use Rattle.rp_base.specs.Keys.{is_key_byte, key_len, key_number, key_of, key_text, IsKey}
-use Rattle.rp_base.proofs.KeyBytes.{AreLetters, worth, sum_worth, worth-padded, letters_of-worth, worth-order, AreLetters-whole, passes_whole, worth-lt}
+use Rattle.rp_base.proofs.KeyBytes.{AreLetters, worth, sum_worth, worth-padded, letters_of-worth, worth-order, AreLetters-whole, passes_whole, worth-lt, bytes_high_first-worth, letters_len}
 
 -- what stops short, or is empty, is no key
 pub key_of_err : (bs : List ℕ) → (key_len bs ≡ 0) ⊎ (key_len bs < length bs) → key_of bs ≡ Err (record { place = key_len bs })
@@ -123,3 +123,24 @@ key_inside n (bs, h) =
     let s = Spells-from_ok bs n h in
     let e : n ≡ worth 16 bs = s.number ∙ key_number-worth bs s.short in
     rw e (worth_inside bs s.some s.good (letters_of_key bs n s))
+
+-- how long a spelling is
+pub key_text_len : (n : ℕ) → IsKey n → (1 ≤ length (key_text n)) × (length (key_text n) ≤ 16)
+key_text_len n (bs, h) = let s = Spells-from_ok bs n h in rw (spelled_as_read bs n h) (s.some, s.short)
+
+-- the number's bytes are the spelling in front of zero bytes
+pub to_be_bytes-key : (n : ℕ) → IsKey n → to_be_bytes w128 n ≡ key_text n ++ replicate (16 - length (key_text n)) 0
+to_be_bytes-key n (bs, h) =
+    let s = Spells-from_ok bs n h in
+    let e : n ≡ worth 16 bs = s.number ∙ key_number-worth bs s.short in
+    rw (spelled_as_read bs n h) (rw e (bytes_high_first-worth 16 bs (letters_of_key bs n s) s.short))
+
+-- before the zero bytes stand as many bytes as are spelled
+pub spelling_len : (n m : ℕ) (bytes : List ℕ) → IsKey n → bytes ≡ key_text n ++ replicate m 0 → position_or_len (λ b. b == 0) bytes ≡ length (key_text n)
+spelling_len n m bytes (bs, h) is =
+    let spelled : key_text n ≡ bs = spelled_as_read bs n h in
+    rw is (rw spelled (letters_len m bs (letters_of_key bs n (Spells-from_ok bs n h))))
+
+-- each byte of a spelling is a key's
+pub key_text_good : (n : ℕ) → IsKey n → prefix_len is_key_byte (key_text n) ≡ length (key_text n)
+key_text_good n (bs, h) = let s = Spells-from_ok bs n h in rw (spelled_as_read bs n h) s.good

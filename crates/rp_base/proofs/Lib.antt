@@ -2,5 +2,6 @@ pub mod KeyBytes
 pub mod KeyLaws
 pub mod LeaseLaws
 pub mod NumberLaws
+pub mod Powers
 pub mod SpanLaws
 pub mod SplitLaws
