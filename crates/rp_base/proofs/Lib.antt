@@ -3,5 +3,6 @@ pub mod KeyLaws
 pub mod LeaseLaws
 pub mod NumberLaws
 pub mod Powers
+mod Rows
 pub mod SpanLaws
 pub mod SplitLaws
