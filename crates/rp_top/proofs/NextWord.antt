@@ -1,8 +1,8 @@
 -- The first word of a text: behind its leading spaces, up to the next space.
-use Rattle.std.proofs.Common.{◌≡◌, ◌≢◌, ℕ, zero, suc, ◌+◌, ◌==◌, not, Bool, true, false, List, [], ◌∷◌, take, drop, length, refl, ap, ◌∙◌, sym, subst, arith}
+use Rattle.std.proofs.Common.{◌≡◌, ◌≢◌, ℕ, suc, ◌+◌, ◌==◌, not, Bool, true, false, List, [], ◌∷◌, take, drop, length, refl, ap, ◌∙◌, sym, arith}
 use Rattle.std.specs.Prelude.{filter}
 use Rattle.std.specs.List.{prefix_len}
-use Rattle.rp_top.specs.Words.{pieces, begun_with, has_bytes, words_of}
+use Rattle.rp_top.specs.Words.{pieces, has_bytes, words_of}
 
 abbrev is_space : ℕ → Bool
 is_space b = b == 32

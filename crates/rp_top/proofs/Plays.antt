@@ -1,12 +1,13 @@
 -- To play groups one after another gives what they show.
-use Rattle.std.proofs.Common.{◌≡◌, ℕ, ◌+◌, ◌<◌, ◌==◌, Bool, true, false, cond, List, [], ◌∷◌, ◌++◌, length, drop, get_or, refl, ap, ◌∙◌, sym, subst, arith, append_assoc, length-append}
+use Rattle.std.proofs.Common.{◌≡◌, ℕ, ◌+◌, ◌<◌, ◌==◌, Bool, true, false, cond, List, [], ◌∷◌, ◌++◌, length, drop, get_or, refl, ap, ◌∙◌, sym, arith, append_assoc, length-append}
 use Rattle.std.specs.Prelude.{map}
 use Rattle.std.specs.declared.cmp.Ordering.{Ordering}
 use Rattle.std.specs.declared.cmp.Ordering.TheVariants.{Less, Equal, Greater}
-use Rattle.std.specs.Ordering.{nat_cmp}
 use Rattle.std.specs.Cmp.{IsTotalOrder, on_total, then_total, nat_cmp_total}
 use Rattle.std.specs.BTreeMap.{insert_entry}
-use Rattle.std.specs.FinMap.{FinMap, empty, get, len-entries, len-empty, insert, entries, entries-insert, entries-from_sorted, put}
+use Rattle.std.specs.FinMap.{empty, get, len-entries, len-empty, insert, entries, entries-insert, put}
+use Rattle.std.specs.Prelude.{Result, IfOk}
+use Rattle.std.proofs.lemmas.Result.{IfOk-weaker}
 use Rattle.std.proofs.lemmas.List.{drop_more}
 use Rattle.std.proofs.lemmas.List.Sums.{sum_by-append}
 use Rattle.rp_base.specs.declared.CmdId.{CmdId}
@@ -16,10 +17,10 @@ use Rattle.rp_request.specs.declared.outcomes.Reply.TheVariants.{Old}
 use Rattle.rp_request.specs.declared.items.Place.TheVariants.{Write}
 use Rattle.rp_request.specs.declared.items.Record.{Record}
 use Rattle.rp_request.specs.declared.items.Record.TheVariants.{Took}
-use Rattle.rp_request.specs.Table.{Table}
+use Rattle.rp_report.specs.declared.views.View.{View}
 use Rattle.rp_top.specs.declared.script.lines.Group.{Group}
 use Rattle.rp_top.specs.Book.{Book, cmd_cmp}
-use Rattle.rp_top.specs.World.{sent_by, command_of, items_from, items_of, table_from, book_from, shown, view_of}
+use Rattle.rp_top.specs.World.{sent_by, command_of, items_from, table_from, book_from, shown, view_of}
 use Rattle.rp_top.specs.Playing.{Played, unplayed, sent_in, next_command, with_group, with_groups, view_from, PlaysView}
 use Rattle.rp_top.proofs.Sent.{one_more}
 
@@ -32,7 +33,7 @@ group_more groups i g p here is =
 pub records_more : (p : Played) (g : Group) → length (with_group p g).records ≡ length p.records + 1
 records_more p g = length-append p.records _
 
-cmd_cmp_total : IsTotalOrder cmd_cmp
+pub cmd_cmp_total : IsTotalOrder cmd_cmp
 cmd_cmp_total =
     then_total (on_total (λ (id : CmdId). id.client) nat_cmp_total)
     (then_total (on_total (λ (id : CmdId). id.seq) nat_cmp_total) (on_total (λ (id : CmdId). id.attempt) nat_cmp_total))
@@ -57,7 +58,7 @@ noted b replies id named reply known same =
     ∙ ap (λ i. put cmd_cmp i reply (entries b)) same
     ∙ sym (entries-insert cmd_cmp_total b named reply)
 
-sent_by-push : (client : ℕ) (before : List Group) (g : Group) (v : Bool) → (g.client == client) ≡ v
+pub sent_by-push : (client : ℕ) (before : List Group) (g : Group) (v : Bool) → (g.client == client) ≡ v
     → sent_by client (before ++ g ∷ []) ≡ cond v (sent_by client before + 1) (sent_by client before)
 sent_by-push client before g true e = sum_by-append (λ (x : Group). cond (x.client == client) 1 0) before (g ∷ []) ∙ simp e (omega arith)
 sent_by-push client before g false e = sum_by-append (λ (x : Group). cond (x.client == client) 1 0) before (g ∷ []) ∙ simp e (omega arith)
@@ -91,7 +92,7 @@ record Shows (before : List Group) (b : Book) (p : Played) (groups : List Group)
   replies : (with_groups p groups).replies ≡ entries (book_from b (items_from p.table before groups))
   records : (with_groups p groups).records ≡ p.records ++ map Took (items_from p.table before groups)
 
-append-nil : {X : Type 0} (xs : List X) → xs ++ [] ≡ xs
+pub append-nil : {X : Type 0} (xs : List X) → xs ++ [] ≡ xs
 append-nil [] = refl
 append-nil (x ∷ xs) = ap (λ ys. x ∷ ys) (append-nil xs)
 
@@ -105,7 +106,7 @@ shows (g ∷ groups) before b p h =
       records = s.records
           ∙ append_assoc p.records (Took (Write (next_command p.records g.client) (Put g.key g.value) 1 (Old (get p.table g.key))) ∷ []) _
           ∙ ap (λ id. p.records ++ Took (Write id (Put g.key g.value) 1 (Old (get p.table g.key)))
-              ∷ map Took (items_from (insert p.table g.key g.value) (before ++ g ∷ []) groups)) (same_command before b p g h);
+          ∷ map Took (items_from (insert p.table g.key g.value) (before ++ g ∷ []) groups)) (same_command before b p g h);
     }
 
 no_length : {X : Type 0} (xs : List X) → length xs ≡ 0 → xs ≡ []
@@ -119,3 +120,8 @@ pub plays_view : PlaysView
 plays_view groups =
     let s = shows groups [] empty unplayed (record { replies = sym (no_entries cmd_cmp); sent = λ client. refl }) in
     λ i. shown (s.replies i) (s.records i) (s.table i)
+
+-- the same for the answer of a call
+pub view_shown : {E : Type 0} (r : Result View E) (p : Played) (groups : List Group) → p ≡ with_groups unplayed groups
+    → IfOk r (λ view. view ≡ view_from p) → IfOk r (λ view. view ≡ view_of groups)
+view_shown r p groups played shown = IfOk-weaker r _ _ (λ view is. is ∙ ap view_from played ∙ plays_view groups) shown

@@ -5,11 +5,9 @@ use Rattle.rp_base.specs.declared.Which.TheVariants.{Lines, LineBytes}
 use Rattle.std.proofs.lemmas.Bool.Decides.{nat_tests}
 use Rattle.rp_top.specs.Words.{begun_with, lines_of, words_of}
 use Rattle.rp_top.specs.Lines.{line_of}
-use Rattle.rp_top.specs.Script.{◌>>=◌, Progress, with_line, ended, judged, meaning}
-use Rattle.rp_top.specs.Reading.{Reading, unread, line_ended, fed, fed_all, closed, finished, verdict, ReadsMeaning}
-use Rattle.rp_top.specs.declared.script.faults.Fault.{Fault}
+use Rattle.rp_top.specs.Script.{◌>>=◌, Progress, with_line, judged}
+use Rattle.rp_top.specs.Reading.{fed_all, closed, finished, verdict, ReadsMeaning}
 use Rattle.rp_top.specs.declared.script.faults.Fault.TheVariants.{Limit}
-use Rattle.rp_top.specs.declared.script.lines.Group.{Group}
 
 pub same_bind : {A B E : Type 0} (r : Result A E) (f g : A → Result B E) → ((x : A) → f x ≡ g x) → (r >>= f) ≡ (r >>= g)
 same_bind (Ok x) f g e = e x
@@ -104,11 +102,11 @@ reads_few b bytes ih k p w short few true newline =
     let fits : nat_lt 256 (length w) ≡ false = grind (arith, nat_tests) in
     let r = with_line (k + 1) p (line_of (words_of w)) in
     simp (few, newline)
-        (ap (λ s. s >>= λ t. finished t t.line) (bind_assoc r (λ q. Ok (record { lines = k + 1; line = []; progress = q })) (λ s. fed_all s bytes))
-        ∙ bind_assoc r (λ q. fed_all (record { lines = k + 1; line = []; progress = q }) bytes) (λ t. finished t t.line)
-        ∙ same_bind r _ _ (λ q. ih (k + 1) q [] (omega arith) (λ _. refl))
-        ∙ sym (judged-line k p w (lines_of bytes) few fits)
-        ∙ ap (judged k p) (sym (front-end w (lines_of bytes))))
+    (ap (λ s. s >>= λ t. finished t t.line) (bind_assoc r (λ q. Ok (record { lines = k + 1; line = []; progress = q })) (λ s. fed_all s bytes))
+    ∙ bind_assoc r (λ q. fed_all (record { lines = k + 1; line = []; progress = q }) bytes) (λ t. finished t t.line)
+    ∙ same_bind r _ _ (λ q. ih (k + 1) q [] (omega arith) (λ _. refl))
+    ∙ sym (judged-line k p w (lines_of bytes) few fits)
+    ∙ ap (judged k p) (sym (front-end w (lines_of bytes))))
 
 -- one byte behind the last line that may come
 reads_many : (b : ℕ) (bytes : List ℕ) (k : ℕ) (p : Progress) → (k == 65536) ≡ true → (newline : Bool) → (b == 10) ≡ newline

@@ -3,7 +3,7 @@ use Rattle.std.proofs.Common.{◌≡◌, ℕ, List, [], ◌∷◌, ◌++◌, Opt
 use Rattle.rp_outside.specs.Devices.{Comes, IsAtEnd}
 use Rattle.rp_outside.proofs.Told.{comes_more}
 use Rattle.rp_top.specs.Script.{◌>>=◌, meaning}
-use Rattle.rp_top.specs.Reading.{Reading, unread, fed, fed_all, finished, verdict}
+use Rattle.rp_top.specs.Reading.{Reading, unread, fed, fed_all, finished}
 use Rattle.rp_top.specs.Gives.{Stops, Gives, Reads, IsScript, HasCome}
 use Rattle.rp_top.specs.declared.script.faults.Fault.{Fault}
 use Rattle.rp_top.specs.declared.script.lines.Group.{Group}
@@ -69,7 +69,9 @@ whole None b bytes came end = tt
 pub came_whole : (a b c : Option (List ℕ)) (r : Reading) (res : Result (List Group) Stop) → HasCome a b r → Comes b [] c → IsAtEnd c
     → Gives (λ groups. groups) res (finished r r.line) → (x : List ℕ) × IsScript a x × Reads res (meaning x)
 came_whole a b c r res h came end gives =
-    let all = came_further a b c r r [] h came refl in
-    (all.bytes, whole a c all.bytes all.comes end,
-    gives_reads res _ (let P : Result (List Group) Fault → Type 0 = λ v. Gives (λ groups. groups) res v in
-        subst P (sym (ap (λ v. v >>= λ s. finished s s.line) all.leads) ∙ reads_meaning all.bytes) gives))
+    let all = came_further a b c r r [] h came refl in (
+      all.bytes,
+      whole a c all.bytes all.comes end,
+      gives_reads res _ (let P : Result (List Group) Fault → Type 0 = λ v. Gives (λ groups. groups) res v in
+          subst P (sym (ap (λ v. v >>= λ s. finished s s.line) all.leads) ∙ reads_meaning all.bytes) gives),
+    )

@@ -1,11 +1,12 @@
 -- What a call answers and writes.
-use Rattle.std.specs.Prelude.{◌≡◌, ℕ, ◌++◌, List, [], ◌∷◌, Option, Result, Ok, Err, codes}
-use Rattle.std.specs.Fmt.{decimal}
+use Rattle.std.specs.Prelude.{◌≡◌, ℕ, ◌++◌, Bool, false, List, [], ◌∷◌, Option, Result, Ok, Err, codes, if◌then◌else◌}
+use Rattle.std.specs.Str.{bytes_eq}
 use Rattle.rp_base.specs.declared.Which.{Which}
 use Rattle.rp_base.specs.declared.Which.TheVariants.{Lines, LineBytes, Commands, Events, Weight, ReportBytes, DiskBytes}
 use Rattle.rp_outside.specs.Devices.{Adds, AddsFront}
 use Rattle.rp_report.specs.Report.{report}
 use Rattle.rp_report.specs.Words.{newline, spaced}
+use Rattle.rp_top.specs.Script.{meaning}
 use Rattle.rp_top.specs.World.{view_of}
 use Rattle.rp_top.specs.declared.script.lines.Group.{Group}
 use Rattle.rp_top.specs.declared.script.faults.LineKind.{LineKind}
@@ -46,10 +47,40 @@ status_of (Ok groups) = statuses.Ok
 status_of (Err (faults.Refused line word kind)) = statuses.Refused line word kind
 status_of (Err (faults.Limit which count)) = statuses.Limit which count
 
--- the status and what was written are those of a script of this meaning, but for a fault or want of
--- memory: at a read fault and at want of memory nothing was written, at a write fault a front
+-- this status and this text were due and come, but for a fault or want of memory: at a read fault and
+-- at want of memory nothing was written, at a write fault a front of the text
+abbrev pub Writes : Status → Status → List ℕ → Option (List ℕ) → Option (List ℕ) → Type 0
+Writes statuses.ReadFault due text old new = Adds old [] new
+Writes statuses.NoMemory due text old new = Adds old [] new
+Writes statuses.WriteFault due text old new = AddsFront old text new
+Writes status due text old new = (status ≡ due) × Adds old text new
+
+-- what a run answers and writes for a script of this meaning
 abbrev pub Answers : Status → Result (List Group) Fault → Option (List ℕ) → Option (List ℕ) → Type 0
-Answers statuses.ReadFault meaning old new = Adds old [] new
-Answers statuses.NoMemory meaning old new = Adds old [] new
-Answers statuses.WriteFault meaning old new = AddsFront old (output meaning) new
-Answers status meaning old new = (status ≡ status_of meaning) × Adds old (output meaning) new
+Answers status meaning old new = Writes status (status_of meaning) (output meaning) old new
+
+-- the words ask for a run
+abbrev pub is_run : List (List ℕ) → Bool
+is_run (word ∷ []) = bytes_eq word (codes "run")
+is_run words = false
+
+-- what is written where the words ask for nothing
+abbrev pub usage_line : List ℕ
+usage_line = codes "usage: rp run [--form F] | rp race [--workers W] [--loss P] [--salt S] [--form F] | rp gen NUMBER SIZE" ++ newline
+
+-- the status and the text that are due for these words and a source of these bytes
+abbrev pub status_due : List (List ℕ) → List ℕ → Status
+status_due words bytes = if is_run words then status_of (meaning bytes) else statuses.Usage
+
+abbrev pub text_due : List (List ℕ) → List ℕ → List ℕ
+text_due words bytes = if is_run words then output (meaning bytes) else usage_line
+
+-- a line is refused
+abbrev pub IsRefused : Result (List Group) Fault → Type 0
+IsRefused (Err (faults.Refused line word kind)) = Unit {0}
+IsRefused meaning = ⊥
+
+-- a limit is passed
+abbrev pub IsLimited : Result (List Group) Fault → Type 0
+IsLimited (Err (faults.Limit which count)) = Unit {0}
+IsLimited meaning = ⊥

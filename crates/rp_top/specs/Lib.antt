@@ -8,3 +8,5 @@ pub mod World
 pub mod Playing
 pub mod Status
 pub mod Answers
+pub mod Headline
+pub mod Runs

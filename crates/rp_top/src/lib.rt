@@ -1,6 +1,7 @@
 //! The calls of the program: from words and bytes to bytes and a status.
 #![tactic(auto)]
 
+mod calls;
 mod counts;
 pub mod laws;
 mod outputs;
@@ -8,5 +9,6 @@ mod play;
 mod script;
 mod statuses;
 
+pub use calls::{run_call, top_call};
 pub use script::LineKind;
 pub use statuses::{Form, Status};

@@ -34,9 +34,9 @@ impl Model for Play {
     ghost coded = { Prim.hlevel (codes, table_code) };
 
     ghost view = { λ p. record {
-        table = p.table.map;
-        replies = p.replies.entries;
-        records = p.records.items;
+      table = p.table.map;
+      replies = p.replies.entries;
+      records = p.records.items;
     } };
 
     ghost invariant = { λ p. AreCounts p.sent p.records.items };
@@ -71,7 +71,10 @@ impl Play {
         let old = self.table.get(group.key);
         self.records.push_reserved(Record::Took(Place::Write {
             id,
-            request: Request::Put { key: group.key, value: group.value },
+            request: Request::Put {
+                key: group.key,
+                value: group.value,
+            },
             seq: LeaseSeq::new(1),
             reply: Reply::Old(old),
         }));
@@ -85,7 +88,13 @@ impl Play {
         requires { length self.records ≤ 65536 }
         ensures { IfOk result (λ view. view ≡ view_from self) }
     {
-        let Play { alloc, table, replies, records, sent: _ } = self;
+        let Play {
+            alloc,
+            table,
+            replies,
+            records,
+            sent: _,
+        } = self;
         let count = records.len() as u64;
         let rows = rows_of(alloc, &table)?;
         let replicas = Vec::from_array(
@@ -159,7 +168,7 @@ fn play_all(alloc: Global, groups: &[Group]) -> Result<Play, NoMemory>
 }
 
 /// Plays a script of one node, and shows what is left.
-pub fn play(alloc: Global, groups: &[Group]) -> Result<View, NoMemory>
+pub fn view_played(alloc: Global, groups: &[Group]) -> Result<View, NoMemory>
     requires { length groups.now ≤ 65536 }
     ensures { IfOk result (λ view. view ≡ view_of groups.now) }
 {

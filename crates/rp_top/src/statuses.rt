@@ -18,9 +18,16 @@ pub enum Status {
     /// The words are none of the program's.
     Usage,
     /// The script's first line outside its form: the line and its word, from 1, or 0 for no word.
-    Refused { line: u32, word: u32, kind: LineKind },
+    Refused {
+        line: u32,
+        word: u32,
+        kind: LineKind,
+    },
     /// The script passes a limit, by this count.
-    Limit { which: Which, count: u64 },
+    Limit {
+        which: Which,
+        count: u64,
+    },
     /// The source failed. Nothing was written.
     ReadFault,
     /// The sink failed. A front of what was due was written.

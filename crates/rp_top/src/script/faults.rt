@@ -15,7 +15,14 @@ pub enum LineKind {
 #[derive(Clone, Copy, Debug, PartialEq, Eq)]
 pub enum Fault {
     /// The line, from 1, its word, from 1 or 0 for none, and why.
-    Refused { line: u32, word: u32, kind: LineKind },
+    Refused {
+        line: u32,
+        word: u32,
+        kind: LineKind,
+    },
     /// A limit, and the count that passes it.
-    Limit { which: Which, count: u64 },
+    Limit {
+        which: Which,
+        count: u64,
+    },
 }

@@ -39,9 +39,9 @@ impl Model for Reader {
     ghost Value = { Reading };
 
     ghost view = { λ r. record {
-        lines = r.lines;
-        line = r.line.items;
-        progress = record { next = r.next; groups = r.groups.items };
+      lines = r.lines;
+      line = r.line.items;
+      progress = record { next = r.next; groups = r.groups.items };
     } };
 
     ghost invariant = { λ r. (length r.line.items ≤ 256)
@@ -167,7 +167,12 @@ impl Reader {
         ensures gives { Gives (λ groups. groups) result (closed self) }
         ensures few { IfOk result (λ groups. length groups ≤ 65536) }
     {
-        let Reader { lines, line: _, next, groups } = self;
+        let Reader {
+            lines,
+            line: _,
+            next,
+            groups,
+        } = self;
         let kind = match next {
             Next::Nothing => return Ok(Seq::from_vec(groups)),
             Next::Cluster => LineKind::NoCluster,

@@ -1,4 +1,4 @@
-use Rattle.std.proofs.Common.{◌≡◌, ◌≤◌, drop, length}
+use Rattle.std.proofs.Common.{◌≡◌, drop, length}
 use Rattle.rp_top.specs.Playing.{unplayed, with_groups}
 use Rattle.rp_top.proofs.play.play_all.Given as goal
 
