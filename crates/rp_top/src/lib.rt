@@ -12,3 +12,6 @@ mod statuses;
 pub use calls::{run_call, top_call};
 pub use script::LineKind;
 pub use statuses::{Form, Status};
+
+#[cfg(test)]
+mod tests;
