@@ -60,3 +60,8 @@ pub record FailingStore : Type 0 where
   pub piece : ℕ
   pub spare : ℕ
   pub troubles : Troubles
+
+-- a reader or writer of the system, and how many faults it had
+pub record Adapted (T : Type 0) : Type 0 where
+  pub inner : T
+  pub faults : ℕ

@@ -3,13 +3,13 @@
 #![tactic(auto)]
 
 mod devices;
-mod failing;
 mod schedules;
-mod sound;
-mod standard;
+mod sinks;
+mod sources;
 mod tapes;
+#[cfg(test)]
+mod tests;
 
 pub use devices::{Failed, Sink, Source, put_all};
-pub use failing::{MemorySink, MemorySource};
-pub use sound::{SoundSink, SoundSource};
-pub use standard::{StdSink, StdSource};
+pub use sinks::{MemorySink, SoundSink, StdSink};
+pub use sources::{MemorySource, SoundSource, StdSource};
