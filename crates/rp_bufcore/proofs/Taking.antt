@@ -1,10 +1,9 @@
 -- The loop that takes what is published, place after place.
-use Rattle.std.proofs.Common.{◌≡◌, ℕ, suc, ◌+◌, ◌<◌, ◌≤◌, List, [], ◌∷◌, ◌++◌, length, get_or, set, take, drop, map, filter_map, Option, Some, None, refl, ap, sym, ◌∙◌, append_assoc, add-one, arith}
+use Rattle.std.proofs.Common.{◌≡◌, ℕ, ◌+◌, ◌<◌, ◌≤◌, List, [], ◌∷◌, ◌++◌, length, get_or, set, take, drop, map, filter_map, ap, sym, ◌∙◌, append_assoc, arith}
 use Rattle.std.specs.Option.{option_to_list}
-use Rattle.std.specs.List.{cons_option}
-use Rattle.std.proofs.lemmas.List.{take_more, take_more_set, drop_more, drop-set-lt, map-append, length_push, append-nil}
+use Rattle.std.proofs.lemmas.List.{take_more, take_more_set, drop_more, drop-set-lt, map-append}
 use Rattle.std.proofs.lemmas.List.Elements.{filter_map-append}
-use Rattle.std.proofs.lemmas.Grind.{drop_more_same, common_steps}
+use Rattle.std.proofs.lemmas.Grind.{drop_more_same}
 use Rattle.rp_base.specs.declared.items.Item.{Item}
 use Rattle.rp_bufcore.specs.declared.buffers.Slot.{Slot}
 use Rattle.rp_bufcore.specs.declared.buffers.Slot.TheVariants.{Free, Drawn, Published, Taken}
@@ -36,7 +35,7 @@ half_more first old i slots new d x half within same item =
       front = take_more_set slots i (taken x) within ∙ ap (λ ys. ys ++ taken x ∷ []) half.front ∙ sym (map-append taken (take i first) (x ∷ [])) ∙ ap (map taken) (sym longer);
       rest = drop-set-lt (i + 1) slots i (taken x) (omega arith) ∙ drop_more_same slots first i half.rest;
       given = ap (λ ys. ys ++ option_to_list (published x)) half.given ∙ append_assoc old (filter_map published (take i first)) (option_to_list (published x))
-        ∙ ap (λ ys. old ++ ys) (sym (filter_map_one (take i first) x)) ∙ ap (λ ys. old ++ filter_map published ys) (sym longer);
+          ∙ ap (λ ys. old ++ ys) (sym (filter_map_one (take i first) x)) ∙ ap (λ ys. old ++ filter_map published ys) (sym longer);
     }
 
 -- no more are published than there are places

@@ -3,7 +3,7 @@ ghost use Rattle.std.specs.List.{list_all};
 ghost use Rattle.std.specs.Option.{option_to_list};
 ghost use Rattle.rp_bufcore.specs.Buffers.{start, is_drawn, draw_answer, after_draw, publish_answer, after_publish, published, given, taken, is_taken, after_collect};
 
-use rp_base::{Grown, Item};
+use rp_base::{Item, Items};
 use std::error::Error;
 use std::fmt;
 use std::marker::Model;
@@ -108,7 +108,7 @@ impl PlainBuf {
 
     /// Closes the buffer and appends the published items in the order of their places. Where each
     /// drawn place is taken then, the buffer is open again and its places are free.
-    pub fn collect(&mut self, out: &mut Grown<Item>)
+    pub fn collect(&mut self, out: &mut Items)
         requires { 16 ≤ out.old.spare }
         ensures given { out.new.list ≡ out.old.list ++ given self.old }
         ensures after { self.new ≡ after_collect self.old }
@@ -131,7 +131,7 @@ fn is_drawn(slots: &[Slot], place: u8) -> bool
 }
 
 /// Appends the published items in the order of their places, and takes them.
-fn take_published(slots: &mut [Slot], out: &mut Grown<Item>)
+fn take_published(slots: &mut [Slot], out: &mut Items)
     requires { length slots.old ≤ out.old.spare }
     ensures given { out.new.list ≡ out.old.list ++ filter_map published slots.old }
     ensures slots { slots.new ≡ map taken slots.old }
@@ -144,7 +144,7 @@ fn take_published(slots: &mut [Slot], out: &mut Grown<Item>)
 }
 
 /// Appends the item that is published at a place, and takes it.
-fn take_one(slot: &mut Slot, out: &mut Grown<Item>)
+fn take_one(slot: &mut Slot, out: &mut Items)
     requires { 1 ≤ out.old.spare }
     ensures given { out.new.list ≡ out.old.list ++ option_to_list (published slot.old) }
     ensures slot { slot.new ≡ taken slot.old }

@@ -3,7 +3,7 @@ ghost use Rattle.rp_base.specs.declared.items.Item.{Item};
 ghost use Rattle.rp_bufcore.specs.Buffers.{fresh, buffer_of, with_buffer, draw_answer, after_draw, publish_answer, after_publish, Collects};
 
 use crate::buffers::{Full, NotDrawn, PlainBuf};
-use rp_base::{Grown, Item, RangeId};
+use rp_base::{Item, Items, RangeId};
 use std::marker::Model;
 
 /// The end of a node's buffers from which its flushes collect.
@@ -12,7 +12,7 @@ pub trait BufferEnd {
     ghost gives: { Self → ℕ → List Item → Self → Type 0 };
 
     /// Appends what is collected from the range's buffer, at most 16 items.
-    fn collect(&mut self, range: RangeId, out: &mut Grown<Item>)
+    fn collect(&mut self, range: RangeId, out: &mut Items)
         requires { 16 ≤ out.old.spare }
         ensures { (items : List Item) × (length items ≤ 16) × (out.new.list ≡ out.old.list ++ items)
             × (out.old.spare ≤ out.new.spare + length items) × gives self.old range items self.new };
@@ -76,7 +76,7 @@ impl PlainEnd {
 impl BufferEnd for PlainEnd {
     ghost gives = { Collects };
 
-    fn collect(&mut self, range: RangeId, out: &mut Grown<Item>) {
+    fn collect(&mut self, range: RangeId, out: &mut Items) {
         let buffer = &mut self.buffers[usize::from(range.get())];
         buffer.collect(out);
     }

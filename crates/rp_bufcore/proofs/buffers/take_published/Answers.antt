@@ -1,4 +1,4 @@
-use Rattle.std.proofs.Common.{rules, refl, ◌≡◌, ◌+◌, ◌-◌, ◌≤◌, length, arith, length-set}
+use Rattle.std.proofs.Common.{refl, arith}
 use Rattle.std.proofs.lemmas.Grind.{common_steps}
 use Rattle.rp_bufcore.proofs.Taking.{half_more, published_within}
 use Rattle.rp_bufcore.proofs.buffers.take_published.Goals as goal

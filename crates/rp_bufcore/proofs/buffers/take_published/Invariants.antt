@@ -1,4 +1,4 @@
-use Rattle.std.proofs.Common.{◌≡◌, ◌≤◌, ◌-◌, ◌+◌, length}
+use Rattle.std.proofs.Common.{◌≤◌, ◌-◌, ◌+◌, length}
 use Rattle.rp_bufcore.proofs.Taking.{Half}
 use Rattle.rp_bufcore.proofs.buffers.take_published.Given as goal
 
