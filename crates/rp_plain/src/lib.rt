@@ -3,7 +3,9 @@
 #![tactic(auto)]
 
 mod effects;
+mod folds;
 mod tables;
 
 pub use effects::{Answer, PlainEffect, effect};
+pub use folds::{PlainState, after_item, after_request, first_state, fold, places_of};
 pub use tables::PlainTable;
