@@ -2,7 +2,7 @@
 #![tactic(auto)]
 
 ghost use Rattle.std.specs.Prelude.{◌≡◌, ◌<◌, ◌-◌, ◌^◌};
-ghost use Rattle.rp_base.specs.Splits.{InBounds, split_of, first_desc};
+ghost use Rattle.rp_base.specs.Splits.{split_of, first_desc};
 ghost use Rattle.rp_base.specs.Leases.{lease_after, first_lease};
 
 use rp_base::{Desc, Key, Lease, LeaseAsk, LeaseSeq, NodeId, RangeId, SplitFault, Tick};
@@ -11,7 +11,6 @@ use rp_base::{Desc, Key, Lease, LeaseAsk, LeaseSeq, NodeId, RangeId, SplitFault,
 /// has the left one's plus 2 to the level (this project's numbers). `NotInside` where the key is the
 /// range's start, else `SplitLimit` at level 3.
 pub fn split_at(desc: Desc, key: Key) -> Result<(Desc, Desc), SplitFault>
-    requires { InBounds desc key }
     ensures { result ≡ split_of desc key }
 {
     let bound = key.bound();
@@ -86,19 +85,10 @@ pub fn first_lease() -> Lease
 #[cfg(test)]
 mod tests {
     use super::*;
-    use std::process::Abort;
     use std::test::Fail;
 
-    fn split(
-        rt: &impl Abort,
-        desc: Desc,
-        text: &str,
-    ) -> Result<Result<(Desc, Desc), SplitFault>, Fail> {
-        let key = Key::read(text.as_bytes())?;
-        let bound = key.bound();
-        assert!(rt; desc.start <= bound);
-        assert!(rt; bound < desc.end);
-        Ok(split_at(desc, key))
+    fn split(desc: Desc, text: &str) -> Result<Result<(Desc, Desc), SplitFault>, Fail> {
+        Ok(split_at(desc, Key::read(text.as_bytes())?))
     }
 
     #[test]
@@ -106,7 +96,7 @@ mod tests {
         let mut left = first_desc();
         for (text, id, level) in [("m", 1, 1), ("f", 2, 2), ("c", 4, 3)] {
             let end = left.end;
-            let (low, high) = split(&rt, left, text)??;
+            let (low, high) = split(left, text)??;
             let bound = Key::read(text.as_bytes())?.bound();
             assert_eq!(rt;
                 (low.id.get(), low.level, low.start, low.end),
@@ -118,12 +108,9 @@ mod tests {
             );
             left = low;
         }
-        assert_eq!(rt;
-            split(&rt, left, "b")?,
-            Err(SplitFault::SplitLimit { level: 3 })
-        );
-        let (_, right) = split(&rt, first_desc(), "m")??;
-        assert_eq!(rt; split(&rt, right, "m")?, Err(SplitFault::NotInside));
+        assert_eq!(rt; split(left, "b")?, Err(SplitFault::SplitLimit { level: 3 }));
+        let (_, right) = split(first_desc(), "m")??;
+        assert_eq!(rt; split(right, "m")?, Err(SplitFault::NotInside));
         Ok(())
     }
 

@@ -1,9 +1,9 @@
 -- The effect of a request: what it makes of a table and of a range's description, and what it
 -- answers; or why it is refused, which changes nothing. Of two refusals that would both hold, the
 -- one that is tested first is named.
-use Rattle.std.specs.Prelude.{ℕ, ◌+◌, ◌-◌, ◌==◌, nat_eq, nat_lt, if◌then◌else◌, Option, Result, Ok, Err}
+use Rattle.std.specs.Prelude.{ℕ, Bool, ◌+◌, ◌-◌, ◌==◌, nat_eq, nat_lt, if◌then◌else◌, Option, Result, Ok, Err}
 use Rattle.std.specs.Option.{option_eq}
-use Rattle.std.specs.FinMap.{get, insert, remove}
+use Rattle.std.specs.FinMap.{get, insert, remove, retain_keys}
 use Rattle.rp_base.specs.Keys.{end_of}
 use Rattle.rp_base.specs.Splits.{split_of}
 use Rattle.rp_base.specs.declared.ranges.Desc.{Desc}
@@ -73,3 +73,9 @@ effect t d (Del key) = writes (remove t key) d (Old (get t key))
 effect t d (Wipe span) = wipe t d span.start (end_of span.end)
 effect t d (Move from to by) = move t d from to by
 effect t d (Split key) = split t key (split_of d key)
+
+-- what is seen of an effect through a part of the keys: the table's part, the description, the
+-- reply; or the refusal
+abbrev pub seen : (ℕ → Bool) → Result Effect Refusal → Result Effect Refusal
+seen p (Ok e) = Ok (record { table = retain_keys e.table p; desc = e.desc; reply = e.reply })
+seen p (Err refusal) = Err refusal

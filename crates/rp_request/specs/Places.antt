@@ -1,6 +1,6 @@
 -- Places of a command: the applied items that name it, by client and by the command's number among
 -- the client's, whichever attempt they name.
-use Rattle.std.specs.Prelude.{ℕ, ◌≤◌, Bool, false, ◌==◌, ◌&&◌, List, count_by, sum_by}
+use Rattle.std.specs.Prelude.{◌≡◌, ℕ, ◌≤◌, Bool, false, ◌==◌, ◌&&◌, List, count_by, IsTrue, Some, slice_get}
 use Rattle.rp_base.specs.declared.ids.CmdId.{CmdId}
 use Rattle.rp_request.specs.declared.items.Place.{Place}
 use Rattle.rp_request.specs.declared.items.Place.TheVariants.{Write, Split, Lease}
@@ -23,6 +23,13 @@ places_of client seq items = count_by (names client seq) items
 abbrev pub IsOnce : List Place → Type 0
 IsOnce items = (client seq : ℕ) → places_of client seq items ≤ 1
 
--- each command has at most one place in all these lists together
-abbrev pub IsOnceInAll : List (List Place) → Type 0
-IsOnceInAll lists = (client seq : ℕ) → sum_by (places_of client seq) lists ≤ 1
+-- the command has a place in this range's list, at this index
+pub record IsPlaceOf (lists : ℕ → List Place) (client seq range index : ℕ) : Type 0 where
+  pub item : Place
+  pub here : slice_get (lists range) index ≡ Some item
+  pub named : IsTrue (names client seq item)
+
+-- each command has at most one place over the lists of all ranges
+abbrev pub IsOnceInAll : (ℕ → List Place) → Type 0
+IsOnceInAll lists = (client seq range index range' index' : ℕ) → IsPlaceOf lists client seq range index
+    → IsPlaceOf lists client seq range' index' → (range ≡ range') × (index ≡ index')

@@ -4,6 +4,7 @@
 
 mod commands;
 mod items;
+pub mod laws;
 mod notes;
 mod outcomes;
 mod requests;

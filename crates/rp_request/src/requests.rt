@@ -46,12 +46,13 @@ pub enum Request {
 pub type RequestList = Seq<Request>;
 
 impl Request {
-    ghost use Rattle.rp_request.specs.Covers.{spans_of};
+    ghost use Rattle.rp_request.specs.Covers.{spans_of, HasKeys};
 
     /// The spans of keys that the request may read and change; at a move, that of the key that is
     /// taken from comes first. A split has the whole key space.
     pub fn spans(&self) -> Spans
-        ensures { result ≡ spans_of self.now }
+        ensures spans { result ≡ spans_of self.now }
+        ensures keys { HasKeys self.now }
     {
         match *self {
             Request::Put { key, .. }

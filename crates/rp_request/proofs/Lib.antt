@@ -1,0 +1,5 @@
+pub mod Covering
+pub mod Folds
+pub mod Locality
+pub mod Once
+pub mod Tables
