@@ -1,0 +1,4 @@
+pub mod World
+pub use Rattle.rp_raftlog.specs.LogState
+pub use Rattle.rp_raft.specs.RaftState
+pub use Rattle.rp_raft.specs.Step
