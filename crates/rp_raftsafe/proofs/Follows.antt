@@ -135,7 +135,7 @@ following_ok g a p applied state st from other ok = record {
   some_same x y e = cc
 
 -- a message of a lower term is refused
-refused_old_ok : {S : Type 0} (g : Range S) (a : Abs) (p applied : ℕ) (state : S) (st : RaftState) (from : ℕ) → Inv g.nodes a → (from ≡ p → ⊥) → NodeOk g a p st applied state → DraftOk g a p applied state (refused_old st from)
+pub refused_old_ok : {S : Type 0} (g : Range S) (a : Abs) (p applied : ℕ) (state : S) (st : RaftState) (from : ℕ) → Inv g.nodes a → (from ≡ p → ⊥) → NodeOk g a p st applied state → DraftOk g a p applied state (refused_old st from)
 refused_old_ok g a p applied state st from h other ok = answered_ok g a p applied state st from (AppendReply st.head.term false st.head.commit) h ok (record { other = other; fact = λ e. absurd (false_true e) })
   where
   false_true : false ≡ true → ⊥
