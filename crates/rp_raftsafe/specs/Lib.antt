@@ -1,4 +1,6 @@
 pub mod World
+pub mod Safety
 pub use Rattle.rp_raftlog.specs.LogState
 pub use Rattle.rp_raft.specs.RaftState
 pub use Rattle.rp_raft.specs.Step
+pub use Rattle.rp_raft.specs.Conditions
