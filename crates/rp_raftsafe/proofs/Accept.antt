@@ -34,7 +34,7 @@ same_terms_stop (x ∷ xs) (y ∷ ys) zero = cond_both (eqb x.term y.term) (suc 
 same_terms_stop (x ∷ xs) (y ∷ ys) (suc k) = cond_both (eqb x.term y.term) (suc (same_terms xs ys)) 0 (λ z. suc k ≡ z → suc k < suc (length xs) → suc k < suc (length ys) → tm xs k ≡ tm ys k → ⊥) (λ _ e lx ly. same_terms_stop xs ys k (omega arith) (omega arith) (omega arith)) (λ _ e. absurd (omega arith))
 
 -- the terms of a part of a log
-tm_part : (xs : List Entry) (from most k : ℕ) → k < most → tm (take most (drop from xs)) k ≡ tm xs (from + k)
+pub tm_part : (xs : List Entry) (from most k : ℕ) → k < most → tm (take most (drop from xs)) k ≡ tm xs (from + k)
 tm_part xs from most k lt = ap (λ z. z.term) (get_or-take most (drop from xs) k no_entry lt ∙ get_or-drop from xs k no_entry)
 
 tm_drop : (xs : List Entry) (from k : ℕ) → tm (drop from xs) k ≡ tm xs (from + k)
@@ -56,7 +56,7 @@ tm_take_le xs m t le j =
 
 -- where two logs agree up to a place, the entries that follow there in one of them agree with the other as far as the terms do
 module _ (llog : ℕ → List Entry) (xs l : List Entry) (place : ℕ) (news : List Entry) (gx : Good llog xs) (gl : Good llog l)
-  (px : place ≤ length xs) (pl : place ≤ length l) (front : take place xs ≡ take place l) (stand : take (length news) (drop place l) ≡ news) where
+    (px : place ≤ length xs) (pl : place ≤ length l) (front : take place xs ≡ take place l) (stand : take (length news) (drop place l) ≡ news) where
   news_within : place + length news ≤ length l
   news_within = omega (arith, ap length stand, length-take (length news) (drop place l), length-drop place l)
 
@@ -89,11 +89,11 @@ module _ (llog : ℕ → List Entry) (xs l : List Entry) (place : ℕ) (news : L
   cut_view : (base from k rest : ℕ) → base + from ≡ place → k ≡ same_terms news (drop place xs) → k + rest ≡ length news → take (from + k) (drop base xs) ++ drop k news ≡ drop base (take (place + length news) l)
   cut_view base from k rest at same all =
       let seen : drop base (take (place + length news) l) ≡ take (from + k + rest) (drop base l) =
-        ap (λ z. drop base (take z l)) (omega (arith, at, all)) ∙ drop-take base (from + k + rest) l in
+      ap (λ z. drop base (take z l)) (omega (arith, at, all)) ∙ drop-take base (from + k + rest) l in
       let first : take (from + k) (drop base l) ≡ take (from + k) (drop base xs) =
-        sym (drop-take base (from + k) l) ∙ ap (λ z. drop base (take z l)) (omega (arith, at)) ∙ ap (drop base) (sym (agree_to k same)) ∙ ap (λ z. drop base (take z xs)) (omega (arith, at)) ∙ drop-take base (from + k) xs in
+      sym (drop-take base (from + k) l) ∙ ap (λ z. drop base (take z l)) (omega (arith, at)) ∙ ap (drop base) (sym (agree_to k same)) ∙ ap (λ z. drop base (take z xs)) (omega (arith, at)) ∙ drop-take base (from + k) xs in
       let last : take rest (drop (from + k) (drop base l)) ≡ drop k news =
-        ap (take rest) (drop-drop (from + k) base l ∙ ap (λ z. drop z l) (omega (arith, at)) ∙ sym (drop-drop k place l)) ∙ sym (drop-take k rest (drop place l)) ∙ ap (drop k) (ap (λ z. take z (drop place l)) all ∙ stand) in
+      ap (take rest) (drop-drop (from + k) base l ∙ ap (λ z. drop z l) (omega (arith, at)) ∙ sym (drop-drop k place l)) ∙ sym (drop-take k rest (drop place l)) ∙ ap (drop k) (ap (λ z. take z (drop place l)) all ∙ stand) in
       sym (seen ∙ take-add (from + k) rest (drop base l) ∙ ap (λ z. z ++ take rest (drop (from + k) (drop base l))) first ∙ ap (λ z. take (from + k) (drop base xs) ++ z) last)
 
 -- what an edit of a log by entries of the leader makes of it, as the machine stores it
@@ -118,9 +118,8 @@ news_stand ll es prev skip stand =
     (cases_lt (length es) skip)
 
 module _ (n : ℕ) (a : Abs) (p : ℕ) (l : LogState) (prev prev_term : ℕ) (es : List Entry) (h : Inv n a) (s : Shows (a.log p) l)
-  (within : prev ≤ length (a.llog (a.term p))) (stand : take (length es) (drop prev (a.llog (a.term p))) ≡ es) (before : term_in (a.llog (a.term p)) prev ≡ prev_term)
-  (based : take l.base (a.log p) ≡ take l.base (a.llog (a.term p))) where
-
+    (within : prev ≤ length (a.llog (a.term p))) (stand : take (length es) (drop prev (a.llog (a.term p))) ≡ es) (before : term_in (a.llog (a.term p)) prev ≡ prev_term)
+    (based : take l.base (a.log p) ≡ take l.base (a.llog (a.term p))) where
   -- both logs have the first entries in common, up to the previous index and the base
   in_common : matches l prev prev_term ≡ true → (prev + (l.base - prev) ≤ length (a.log p)) × (take (prev + (l.base - prev)) (a.log p) ≡ take (prev + (l.base - prev)) (a.llog (a.term p)))
   in_common =
@@ -135,9 +134,9 @@ module _ (n : ℕ) (a : Abs) (p : ℕ) (l : LogState) (prev prev_term : ℕ) (es
       let e : prev ≡ prev + (l.base - prev) = omega arith in
       (omega (arith, ok.within), subst (λ z. take z (a.log p) ≡ take z (a.llog (a.term p))) e (matched prev ok.within within (ok.term ∙ sym before))))
     where
-    matched : (k : ℕ) → k ≤ length (a.log p) → k ≤ length (a.llog (a.term p)) → term_in (a.log p) k ≡ term_in (a.llog (a.term p)) k → take k (a.log p) ≡ take k (a.llog (a.term p))
-    matched zero lx ll e = refl
-    matched (suc k) lx ll e = logs_match a.llog (a.log p) (a.llog (a.term p)) k (h.good_log p) (h.good_llog (a.term p)) lx ll e
+      matched : (k : ℕ) → k ≤ length (a.log p) → k ≤ length (a.llog (a.term p)) → term_in (a.log p) k ≡ term_in (a.llog (a.term p)) k → take k (a.log p) ≡ take k (a.llog (a.term p))
+      matched zero lx ll e = refl
+      matched (suc k) lx ll e = logs_match a.llog (a.log p) (a.llog (a.term p)) k (h.good_log p) (h.good_llog (a.term p)) lx ll e
 
   from_place : (place from : ℕ) (news : List Entry) → place ≤ length (a.log p) → take place (a.log p) ≡ take place (a.llog (a.term p)) → take (length news) (drop place (a.llog (a.term p))) ≡ news → l.base + from ≡ place → EditOk a p l (overlay l.entries from news) (place + length news)
   from_place place from news inside common stands at =
@@ -174,9 +173,9 @@ module _ (n : ℕ) (a : Abs) (p : ℕ) (l : LogState) (prev prev_term : ℕ) (es
         shows = record {
           within = omega (arith, len);
           entries = sym (ap (λ z. take (from + same_terms news (drop from l.entries)) z ++ drop (same_terms news (drop from l.entries)) news) (sym s.entries)
-            ∙ cut_view a.llog (a.log p) (a.llog (a.term p)) place news gx gl inside inside' common stands l.base from (same_terms news (drop from l.entries)) (length news - same_terms news (drop from l.entries)) at same (omega arith));
+              ∙ cut_view a.llog (a.log p) (a.llog (a.term p)) place news gx gl inside inside' common stands l.base from (same_terms news (drop from l.entries)) (length news - same_terms news (drop from l.entries)) at same (omega arith));
           base_term = same_term_in l.base l.base (take (place + length news) (a.llog (a.term p))) (a.log p) (omega arith)
-            (take-take l.base (place + length news) (a.llog (a.term p)) (omega arith) ∙ sym based) ∙ s.base_term;
+              (take-take l.base (place + length news) (a.llog (a.term p)) (omega arith) ∙ sym based) ∙ s.base_term;
         };
         stores = record {
           good = good_take a.llog (a.llog (a.term p)) (place + length news) fits gl;
@@ -184,8 +183,8 @@ module _ (n : ℕ) (a : Abs) (p : ℕ) (l : LogState) (prev prev_term : ℕ) (es
           within = fits;
           front = take-take (place + length news) (place + length news) (a.llog (a.term p)) (omega arith);
           kept = λ j le e.
-            let short : j ≤ place + same_terms news (drop from l.entries) = parts a.llog (a.log p) (a.llog (a.term p)) place news gx gl inside inside' common stands (same_terms news (drop from l.entries)) same less j le e in
-            take-take j (place + length news) (a.llog (a.term p)) (omega arith);
+              let short : j ≤ place + same_terms news (drop from l.entries) = parts a.llog (a.log p) (a.llog (a.term p)) place news gx gl inside inside' common stands (same_terms news (drop from l.entries)) same less j le e in
+              take-take j (place + length news) (a.llog (a.term p)) (omega arith);
         };
       })
 

@@ -41,20 +41,20 @@ not_of_term n a t h leaderless p j within own =
 later_holds : (n : ℕ) (a : Abs) → Inv n a → (c t j : ℕ) → t < last_tm (a.log c) → Proper a.llog t j → Open n a.term a.ack t j → take (suc j) (a.llog t) ≡ take (suc j) (a.log c)
 later_holds n a h c t j lt proper opens = with_length (length (a.log c)) refl
   where
-  with_length : (k : ℕ) → length (a.log c) ≡ k → take (suc j) (a.llog t) ≡ take (suc j) (a.log c)
-  with_length zero e = absurd (omega (arith, ap (λ z. term_in (a.log c) z) e))
-  with_length (suc k) e =
-    let led : 0 < a.lead (last_tm (a.log c)) = leader_of_last n a h c (omega arith) in
-    let last : last_tm (a.log c) ≡ tm (a.log c) k = ap (term_in (a.log c)) e in
-    let whole : take (suc k) (a.log c) ≡ take (suc k) (a.llog (last_tm (a.log c))) = subst (λ z. take z (a.log c) ≡ take z (a.llog (last_tm (a.log c)))) e (whole_front a.llog (a.log c) (h.good_log c)) in
-    let done : take (suc j) (a.llog t) ≡ take (suc j) (a.llog (last_tm (a.log c))) = h.complete (last_tm (a.log c)) t j led lt proper opens in
-    ⊎_elim
-    (λ (short : k < j).
-    let at : tm (a.llog t) k ≡ tm (a.llog (last_tm (a.log c))) k = same_tm k (suc j) (a.llog t) (a.llog (last_tm (a.log c))) (omega arith) done in
-    let here : tm (a.log c) k ≡ tm (a.llog (last_tm (a.log c))) k = same_tm k (suc k) (a.log c) (a.llog (last_tm (a.log c))) (omega arith) whole in
-    absurd (omega (arith, at, here, last, h.llog_terms t k)))
-    (λ (long : j ≤ k). done ∙ sym (same_less (suc j) (suc k) (a.log c) (a.llog (last_tm (a.log c))) (omega arith) whole))
-    (cases_lt k j)
+    with_length : (k : ℕ) → length (a.log c) ≡ k → take (suc j) (a.llog t) ≡ take (suc j) (a.log c)
+    with_length zero e = absurd (omega (arith, ap (λ z. term_in (a.log c) z) e))
+    with_length (suc k) e =
+        let led : 0 < a.lead (last_tm (a.log c)) = leader_of_last n a h c (omega arith) in
+        let last : last_tm (a.log c) ≡ tm (a.log c) k = ap (term_in (a.log c)) e in
+        let whole : take (suc k) (a.log c) ≡ take (suc k) (a.llog (last_tm (a.log c))) = subst (λ z. take z (a.log c) ≡ take z (a.llog (last_tm (a.log c)))) e (whole_front a.llog (a.log c) (h.good_log c)) in
+        let done : take (suc j) (a.llog t) ≡ take (suc j) (a.llog (last_tm (a.log c))) = h.complete (last_tm (a.log c)) t j led lt proper opens in
+        ⊎_elim
+        (λ (short : k < j).
+        let at : tm (a.llog t) k ≡ tm (a.llog (last_tm (a.log c))) k = same_tm k (suc j) (a.llog t) (a.llog (last_tm (a.log c))) (omega arith) done in
+        let here : tm (a.log c) k ≡ tm (a.llog (last_tm (a.log c))) k = same_tm k (suc k) (a.log c) (a.llog (last_tm (a.log c))) (omega arith) whole in
+        absurd (omega (arith, at, here, last, h.llog_terms t k)))
+        (λ (long : j ≤ k). done ∙ sym (same_less (suc j) (suc k) (a.log c) (a.llog (last_tm (a.log c))) (omega arith) whole))
+        (cases_lt k j)
 
 elect_complete : (n : ℕ) (a : Abs) (c : ℕ) → Inv n a → Elects n a c → (t j : ℕ) → t < a.term c → Proper a.llog t j → Open n a.term a.ack t j → take (suc j) (a.llog t) ≡ take (suc j) (a.log c)
 elect_complete n a c h g t j lt proper opens =
@@ -102,51 +102,51 @@ elect_keeps n a c g h = record {
   asked_first = h.asked_first;
   elected = λ t. at_upd (λ x. 0 < x → Majority n (λ q. a.vote q t ≡ x)) a.lead (a.term c) c t (λ e _. subst (λ z. Majority n (λ q. a.vote q z ≡ c)) (sym e) g.votes) (λ ne pos. h.elected t pos);
   unled = λ t.
-  at_upd (λ x. x ≡ 0 → upd a.llog (a.term c) (a.log c) t ≡ []) a.lead (a.term c) c t
-  (λ e z. absurd (omega (arith, g.positive)))
-  (λ ne z. at_upd (λ x. x ≡ []) a.llog (a.term c) (a.log c) t (λ e. absurd (ne e)) (λ _. h.unled t z));
+      at_upd (λ x. x ≡ 0 → upd a.llog (a.term c) (a.log c) t ≡ []) a.lead (a.term c) c t
+      (λ e z. absurd (omega (arith, g.positive)))
+      (λ ne z. at_upd (λ x. x ≡ []) a.llog (a.term c) (a.log c) t (λ e. absurd (ne e)) (λ _. h.unled t z));
   lead_term = λ t. at_upd (λ x. 0 < x → t ≤ a.term x) a.lead (a.term c) c t (λ e _. omega arith) (λ ne pos. h.lead_term t pos);
   lead_log = λ p pos.
-  at_upd (λ x. x ≡ p → a.log p ≡ upd a.llog (a.term c) (a.log c) (a.term p)) a.lead (a.term c) c (a.term p)
-  (λ e cp. at_upd (λ x. a.log p ≡ x) a.llog (a.term c) (a.log c) (a.term p) (λ _. ap a.log (sym cp)) (λ ne. absurd (ne e)))
-  (λ ne lp. at_upd (λ x. a.log p ≡ x) a.llog (a.term c) (a.log c) (a.term p) (λ e. absurd (ne e)) (λ _. h.lead_log p pos lp));
+      at_upd (λ x. x ≡ p → a.log p ≡ upd a.llog (a.term c) (a.log c) (a.term p)) a.lead (a.term c) c (a.term p)
+      (λ e cp. at_upd (λ x. a.log p ≡ x) a.llog (a.term c) (a.log c) (a.term p) (λ _. ap a.log (sym cp)) (λ ne. absurd (ne e)))
+      (λ ne lp. at_upd (λ x. a.log p ≡ x) a.llog (a.term c) (a.log c) (a.term p) (λ e. absurd (ne e)) (λ _. h.lead_log p pos lp));
   lead_ack = λ t.
-  at_upd (λ x. 0 < x → upd2 a.ack c (a.term c) (length (a.log c)) x t ≡ length (upd a.llog (a.term c) (a.log c) t)) a.lead (a.term c) c t
-  (λ e _.
-  at_upd2 (λ x. x ≡ length (upd a.llog (a.term c) (a.log c) t)) a.ack c (a.term c) (length (a.log c)) c t
-  (λ _ _. at_upd (λ x. length (a.log c) ≡ length x) a.llog (a.term c) (a.log c) t (λ _. refl) (λ ne. absurd (ne e)))
-  (λ ne. absurd (ne refl e)))
-  (λ ne pos.
-  at_upd2 (λ x. x ≡ length (upd a.llog (a.term c) (a.log c) t)) a.ack c (a.term c) (length (a.log c)) (a.lead t) t
-  (λ _ et. absurd (ne et))
-  (λ _. at_upd (λ x. a.ack (a.lead t) t ≡ length x) a.llog (a.term c) (a.log c) t (λ e. absurd (ne e)) (λ _. h.lead_ack t pos)));
+      at_upd (λ x. 0 < x → upd2 a.ack c (a.term c) (length (a.log c)) x t ≡ length (upd a.llog (a.term c) (a.log c) t)) a.lead (a.term c) c t
+      (λ e _.
+      at_upd2 (λ x. x ≡ length (upd a.llog (a.term c) (a.log c) t)) a.ack c (a.term c) (length (a.log c)) c t
+      (λ _ _. at_upd (λ x. length (a.log c) ≡ length x) a.llog (a.term c) (a.log c) t (λ _. refl) (λ ne. absurd (ne e)))
+      (λ ne. absurd (ne refl e)))
+      (λ ne pos.
+      at_upd2 (λ x. x ≡ length (upd a.llog (a.term c) (a.log c) t)) a.ack c (a.term c) (length (a.log c)) (a.lead t) t
+      (λ _ et. absurd (ne et))
+      (λ _. at_upd (λ x. a.ack (a.lead t) t ≡ length x) a.llog (a.term c) (a.log c) t (λ e. absurd (ne e)) (λ _. h.lead_ack t pos)));
   good_log = λ p. good_more a.llog (upd a.llog (a.term c) (a.log c)) (a.log p) (elect_longer n a c h g) (h.good_log p);
   good_llog = λ t.
-  at_upd (λ x. Good (upd a.llog (a.term c) (a.log c)) x) a.llog (a.term c) (a.log c) t
-  (λ _. good_more a.llog (upd a.llog (a.term c) (a.log c)) (a.log c) (elect_longer n a c h g) (h.good_log c))
-  (λ _. good_more a.llog (upd a.llog (a.term c) (a.log c)) (a.llog t) (elect_longer n a c h g) (h.good_llog t));
+      at_upd (λ x. Good (upd a.llog (a.term c) (a.log c)) x) a.llog (a.term c) (a.log c) t
+      (λ _. good_more a.llog (upd a.llog (a.term c) (a.log c)) (a.log c) (elect_longer n a c h g) (h.good_log c))
+      (λ _. good_more a.llog (upd a.llog (a.term c) (a.log c)) (a.llog t) (elect_longer n a c h g) (h.good_llog t));
   log_terms = h.log_terms;
   llog_terms = λ t j. at_upd (λ x. tm x j ≤ t) a.llog (a.term c) (a.log c) t (λ e. omega (arith, h.log_terms c j)) (λ ne. h.llog_terms t j);
   ack_length = λ p t.
-  at_upd2 (λ x. x ≤ length (upd a.llog (a.term c) (a.log c) t)) a.ack c (a.term c) (length (a.log c)) p t
-  (λ _ et. at_upd (λ x. length (a.log c) ≤ length x) a.llog (a.term c) (a.log c) t (λ _. omega arith) (λ ne. absurd (ne et)))
-  (λ _. at_upd (λ x. a.ack p t ≤ length x) a.llog (a.term c) (a.log c) t (λ e. omega (arith, h.ack_length p t, ap length (h.unled t (ap a.lead e ∙ g.leaderless)))) (λ _. h.ack_length p t));
+      at_upd2 (λ x. x ≤ length (upd a.llog (a.term c) (a.log c) t)) a.ack c (a.term c) (length (a.log c)) p t
+      (λ _ et. at_upd (λ x. length (a.log c) ≤ length x) a.llog (a.term c) (a.log c) t (λ _. omega arith) (λ ne. absurd (ne et)))
+      (λ _. at_upd (λ x. a.ack p t ≤ length x) a.llog (a.term c) (a.log c) t (λ e. omega (arith, h.ack_length p t, ap length (h.unled t (ap a.lead e ∙ g.leaderless)))) (λ _. h.ack_length p t));
   ack_term = λ p t lt. at_upd2 (λ x. x ≡ 0) a.ack c (a.term c) (length (a.log c)) p t (λ ep et. absurd (omega (arith, ap a.term ep))) (λ ne. h.ack_term p t lt);
   stored = λ p t j proper opens acked.
-  let old : (t ≡ a.term c → ⊥) × Proper a.llog t j = elect_proper n a c h g t j proper in
-  let was : j < a.ack p t = at_upd2 (λ x. j < x → j < a.ack p t) a.ack c (a.term c) (length (a.log c)) p t (λ _ et _. absurd (old.0 et)) (λ _ k. k) acked in
-  at_upd (λ x. take (suc j) x ≡ take (suc j) (a.log p)) a.llog (a.term c) (a.log c) t (λ e. absurd (old.0 e)) (λ _. h.stored p t j old.1 (elect_open n a c t j opens) was);
+      let old : (t ≡ a.term c → ⊥) × Proper a.llog t j = elect_proper n a c h g t j proper in
+      let was : j < a.ack p t = at_upd2 (λ x. j < x → j < a.ack p t) a.ack c (a.term c) (length (a.log c)) p t (λ _ et _. absurd (old.0 et)) (λ _ k. k) acked in
+      at_upd (λ x. take (suc j) x ≡ take (suc j) (a.log p)) a.llog (a.term c) (a.log c) t (λ e. absurd (old.0 e)) (λ _. h.stored p t j old.1 (elect_open n a c t j opens) was);
   fresh = λ p s t j voted lt proper opens acked.
-  let old : (t ≡ a.term c → ⊥) × Proper a.llog t j = elect_proper n a c h g t j proper in
-  let was : j < a.ack p t = at_upd2 (λ x. j < x → j < a.ack p t) a.ack c (a.term c) (length (a.log c)) p t (λ _ et _. absurd (old.0 et)) (λ _ k. k) acked in
-  h.fresh p s t j voted lt old.1 (elect_open n a c t j opens) was;
+      let old : (t ≡ a.term c → ⊥) × Proper a.llog t j = elect_proper n a c h g t j proper in
+      let was : j < a.ack p t = at_upd2 (λ x. j < x → j < a.ack p t) a.ack c (a.term c) (length (a.log c)) p t (λ _ et _. absurd (old.0 et)) (λ _ k. k) acked in
+      h.fresh p s t j voted lt old.1 (elect_open n a c t j opens) was;
   complete = λ s t j led lt proper opens.
-  let old : (t ≡ a.term c → ⊥) × Proper a.llog t j = elect_proper n a c h g t j proper in
-  let opened : Open n a.term a.ack t j = elect_open n a c t j opens in
-  at_upd (λ x. take (suc j) x ≡ take (suc j) (upd a.llog (a.term c) (a.log c) s)) a.llog (a.term c) (a.log c) t
-  (λ e. absurd (old.0 e))
-  (λ _.
-  at_upd (λ x. take (suc j) (a.llog t) ≡ take (suc j) x) a.llog (a.term c) (a.log c) s
-  (λ es. elect_complete n a c h g t j (omega arith) old.1 opened)
-  (λ ns. h.complete s t j (at_upd (λ x. 0 < x → 0 < a.lead s) a.lead (a.term c) c s (λ es _. absurd (ns es)) (λ _ k. k) led) lt old.1 opened));
+      let old : (t ≡ a.term c → ⊥) × Proper a.llog t j = elect_proper n a c h g t j proper in
+      let opened : Open n a.term a.ack t j = elect_open n a c t j opens in
+      at_upd (λ x. take (suc j) x ≡ take (suc j) (upd a.llog (a.term c) (a.log c) s)) a.llog (a.term c) (a.log c) t
+      (λ e. absurd (old.0 e))
+      (λ _.
+      at_upd (λ x. take (suc j) (a.llog t) ≡ take (suc j) x) a.llog (a.term c) (a.log c) s
+      (λ es. elect_complete n a c h g t j (omega arith) old.1 opened)
+      (λ ns. h.complete s t j (at_upd (λ x. 0 < x → 0 < a.lead s) a.lead (a.term c) c s (λ es _. absurd (ns es)) (λ _ k. k) led) lt old.1 opened));
 }

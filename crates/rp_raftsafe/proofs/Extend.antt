@@ -30,13 +30,13 @@ module _ (n : ℕ) (a : Abs) (c : ℕ) (e : Entry) (h : Inv n a) (g : Extends a 
 
   pub longer : Longer a.llog (extend a c e).llog
   longer t = at_upd (λ x. take (length (a.llog t)) x ≡ a.llog t) a.llog (a.term c) (a.llog (a.term c) ++ e ∷ []) t
-    (λ et. subst (λ z. take (length (a.llog z)) (a.llog (a.term c) ++ e ∷ []) ≡ a.llog z) (sym et) (longer_push (a.llog (a.term c)) e))
-    (λ _. longer_refl (a.llog t))
+      (λ et. subst (λ z. take (length (a.llog z)) (a.llog (a.term c) ++ e ∷ []) ≡ a.llog z) (sym et) (longer_push (a.llog (a.term c)) e))
+      (λ _. longer_refl (a.llog t))
 
   pub longer_log : (p : ℕ) → take (length (a.log p)) ((extend a c e).log p) ≡ a.log p
   longer_log p = at_upd (λ x. take (length (a.log p)) x ≡ a.log p) a.log c (a.log c ++ e ∷ []) p
-    (λ ep. subst (λ z. take (length (a.log z)) (a.log c ++ e ∷ []) ≡ a.log z) (sym ep) (longer_push (a.log c) e))
-    (λ _. longer_refl (a.log p))
+      (λ ep. subst (λ z. take (length (a.log z)) (a.log c ++ e ∷ []) ≡ a.log z) (sym ep) (longer_push (a.log c) e))
+      (λ _. longer_refl (a.log p))
 
   new_log : (extend a c e).llog e.term ≡ a.log c ++ e ∷ []
   new_log = ap (extend a c e).llog g.own ∙ upd_same a.llog (a.term c) (a.llog (a.term c) ++ e ∷ []) ∙ ap (λ z. z ++ e ∷ []) (sym same_log)
@@ -88,45 +88,45 @@ module _ (n : ℕ) (a : Abs) (c : ℕ) (e : Entry) (h : Inv n a) (g : Extends a 
     unled = λ t z. at_upd (λ x. x ≡ []) a.llog (a.term c) (a.llog (a.term c) ++ e ∷ []) t (λ et. absurd (omega (arith, g.positive, g.leads, ap a.lead et))) (λ _. h.unled t z);
     lead_term = h.lead_term;
     lead_log = λ p pos lp.
-    at_upd (λ x. x ≡ (extend a c e).llog (a.term p)) a.log c (a.log c ++ e ∷ []) p
-    (λ ep. at_upd (λ y. a.log c ++ e ∷ [] ≡ y) a.llog (a.term c) (a.llog (a.term c) ++ e ∷ []) (a.term p) (λ _. ap (λ z. z ++ e ∷ []) same_log) (λ ne. absurd (ne (ap a.term ep))))
-    (λ ne. at_upd (λ y. a.log p ≡ y) a.llog (a.term c) (a.llog (a.term c) ++ e ∷ []) (a.term p) (λ et. absurd (ne (sym lp ∙ ap a.lead et ∙ g.leads))) (λ _. h.lead_log p pos lp));
+        at_upd (λ x. x ≡ (extend a c e).llog (a.term p)) a.log c (a.log c ++ e ∷ []) p
+        (λ ep. at_upd (λ y. a.log c ++ e ∷ [] ≡ y) a.llog (a.term c) (a.llog (a.term c) ++ e ∷ []) (a.term p) (λ _. ap (λ z. z ++ e ∷ []) same_log) (λ ne. absurd (ne (ap a.term ep))))
+        (λ ne. at_upd (λ y. a.log p ≡ y) a.llog (a.term c) (a.llog (a.term c) ++ e ∷ []) (a.term p) (λ et. absurd (ne (sym lp ∙ ap a.lead et ∙ g.leads))) (λ _. h.lead_log p pos lp));
     lead_ack = λ t pos.
-    at_upd2 (λ x. x ≡ length ((extend a c e).llog t)) a.ack c (a.term c) (suc (a.ack c (a.term c))) (a.lead t) t
-    (λ el et. at_upd (λ y. suc (a.ack c (a.term c)) ≡ length y) a.llog (a.term c) (a.llog (a.term c) ++ e ∷ []) t (λ _. omega (arith, full_ack, length_push (a.llog (a.term c)) e)) (λ ne. absurd (ne et)))
-    (λ ne. at_upd (λ y. a.ack (a.lead t) t ≡ length y) a.llog (a.term c) (a.llog (a.term c) ++ e ∷ []) t (λ et. absurd (ne (ap a.lead et ∙ g.leads) et)) (λ _. h.lead_ack t pos));
+        at_upd2 (λ x. x ≡ length ((extend a c e).llog t)) a.ack c (a.term c) (suc (a.ack c (a.term c))) (a.lead t) t
+        (λ el et. at_upd (λ y. suc (a.ack c (a.term c)) ≡ length y) a.llog (a.term c) (a.llog (a.term c) ++ e ∷ []) t (λ _. omega (arith, full_ack, length_push (a.llog (a.term c)) e)) (λ ne. absurd (ne et)))
+        (λ ne. at_upd (λ y. a.ack (a.lead t) t ≡ length y) a.llog (a.term c) (a.llog (a.term c) ++ e ∷ []) t (λ et. absurd (ne (ap a.lead et ∙ g.leads) et)) (λ _. h.lead_ack t pos));
     good_log = λ p.
-    at_upd (λ x. Good (extend a c e).llog x) a.log c (a.log c ++ e ∷ []) p
-    (λ _. good_push a.llog (extend a c e).llog (a.log c) e longer (h.good_log c) new_log)
-    (λ _. good_more a.llog (extend a c e).llog (a.log p) longer (h.good_log p));
+        at_upd (λ x. Good (extend a c e).llog x) a.log c (a.log c ++ e ∷ []) p
+        (λ _. good_push a.llog (extend a c e).llog (a.log c) e longer (h.good_log c) new_log)
+        (λ _. good_more a.llog (extend a c e).llog (a.log p) longer (h.good_log p));
     good_llog = λ t.
-    at_upd (λ x. Good (extend a c e).llog x) a.llog (a.term c) (a.llog (a.term c) ++ e ∷ []) t
-    (λ _. subst (λ z. Good (extend a c e).llog (z ++ e ∷ [])) same_log (good_push a.llog (extend a c e).llog (a.log c) e longer (h.good_log c) new_log))
-    (λ _. good_more a.llog (extend a c e).llog (a.llog t) longer (h.good_llog t));
+        at_upd (λ x. Good (extend a c e).llog x) a.llog (a.term c) (a.llog (a.term c) ++ e ∷ []) t
+        (λ _. subst (λ z. Good (extend a c e).llog (z ++ e ∷ [])) same_log (good_push a.llog (extend a c e).llog (a.log c) e longer (h.good_log c) new_log))
+        (λ _. good_more a.llog (extend a c e).llog (a.llog t) longer (h.good_llog t));
     log_terms = λ p j. at_upd (λ x. tm x j ≤ a.term p) a.log c (a.log c ++ e ∷ []) p (λ ep. subst (λ z. tm (a.log c ++ e ∷ []) j ≤ a.term z) (sym ep) (tm_push (a.log c) e (a.term c) (h.log_terms c) (omega (arith, g.own)) j)) (λ _. h.log_terms p j);
     llog_terms = λ t j. at_upd (λ x. tm x j ≤ t) a.llog (a.term c) (a.llog (a.term c) ++ e ∷ []) t (λ et. subst (λ z. tm (a.llog (a.term c) ++ e ∷ []) j ≤ z) (sym et) (tm_push (a.llog (a.term c)) e (a.term c) (h.llog_terms (a.term c)) (omega (arith, g.own)) j)) (λ _. h.llog_terms t j);
     ack_length = λ p t.
-    at_upd2 (λ x. x ≤ length ((extend a c e).llog t)) a.ack c (a.term c) (suc (a.ack c (a.term c))) p t
-    (λ ep et. at_upd (λ y. suc (a.ack c (a.term c)) ≤ length y) a.llog (a.term c) (a.llog (a.term c) ++ e ∷ []) t (λ _. omega (arith, full_ack, length_push (a.llog (a.term c)) e)) (λ ne. absurd (ne et)))
-    (λ _. omega (arith, h.ack_length p t, longer_length (a.llog t) ((extend a c e).llog t) (longer t)));
+        at_upd2 (λ x. x ≤ length ((extend a c e).llog t)) a.ack c (a.term c) (suc (a.ack c (a.term c))) p t
+        (λ ep et. at_upd (λ y. suc (a.ack c (a.term c)) ≤ length y) a.llog (a.term c) (a.llog (a.term c) ++ e ∷ []) t (λ _. omega (arith, full_ack, length_push (a.llog (a.term c)) e)) (λ ne. absurd (ne et)))
+        (λ _. omega (arith, h.ack_length p t, longer_length (a.llog t) ((extend a c e).llog t) (longer t)));
     ack_term = λ p t lt. at_upd2 (λ x. x ≡ 0) a.ack c (a.term c) (suc (a.ack c (a.term c))) p t (λ ep et. absurd (omega (arith, ap a.term ep))) (λ _. h.ack_term p t lt);
     stored = λ p t j proper opens acked.
-    at_upd2 (λ x. j < x → take (suc j) ((extend a c e).llog t) ≡ take (suc j) ((extend a c e).log p)) a.ack c (a.term c) (suc (a.ack c (a.term c))) p t
-    (λ ep et _. ap (take (suc j)) (at_upd (λ x. x ≡ (extend a c e).log p) a.llog (a.term c) (a.llog (a.term c) ++ e ∷ []) t (λ _. at_upd (λ y. a.llog (a.term c) ++ e ∷ [] ≡ y) a.log c (a.log c ++ e ∷ []) p (λ _. ap (λ z. z ++ e ∷ []) (sym same_log)) (λ ne. absurd (ne ep))) (λ ne. absurd (ne et))))
-    (λ _ k.
-    let le : j < length (a.llog t) = omega (arith, h.ack_length p t) in
-    still_log t p j le (h.stored p t j (proper_within t j le proper) (opened t j opens) k))
-    acked;
+        at_upd2 (λ x. j < x → take (suc j) ((extend a c e).llog t) ≡ take (suc j) ((extend a c e).log p)) a.ack c (a.term c) (suc (a.ack c (a.term c))) p t
+        (λ ep et _. ap (take (suc j)) (at_upd (λ x. x ≡ (extend a c e).log p) a.llog (a.term c) (a.llog (a.term c) ++ e ∷ []) t (λ _. at_upd (λ y. a.llog (a.term c) ++ e ∷ [] ≡ y) a.log c (a.log c ++ e ∷ []) p (λ _. ap (λ z. z ++ e ∷ []) (sym same_log)) (λ ne. absurd (ne ep))) (λ ne. absurd (ne et))))
+        (λ _ k.
+        let le : j < length (a.llog t) = omega (arith, h.ack_length p t) in
+        still_log t p j le (h.stored p t j (proper_within t j le proper) (opened t j opens) k))
+        acked;
     fresh = λ p s t j voted lt proper opens acked.
-    at_upd2 (λ x. j < x → IsFresh t j (a.asked s (a.vote p s))) a.ack c (a.term c) (suc (a.ack c (a.term c))) p t
-    (λ ep et _. absurd (omega (arith, h.unvoted p s (omega (arith, ap a.term ep)))))
-    (λ _ k. h.fresh p s t j voted lt (proper_within t j (omega (arith, h.ack_length p t)) proper) (opened t j opens) k)
-    acked;
+        at_upd2 (λ x. j < x → IsFresh t j (a.asked s (a.vote p s))) a.ack c (a.term c) (suc (a.ack c (a.term c))) p t
+        (λ ep et _. absurd (omega (arith, h.unvoted p s (omega (arith, ap a.term ep)))))
+        (λ _ k. h.fresh p s t j voted lt (proper_within t j (omega (arith, h.ack_length p t)) proper) (opened t j opens) k)
+        acked;
     complete = λ s t j led lt proper opens.
-    ⊎_elim
-    (λ (within : j < length (a.llog t)). still t s j within (h.complete s t j led lt (proper_within t j within proper) (opened t j opens)))
-    (λ (past : length (a.llog t) ≤ j). absurd (new_place_shut s t j led lt past (opened t j opens)))
-    (cases_lt j (length (a.llog t)));
+        ⊎_elim
+        (λ (within : j < length (a.llog t)). still t s j within (h.complete s t j led lt (proper_within t j within proper) (opened t j opens)))
+        (λ (past : length (a.llog t) ≤ j). absurd (new_place_shut s t j led lt past (opened t j opens)))
+        (cases_lt j (length (a.llog t)));
   }
 
 pub extend_keeps : (n : ℕ) (a : Abs) (c : ℕ) (e : Entry) → Extends a c e → Inv n a → Inv n (extend a c e)

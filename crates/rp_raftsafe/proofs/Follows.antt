@@ -49,10 +49,15 @@ observed_ok g a p applied state st t h ok =
       moves = raise_moves a p t up;
       inv = raise_keeps g.nodes a p t up h;
       node = record {
-        node = ok.node; nodes = ok.nodes;
+        node = ok.node;
+        nodes = ok.nodes;
         term = upd_same a.term p t;
         term_pos = omega arith;
-        log = ok.log; start_le = ok.start_le; based = ok.based; applied_le = ok.applied_le; state_is = ok.state_is;
+        log = ok.log;
+        start_le = ok.start_le;
+        based = ok.based;
+        applied_le = ok.applied_le;
+        state_is = ok.state_is;
         vote = λ _. h.unvoted p t up;
         known = λ l e _. absurd (none_some l e);
         role = tt;
@@ -92,54 +97,78 @@ on_vote_ok {S} g a p applied state st from t index index_term h pos pf other ok 
     granted (eqb-true t st.head.term parts'.0) parts.1 st.head.vote refl parts'.1)
     (λ _. answered_ok g a p applied state st from (VoteReply st.head.term false) h ok (record { other = other; fact = λ e. absurd (false_true e) }))
   where
-  false_true : false ≡ true → ⊥
-  false_true e = cc
-  voted_node : (b : Abs) → NodeOk g b p st applied state → (1 < st.head.term → b.vote p st.head.term ≡ from) → NodeOk g b p (record st { head = record st.head { vote = Some from; silent = 0 } }) applied state
-  voted_node b k v = record { node = k.node; nodes = k.nodes; term = k.term; term_pos = k.term_pos; log = k.log; start_le = k.start_le; based = k.based; applied_le = k.applied_le; state_is = k.state_is; vote = v; known = k.known; role = k.role; commit = k.commit }
-  reply : (b : Abs) → b.vote p st.head.term ≡ from → PacketOk {S = S} g b p (from, VoteReply st.head.term true)
-  reply b v = record { other = other; fact = λ _. record { positive = pf; voted = v } }
-  granted : t ≡ st.head.term → is_up_to_date st.log index index_term ≡ true → (v : Option ℕ) → v ≡ st.head.vote → option_map_or (λ vote. eqb vote from) v true ≡ true → DraftOk g a p applied state (answered (record st { head = record st.head { vote = Some from; silent = 0 } }) from (VoteReply st.head.term true))
-  granted same newer None ev may =
-      let free : a.vote p st.head.term ≡ 0 = ok.vote (omega (arith, m.late)) ∙ ap number (sym ev) in
-      let free' : a.vote p (a.term p) ≡ 0 = ap (a.vote p) ok.term ∙ free in
-      let tp : a.term p ≡ t = ok.term ∙ sym same in
-      let grants : Grants a p from = record {
-        positive = pf;
-        free = free';
-        up_to_date = subst (λ z. AtLeast (a.asked z from) (a.log p)) (sym tp) (up_to_date_is st.log (a.asked t from) (a.log p) index index_term ok.log m.last m.last_term newer);
-        stands = inr (ap (a.vote from) tp ∙ m.itself);
-      } in
-      let b : Abs = grant a p from in
-      let moves : Moves p a (grant a p from) = grant_moves a p from free' in
-      let voted : (grant a p from).vote p st.head.term ≡ from = at_upd2 (λ x. x ≡ from) a.vote p (a.term p) from p st.head.term (λ _ _. refl) (λ ne. absurd (ne refl (sym ok.term))) in
-      draft_after g a (grant a p from) p applied state _ moves
-      (answered_ok g (grant a p from) p applied state (record st { head = record st.head { vote = Some from; silent = 0 } }) from (VoteReply st.head.term true) (grant_keeps g.nodes a p from grants h)
-        (record { node = ok.node; nodes = ok.nodes; term = ok.term; term_pos = ok.term_pos; log = ok.log; start_le = ok.start_le; based = ok.based; applied_le = ok.applied_le; state_is = ok.state_is; vote = λ _. voted; known = ok.known;
+    false_true : false ≡ true → ⊥
+    false_true e = cc
+
+    voted_node : (b : Abs) → NodeOk g b p st applied state → (1 < st.head.term → b.vote p st.head.term ≡ from) → NodeOk g b p (record st { head = record st.head { vote = Some from; silent = 0 } }) applied state
+    voted_node b k v = record { node = k.node; nodes = k.nodes; term = k.term; term_pos = k.term_pos; log = k.log; start_le = k.start_le; based = k.based; applied_le = k.applied_le; state_is = k.state_is; vote = v; known = k.known; role = k.role; commit = k.commit }
+
+    reply : (b : Abs) → b.vote p st.head.term ≡ from → PacketOk {S = S} g b p (from, VoteReply st.head.term true)
+    reply b v = record { other = other; fact = λ _. record { positive = pf; voted = v } }
+
+    granted : t ≡ st.head.term → is_up_to_date st.log index index_term ≡ true → (v : Option ℕ) → v ≡ st.head.vote → option_map_or (λ vote. eqb vote from) v true ≡ true → DraftOk g a p applied state (answered (record st { head = record st.head { vote = Some from; silent = 0 } }) from (VoteReply st.head.term true))
+    granted same newer None ev may =
+        let free : a.vote p st.head.term ≡ 0 = ok.vote (omega (arith, m.late)) ∙ ap number (sym ev) in
+        let free' : a.vote p (a.term p) ≡ 0 = ap (a.vote p) ok.term ∙ free in
+        let tp : a.term p ≡ t = ok.term ∙ sym same in
+        let grants : Grants a p from = record {
+          positive = pf;
+          free = free';
+          up_to_date = subst (λ z. AtLeast (a.asked z from) (a.log p)) (sym tp) (up_to_date_is st.log (a.asked t from) (a.log p) index index_term ok.log m.last m.last_term newer);
+          stands = inr (ap (a.vote from) tp ∙ m.itself);
+        } in
+        let b : Abs = grant a p from in
+        let moves : Moves p a (grant a p from) = grant_moves a p from free' in
+        let voted : (grant a p from).vote p st.head.term ≡ from = at_upd2 (λ x. x ≡ from) a.vote p (a.term p) from p st.head.term (λ _ _. refl) (λ ne. absurd (ne refl (sym ok.term))) in
+        draft_after g a (grant a p from) p applied state _ moves
+        (answered_ok g (grant a p from) p applied state (record st { head = record st.head { vote = Some from; silent = 0 } }) from (VoteReply st.head.term true) (grant_keeps g.nodes a p from grants h)
+        (record {
+          node = ok.node;
+          nodes = ok.nodes;
+          term = ok.term;
+          term_pos = ok.term_pos;
+          log = ok.log;
+          start_le = ok.start_le;
+          based = ok.based;
+          applied_le = ok.applied_le;
+          state_is = ok.state_is;
+          vote = λ _. voted;
+          known = ok.known;
           role = role_grants a p from st.head.term pos ok.term free (a.log p) st.head.next st.head.matched st.head.votes st.head.role ok.role;
-          commit = commits_grow g.nodes a (grant a p from) moves.grows st.head.term st.head.commit (a.log p) ok.commit })
+          commit = commits_grow g.nodes a (grant a p from) moves.grows st.head.term st.head.commit (a.log p) ok.commit;
+        })
         (reply (grant a p from) voted))
-  granted same newer (Some v) ev may =
-      let voted : a.vote p st.head.term ≡ from = ok.vote (omega (arith, m.late)) ∙ ap number (sym ev) ∙ eqb-true v from may in
-      answered_ok g a p applied state (record st { head = record st.head { vote = Some from; silent = 0 } }) from (VoteReply st.head.term true) h (voted_node a ok (λ _. voted)) (reply a voted)
+    granted same newer (Some v) ev may =
+        let voted : a.vote p st.head.term ≡ from = ok.vote (omega (arith, m.late)) ∙ ap number (sym ev) ∙ eqb-true v from may in
+        answered_ok g a p applied state (record st { head = record st.head { vote = Some from; silent = 0 } }) from (VoteReply st.head.term true) h (voted_node a ok (λ _. voted)) (reply a voted)
 
 -- the sender leads the term
 pub following_ok : {S : Type 0} (g : Range S) (a : Abs) (p applied : ℕ) (state : S) (st : RaftState) (from : ℕ) → (from ≡ p → ⊥) → NodeOk g a p st applied state → NodeOk g a p (following st from) applied state
 following_ok g a p applied state st from other ok = record {
-  node = ok.node; nodes = ok.nodes; term = ok.term; term_pos = ok.term_pos; log = ok.log; start_le = ok.start_le; based = ok.based; applied_le = ok.applied_le; state_is = ok.state_is; vote = ok.vote;
+  node = ok.node;
+  nodes = ok.nodes;
+  term = ok.term;
+  term_pos = ok.term_pos;
+  log = ok.log;
+  start_le = ok.start_le;
+  based = ok.based;
+  applied_le = ok.applied_le;
+  state_is = ok.state_is;
+  vote = ok.vote;
   known = λ l e same. absurd (other (some_same from l e ∙ same));
   role = tt;
   commit = ok.commit;
 }
   where
-  some_same : (x y : ℕ) → Some x ≡ Some y → x ≡ y
-  some_same x y e = cc
+    some_same : (x y : ℕ) → Some x ≡ Some y → x ≡ y
+    some_same x y e = cc
 
 -- a message of a lower term is refused
 pub refused_old_ok : {S : Type 0} (g : Range S) (a : Abs) (p applied : ℕ) (state : S) (st : RaftState) (from : ℕ) → Inv g.nodes a → (from ≡ p → ⊥) → NodeOk g a p st applied state → DraftOk g a p applied state (refused_old st from)
 refused_old_ok g a p applied state st from h other ok = answered_ok g a p applied state st from (AppendReply st.head.term false st.head.commit) h ok (record { other = other; fact = λ e. absurd (false_true e) })
   where
-  false_true : false ≡ true → ⊥
-  false_true e = cc
+    false_true : false ≡ true → ⊥
+    false_true e = cc
 
 -- a follower that takes entries of its leader: its applied state stays
 module _ {S : Type 0} (g : Range S) (a : Abs) (p applied : ℕ) (state : S) (st : RaftState) (from : ℕ) (h : Inv g.nodes a) (pf : 0 < from) (other : from ≡ p → ⊥) (ok : NodeOk g a p st applied state) (follows : st.head.role ≡ Follower) (leads : a.lead st.head.term ≡ from) where
@@ -194,32 +223,32 @@ take_append_ok {S} g a p applied state st from prev prev_term es commit h pf oth
     let tp : a.llog (a.term p) ≡ a.llog st.head.term = ap a.llog ok.term in
     let based : take st.log.base (a.log p) ≡ take st.log.base (a.llog (a.term p)) = committed_same g a p applied state st from h pf other ok follows m.leads st.log.base (omega (arith, ok.based, ok.applied_le)) in
     let edit : EditOk a p st.log (accepting st.log prev es) (accepted_to st.log prev es) =
-      accept_is g.nodes a p st.log prev prev_term es h ok.log
-        (omega (arith, m.within, ap length tp))
-        (ap (λ z. take (length es) (drop prev z)) tp ∙ m.stand)
-        (ap (λ z. term_in z prev) tp ∙ m.before)
-        based fits in
+    accept_is g.nodes a p st.log prev prev_term es h ok.log
+    (omega (arith, m.within, ap length tp))
+    (ap (λ z. take (length es) (drop prev z)) tp ∙ m.stand)
+    (ap (λ z. term_in z prev) tp ∙ m.before)
+    based fits in
     let to : ℕ = accepted_to st.log prev es in
     let mine : Commits g.nodes a st.head.term st.head.commit edit.whole =
-      commits_more g.nodes a st.head.term st.head.term st.head.commit (a.log p) edit.whole (omega arith)
-      (committed_same g a p applied state st from h pf other ok follows m.leads st.head.commit (omega arith)
-        ∙ sym (edit.stores.kept st.head.commit (commits_within g.nodes a st.head.term st.head.commit (a.log p) ok.commit) (committed_same g a p applied state st from h pf other ok follows m.leads st.head.commit (omega arith))))
-      ok.commit in
+    commits_more g.nodes a st.head.term st.head.term st.head.commit (a.log p) edit.whole (omega arith)
+    (committed_same g a p applied state st from h pf other ok follows m.leads st.head.commit (omega arith)
+    ∙ sym (edit.stores.kept st.head.commit (commits_within g.nodes a st.head.term st.head.commit (a.log p) ok.commit) (committed_same g a p applied state st from h pf other ok follows m.leads st.head.commit (omega arith))))
+    ok.commit in
     let theirs : Commits g.nodes a st.head.term (min commit (prev + length es)) edit.whole =
-      commits_more g.nodes a st.head.term st.head.term (min commit (prev + length es)) (a.llog st.head.term) edit.whole (omega arith)
-      (sym (same_less (min commit (prev + length es)) (accepted_to st.log prev es) edit.whole (a.llog st.head.term) (omega arith) (edit.stores.front ∙ ap (take (accepted_to st.log prev es)) tp)))
-      (commits_less g.nodes a st.head.term (min commit (prev + length es)) commit (a.llog st.head.term) (omega arith) m.commits) in
+    commits_more g.nodes a st.head.term st.head.term (min commit (prev + length es)) (a.llog st.head.term) edit.whole (omega arith)
+    (sym (same_less (min commit (prev + length es)) (accepted_to st.log prev es) edit.whole (a.llog st.head.term) (omega arith) (edit.stores.front ∙ ap (take (accepted_to st.log prev es)) tp)))
+    (commits_less g.nodes a st.head.term (min commit (prev + length es)) commit (a.llog st.head.term) (omega arith) m.commits) in
     draft_after g a (store a p edit.whole (accepted_to st.log prev es)) p applied state _ (store_moves a p edit.whole (accepted_to st.log prev es))
     (answered_ok g (store a p edit.whole (accepted_to st.log prev es)) p applied state
-      (record { head = record st.head { commit = max st.head.commit (min commit (prev + length es)) }; log = accepted st.log prev es }) from (AppendReply st.head.term true (accepted_to st.log prev es))
-      (store_keeps g.nodes a p edit.whole (accepted_to st.log prev es) (under g a p applied state st from h pf other ok follows m.leads) edit.stores h)
-      (stored_node g a p applied state st from h pf other ok follows m.leads edit.whole (accepted_to st.log prev es) (accepted st.log prev es) (max st.head.commit (min commit (prev + length es))) edit.stores edit.shows (omega arith) ok.based (omega arith)
-        (commits_max g.nodes a st.head.term st.head.commit (min commit (prev + length es)) edit.whole mine theirs))
-      (stored_reply g a p applied state st from h pf other ok follows m.leads edit.whole (accepted_to st.log prev es))))
+    (record { head = record st.head { commit = max st.head.commit (min commit (prev + length es)) }; log = accepted st.log prev es }) from (AppendReply st.head.term true (accepted_to st.log prev es))
+    (store_keeps g.nodes a p edit.whole (accepted_to st.log prev es) (under g a p applied state st from h pf other ok follows m.leads) edit.stores h)
+    (stored_node g a p applied state st from h pf other ok follows m.leads edit.whole (accepted_to st.log prev es) (accepted st.log prev es) (max st.head.commit (min commit (prev + length es))) edit.stores edit.shows (omega arith) ok.based (omega arith)
+    (commits_max g.nodes a st.head.term st.head.commit (min commit (prev + length es)) edit.whole mine theirs))
+    (stored_reply g a p applied state st from h pf other ok follows m.leads edit.whole (accepted_to st.log prev es))))
     (λ _. answered_ok g a p applied state st from (AppendReply st.head.term false st.head.commit) h ok (record { other = other; fact = λ e. absurd (false_true e) }))
   where
-  false_true : false ≡ true → ⊥
-  false_true e = cc
+    false_true : false ≡ true → ⊥
+    false_true e = cc
 
 -- Append
 pub on_append_ok : {S : Type 0} (g : Range S) (a : Abs) (p applied : ℕ) (state : S) (st : RaftState) (from t prev prev_term : ℕ) (es : List Entry) (commit : ℕ) → Inv g.nodes a → 0 < from → (from ≡ p → ⊥) → NodeOk g a p st applied state → t ≤ st.head.term → AppendOk g.nodes a from t prev prev_term es commit → DraftOk g a p applied state (on_append st from t prev prev_term es commit)

@@ -39,27 +39,27 @@ pub grant_keeps : (n : ℕ) (a : Abs) (p c : ℕ) → Grants a p c → Inv n a �
 grant_keeps n a p c g h = record {
   unvoted = λ q s lt. at_upd2 (λ x. x ≡ 0) a.vote p (a.term p) c q s (λ eq es. absurd (omega (arith, ap a.term eq))) (λ ne. h.unvoted q s lt);
   asked_first = λ q s.
-  at_upd2 (λ x. 0 < x → upd2 a.vote p (a.term p) c x s ≡ x) a.vote p (a.term p) c q s
-  (λ eq es pos.
-  at_upd2 (λ x. x ≡ c) a.vote p (a.term p) c c s
-  (λ _ _. refl)
-  (λ ne. ⊎_elim (λ same. absurd (ne same es)) (λ stood. ap (a.vote c) es ∙ stood) g.stands))
-  (λ ne pos.
-  at_upd2 (λ x. x ≡ a.vote q s) a.vote p (a.term p) c (a.vote q s) s
-  (λ ev es.
-  let itself : a.vote (a.vote q s) s ≡ a.vote q s = h.asked_first q s pos in
-  let none : a.vote (a.vote q s) s ≡ 0 = subst (λ z. a.vote z s ≡ 0) (sym ev) (subst (λ z. a.vote p z ≡ 0) (sym es) g.free) in
-  absurd (omega (arith, itself, none)))
-  (λ ne'. h.asked_first q s pos));
+      at_upd2 (λ x. 0 < x → upd2 a.vote p (a.term p) c x s ≡ x) a.vote p (a.term p) c q s
+      (λ eq es pos.
+      at_upd2 (λ x. x ≡ c) a.vote p (a.term p) c c s
+      (λ _ _. refl)
+      (λ ne. ⊎_elim (λ same. absurd (ne same es)) (λ stood. ap (a.vote c) es ∙ stood) g.stands))
+      (λ ne pos.
+      at_upd2 (λ x. x ≡ a.vote q s) a.vote p (a.term p) c (a.vote q s) s
+      (λ ev es.
+      let itself : a.vote (a.vote q s) s ≡ a.vote q s = h.asked_first q s pos in
+      let none : a.vote (a.vote q s) s ≡ 0 = subst (λ z. a.vote z s ≡ 0) (sym ev) (subst (λ z. a.vote p z ≡ 0) (sym es) g.free) in
+      absurd (omega (arith, itself, none)))
+      (λ ne'. h.asked_first q s pos));
   elected = λ s pos.
-  majority_map n _ _
-  (λ q _ voted.
-  at_upd2 (λ x. x ≡ a.lead s) a.vote p (a.term p) c q s
-  (λ eq es.
-  let none : a.vote q s ≡ 0 = subst (λ z. a.vote z s ≡ 0) (sym eq) (subst (λ z. a.vote p z ≡ 0) (sym es) g.free) in
-  absurd (omega (arith, voted, none)))
-  (λ ne. voted))
-  (h.elected s pos);
+      majority_map n _ _
+      (λ q _ voted.
+      at_upd2 (λ x. x ≡ a.lead s) a.vote p (a.term p) c q s
+      (λ eq es.
+      let none : a.vote q s ≡ 0 = subst (λ z. a.vote z s ≡ 0) (sym eq) (subst (λ z. a.vote p z ≡ 0) (sym es) g.free) in
+      absurd (omega (arith, voted, none)))
+      (λ ne. voted))
+      (h.elected s pos);
   unled = h.unled;
   lead_term = h.lead_term;
   lead_log = h.lead_log;
@@ -72,13 +72,13 @@ grant_keeps n a p c g h = record {
   ack_term = h.ack_term;
   stored = h.stored;
   fresh = λ q u s j.
-  at_upd2 (λ x. 0 < x → s < u → Proper a.llog s j → Open n a.term a.ack s j → j < a.ack q s → IsFresh s j (a.asked u x)) a.vote p (a.term p) c q u
-  (λ eq eu pos lt proper opens acked.
-  let same : take (suc j) (a.llog s) ≡ take (suc j) (a.log p) = subst (λ z. take (suc j) (a.llog s) ≡ take (suc j) (a.log z)) eq (h.stored q s j proper opens acked) in
-  let within : suc j ≤ length (a.log p) = same_length (suc j) (a.llog s) (a.log p) proper.within same in
-  let at = same_tm j (suc j) (a.llog s) (a.log p) (omega arith) same in
-  let le : s ≤ last_tm (a.log p) = omega (arith, at, proper.own, last_ge n a h p j within) in
-  subst (λ z. IsFresh s j (a.asked z c)) (sym eu) (fresh_than s j (a.asked (a.term p) c) (a.log p) within le g.up_to_date))
-  (λ ne pos lt proper opens acked. h.fresh q u s j pos lt proper opens acked);
+      at_upd2 (λ x. 0 < x → s < u → Proper a.llog s j → Open n a.term a.ack s j → j < a.ack q s → IsFresh s j (a.asked u x)) a.vote p (a.term p) c q u
+      (λ eq eu pos lt proper opens acked.
+      let same : take (suc j) (a.llog s) ≡ take (suc j) (a.log p) = subst (λ z. take (suc j) (a.llog s) ≡ take (suc j) (a.log z)) eq (h.stored q s j proper opens acked) in
+      let within : suc j ≤ length (a.log p) = same_length (suc j) (a.llog s) (a.log p) proper.within same in
+      let at = same_tm j (suc j) (a.llog s) (a.log p) (omega arith) same in
+      let le : s ≤ last_tm (a.log p) = omega (arith, at, proper.own, last_ge n a h p j within) in
+      subst (λ z. IsFresh s j (a.asked z c)) (sym eu) (fresh_than s j (a.asked (a.term p) c) (a.log p) within le g.up_to_date))
+      (λ ne pos lt proper opens acked. h.fresh q u s j pos lt proper opens acked);
   complete = h.complete;
 }

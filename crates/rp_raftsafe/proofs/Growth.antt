@@ -54,20 +54,32 @@ pub raise_moves : (a : Abs) (p t : ℕ) → a.term p < t → Moves p a (raise a 
 raise_moves a p t up = record {
   grows = record {
     term = λ q. at_upd (λ x. a.term q ≤ x) a.term p t q (λ e. omega (arith, ap a.term e)) (λ _. omega arith);
-    vote = λ q s _. refl; asked = λ s c _. refl; lead = λ s _. refl; llog = λ s. longer_refl (a.llog s); ack = λ q s. omega arith;
+    vote = λ q s _. refl;
+    asked = λ s c _. refl;
+    lead = λ s _. refl;
+    llog = λ s. longer_refl (a.llog s);
+    ack = λ q s. omega arith;
   };
   term = λ q ne. at_upd (λ x. x ≡ a.term q) a.term p t q (λ e. absurd (ne e)) (λ _. refl);
-  log = λ q _. refl; vote = λ q s _. refl; lead = λ q s _ e. e;
+  log = λ q _. refl;
+  vote = λ q s _. refl;
+  lead = λ q s _ e. e;
 }
 
 pub ask_moves : (a : Abs) (p : ℕ) → a.vote p (a.term p) ≡ 0 → Moves p a (ask a p)
 ask_moves a p free = record {
   grows = record {
-    term = λ q. omega arith; vote = λ q s _. refl;
+    term = λ q. omega arith;
+    vote = λ q s _. refl;
     asked = λ s c pos. at_upd2 (λ x. x ≡ a.asked s c) a.asked (a.term p) p (a.log p) s c (λ es ec. absurd (omega (arith, subst (λ z. a.vote z s ≡ 0) (sym ec) (subst (λ z. a.vote p z ≡ 0) (sym es) free)))) (λ _. refl);
-    lead = λ s _. refl; llog = λ s. longer_refl (a.llog s); ack = λ q s. omega arith;
+    lead = λ s _. refl;
+    llog = λ s. longer_refl (a.llog s);
+    ack = λ q s. omega arith;
   };
-  term = λ q _. refl; log = λ q _. refl; vote = λ q s _. refl; lead = λ q s _ e. e;
+  term = λ q _. refl;
+  log = λ q _. refl;
+  vote = λ q s _. refl;
+  lead = λ q s _ e. e;
 }
 
 pub grant_moves : (a : Abs) (p c : ℕ) → a.vote p (a.term p) ≡ 0 → Moves p a (grant a p c)
@@ -75,9 +87,13 @@ grant_moves a p c free = record {
   grows = record {
     term = λ q. omega arith;
     vote = λ q s pos. at_upd2 (λ x. x ≡ a.vote q s) a.vote p (a.term p) c q s (λ eq es. absurd (omega (arith, subst (λ z. a.vote z s ≡ 0) (sym eq) (subst (λ z. a.vote p z ≡ 0) (sym es) free)))) (λ _. refl);
-    asked = λ s d _. refl; lead = λ s _. refl; llog = λ s. longer_refl (a.llog s); ack = λ q s. omega arith;
+    asked = λ s d _. refl;
+    lead = λ s _. refl;
+    llog = λ s. longer_refl (a.llog s);
+    ack = λ q s. omega arith;
   };
-  term = λ q _. refl; log = λ q _. refl;
+  term = λ q _. refl;
+  log = λ q _. refl;
   vote = λ q s ne. at_upd2 (λ x. x ≡ a.vote q s) a.vote p (a.term p) c q s (λ eq _. absurd (ne eq)) (λ _. refl);
   lead = λ q s _ e. e;
 }
@@ -85,35 +101,47 @@ grant_moves a p c free = record {
 pub elect_moves : (n : ℕ) (a : Abs) (c : ℕ) → Inv n a → Elects n a c → Moves c a (elect a c)
 elect_moves n a c h g = record {
   grows = record {
-    term = λ q. omega arith; vote = λ q s _. refl; asked = λ s d _. refl;
+    term = λ q. omega arith;
+    vote = λ q s _. refl;
+    asked = λ s d _. refl;
     lead = λ s pos. at_upd (λ x. x ≡ a.lead s) a.lead (a.term c) c s (λ es. absurd (omega (arith, ap a.lead es, g.leaderless))) (λ _. refl);
     llog = elect_longer n a c h g;
     ack = λ q s. at_upd2 (λ x. a.ack q s ≤ x) a.ack c (a.term c) (length (a.log c)) q s (λ eq es. omega (arith, h.ack_length q s, ap length (h.unled s (ap a.lead es ∙ g.leaderless)))) (λ _. omega arith);
   };
-  term = λ q _. refl; log = λ q _. refl; vote = λ q s _. refl;
+  term = λ q _. refl;
+  log = λ q _. refl;
+  vote = λ q s _. refl;
   lead = λ q s ne. at_upd (λ x. x ≡ q → a.lead s ≡ q) a.lead (a.term c) c s (λ _ e. absurd (ne (sym e))) (λ _ e. e);
 }
 
 pub extend_moves : (n : ℕ) (a : Abs) (c : ℕ) (e : Entry) → Inv n a → Extends a c e → Moves c a (extend a c e)
 extend_moves n a c e h g = record {
   grows = record {
-    term = λ q. omega arith; vote = λ q s _. refl; asked = λ s d _. refl; lead = λ s _. refl;
+    term = λ q. omega arith;
+    vote = λ q s _. refl;
+    asked = λ s d _. refl;
+    lead = λ s _. refl;
     llog = longer n a c e h g;
     ack = λ q s. at_upd2 (λ x. a.ack q s ≤ x) a.ack c (a.term c) (suc (a.ack c (a.term c))) q s (λ eq es. subst (λ z. a.ack z s ≤ suc (a.ack c (a.term c))) (sym eq) (subst (λ z. a.ack c z ≤ suc (a.ack c (a.term c))) (sym es) (omega arith))) (λ _. omega arith);
   };
   term = λ q _. refl;
   log = λ q ne. at_upd (λ x. x ≡ a.log q) a.log c (a.log c ++ e ∷ []) q (λ eq. absurd (ne eq)) (λ _. refl);
-  vote = λ q s _. refl; lead = λ q s _ e'. e';
+  vote = λ q s _. refl;
+  lead = λ q s _ e'. e';
 }
 
 pub store_moves : (a : Abs) (p : ℕ) (xs : List Entry) (m : ℕ) → Moves p a (store a p xs m)
 store_moves a p xs m = record {
   grows = record {
-    term = λ q. omega arith; vote = λ q s _. refl; asked = λ s d _. refl; lead = λ s _. refl;
+    term = λ q. omega arith;
+    vote = λ q s _. refl;
+    asked = λ s d _. refl;
+    lead = λ s _. refl;
     llog = λ s. longer_refl (a.llog s);
     ack = λ q s. at_upd2 (λ x. a.ack q s ≤ x) a.ack p (a.term p) (max (a.ack p (a.term p)) m) q s (λ eq es. subst (λ z. a.ack z s ≤ max (a.ack p (a.term p)) m) (sym eq) (subst (λ z. a.ack p z ≤ max (a.ack p (a.term p)) m) (sym es) (omega arith))) (λ _. omega arith);
   };
   term = λ q _. refl;
   log = λ q ne. at_upd (λ x. x ≡ a.log q) a.log p xs q (λ eq. absurd (ne eq)) (λ _. refl);
-  vote = λ q s _. refl; lead = λ q s _ e. e;
+  vote = λ q s _. refl;
+  lead = λ q s _ e. e;
 }

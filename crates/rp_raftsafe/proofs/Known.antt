@@ -68,12 +68,14 @@ cover_one g a p old (Live r) h c ok =
     let again : take r.raft.head.commit (take r.raft.head.commit (a.log p)) ≡ take r.raft.head.commit (a.log p) = take-take r.raft.head.commit r.raft.head.commit (a.log p) (omega arith) in
     let commits : Commits g.nodes a r.raft.head.term r.raft.head.commit (take r.raft.head.commit (a.log p)) = commits_more g.nodes a r.raft.head.term r.raft.head.term r.raft.head.commit (a.log p) (take r.raft.head.commit (a.log p)) (omega arith) (sym again) ok.commit in
     let agree : take (length old) old ≡ take (length old) (take r.raft.head.commit (a.log p)) =
-      commits_agree g.nodes a h c.by_term r.raft.head.term (length old) old (take r.raft.head.commit (a.log p)) c.commits (commits_less g.nodes a r.raft.head.term (length old) r.raft.head.commit (take r.raft.head.commit (a.log p)) (omega arith) commits) in
+    commits_agree g.nodes a h c.by_term r.raft.head.term (length old) old (take r.raft.head.commit (a.log p)) c.commits (commits_less g.nodes a r.raft.head.term (length old) r.raft.head.commit (take r.raft.head.commit (a.log p)) (omega arith) commits) in
     record {
       list = take r.raft.head.commit (a.log p);
       committed = record { by_term = r.raft.head.term; commits = subst (λ z. Commits g.nodes a r.raft.head.term z (take r.raft.head.commit (a.log p))) (sym len) commits };
-      prefix = (drop (length old) (take r.raft.head.commit (a.log p)),
-        ap (λ z. z ++ drop (length old) (take r.raft.head.commit (a.log p))) (sym (longer_refl old) ∙ agree) ∙ take-append-drop (length old) (take r.raft.head.commit (a.log p)));
+      prefix = (
+        drop (length old) (take r.raft.head.commit (a.log p)),
+        ap (λ z. z ++ drop (length old) (take r.raft.head.commit (a.log p))) (sym (longer_refl old) ∙ agree) ∙ take-append-drop (length old) (take r.raft.head.commit (a.log p)),
+      );
       covers = omega (arith, len);
     })
     (λ (le : r.raft.head.commit ≤ length old). record { list = old; committed = c; prefix = prefix_refl old; covers = le })
@@ -89,10 +91,10 @@ cover_all g a w old (suc n) ok c =
       committed = one.committed;
       prefix = prefix_trans old rest.list one.list rest.prefix one.prefix;
       covers = λ p pos le.
-        ⊎_elim
-        (λ (lt : p < suc n). covered_more (site w p).status (length rest.list) (length one.list) (prefix_length rest.list one.list one.prefix) (rest.covers p pos (omega arith)))
-        (λ (ge : suc n ≤ p). let same : suc n ≡ p = omega arith in subst (λ z. Covered (site w z).status (length one.list)) same one.covers)
-        (cases_lt p (suc n));
+          ⊎_elim
+          (λ (lt : p < suc n). covered_more (site w p).status (length rest.list) (length one.list) (prefix_length rest.list one.list one.prefix) (rest.covers p pos (omega arith)))
+          (λ (ge : suc n ≤ p). let same : suc n ≡ p = omega arith in subst (λ z. Covered (site w z).status (length one.list)) same one.covers)
+          (cases_lt p (suc n));
     }
 
 -- a world, the machine's state for it, and what is committed so far
@@ -124,10 +126,10 @@ next_known g w range k event =
       long = omega (arith, k.long);
       fronted = prefix_take k.list all.list g.base all.prefix k.long ∙ k.fronted;
       covers = λ p pos.
-        ⊎_elim
-        (λ (past : length (happens g w event) < p). past_the_nodes (happens g w event) p (length all.list) past)
-        (λ (le : p ≤ length (happens g w event)). all.covers p pos le)
-        (cases_lt (length (happens g w event)) p);
+          ⊎_elim
+          (λ (past : length (happens g w event) < p). past_the_nodes (happens g w event) p (length all.list) past)
+          (λ (le : p ≤ length (happens g w event)). all.covers p pos le)
+          (cases_lt (length (happens g w event)) p);
     }
 
 next_prefix : {S : Type 0} (g : Range S) (w : World S) (range : IsRange g) (k : Known g w) (event : Event) → IsPrefixOf k.list (next_known g w range k event).list
@@ -135,7 +137,7 @@ unfolding next_known
 next_prefix g w range k event =
     let step : After g k.to (happens g w event) = happens_ok g k.to w event range k.ok in
     (cover_all g step.to (happens g w event) k.list (length (happens g w event)) step.ok
-      (record { by_term = k.committed.by_term; commits = commits_grow g.nodes k.to step.to step.grows k.committed.by_term (length k.list) k.list k.committed.commits })).prefix
+    (record { by_term = k.committed.by_term; commits = commits_grow g.nodes k.to step.to step.grows k.committed.by_term (length k.list) k.list k.committed.commits })).prefix
 
 known_after : {S : Type 0} (g : Range S) (w : World S) → IsRange g → Known g w → (events : List Event) → Known g (run g events w)
 known_after g w range k [] = k
@@ -168,13 +170,14 @@ known_start {S} g range =
       covers = λ p pos. nobody p;
     }
   where
-  each : (n k : ℕ) (x : Site S) → get_or (replicate n x) k x ≡ x
-  each zero k x = refl
-  each (suc n) zero x = refl
-  each (suc n) (suc k) x = each n k x
-  nobody : (p : ℕ) → Covered (site (nowhere g) p).status (length (front g))
-  nobody zero = tt
-  nobody (suc k) = subst (λ (z : Site S). Covered z.status (length (front g))) (sym (each g.nodes k (record { status = Absent; sent = [] }))) tt
+    each : (n k : ℕ) (x : Site S) → get_or (replicate n x) k x ≡ x
+    each zero k x = refl
+    each (suc n) zero x = refl
+    each (suc n) (suc k) x = each n k x
+
+    nobody : (p : ℕ) → Covered (site (nowhere g) p).status (length (front g))
+    nobody zero = tt
+    nobody (suc k) = subst (λ (z : Site S). Covered z.status (length (front g))) (sym (each g.nodes k (record { status = Absent; sent = [] }))) tt
 
 -- a list that covers a replica is shown by it
 shown_ok : {S : Type 0} (g : Range S) (a : Abs) (p : ℕ) (r : Replica S) (list : List Entry) → Inv g.nodes a → Committed g.nodes a list → g.base ≤ length list → take g.base list ≡ front g → NodeOk g a p r.raft r.applied r.state → r.raft.head.commit ≤ length list → IsShown g (drop g.base list) r
@@ -191,32 +194,33 @@ shown_ok {S} g a p r list h c long fronted ok covers =
       commit_le = omega (arith, shows_last (a.log p) r.raft.log ok.log);
       covered = omega (arith, size);
       base_term = term_at_in list (range_log g (drop g.base list)) seen r.raft.log.base ok.start_le (omega arith)
-        ∙ ap Some (sym (same_term_in r.raft.log.base r.raft.head.commit (a.log p) list base_le same) ∙ ok.log.base_term);
+          ∙ ap Some (sym (same_term_in r.raft.log.base r.raft.head.commit (a.log p) list base_le same) ∙ ok.log.base_term);
       entries = λ k. at k;
       state = ok.state_is ∙ ap (λ z. fold g.act g.start (drop g.base z)) (same_less r.applied r.raft.head.commit (a.log p) list ok.applied_le same)
-        ∙ ap (λ z. fold g.act g.start (drop g.base (take z list))) (omega (arith, ok.start_le, ok.based))
-        ∙ ap (fold g.act g.start) (drop-take g.base (r.applied - g.base) list);
+          ∙ ap (λ z. fold g.act g.start (drop g.base (take z list))) (omega (arith, ok.start_le, ok.based))
+          ∙ ap (fold g.act g.start) (drop-take g.base (r.applied - g.base) list);
     }
   where
-  front_term : (b : ℕ) → term_in (replicate b (record { term = 1; payload = [] })) b ≡ start_term b
-  front_term zero = refl
-  front_term (suc n) = ap (λ z. z.term) (get_or-replicate (suc n) n (record { term = 1; payload = [] }) no_entry (omega arith))
-  at : (k : ℕ) → r.raft.log.base < k → k ≤ r.raft.head.commit → entry_at r.raft.log k ≡ entry_at (range_log g (drop g.base list)) k
-  at zero lt le = absurd (omega arith)
-  at (suc j) lt le =
-      let same : take r.raft.head.commit (a.log p) ≡ take r.raft.head.commit list = commits_agree g.nodes a h r.raft.head.term c.by_term r.raft.head.commit (a.log p) list ok.commit (commits_less g.nodes a c.by_term r.raft.head.commit (length list) list covers c.commits) in
-      let within : r.raft.head.commit ≤ length (a.log p) = commits_within g.nodes a r.raft.head.term r.raft.head.commit (a.log p) ok.commit in
-      let seen : Shows list (range_log g (drop g.base list)) = record { within = long; entries = refl; base_term = same_term_in g.base g.base list (front g) (omega arith) (fronted ∙ sym (take_all g.base (front g) (omega (arith, length-replicate {A = Entry} g.base (record { term = 1; payload = [] }))))) ∙ front_term g.base } in
-      entry_in (a.log p) r.raft.log ok.log j (omega arith) (omega arith)
-      ∙ ap Some (same_get j r.raft.head.commit (a.log p) list (omega arith) same)
-      ∙ sym (entry_in list (range_log g (drop g.base list)) seen j (omega (arith, ok.start_le)) (omega arith))
+    front_term : (b : ℕ) → term_in (replicate b (record { term = 1; payload = [] })) b ≡ start_term b
+    front_term zero = refl
+    front_term (suc n) = ap (λ z. z.term) (get_or-replicate (suc n) n (record { term = 1; payload = [] }) no_entry (omega arith))
+
+    at : (k : ℕ) → r.raft.log.base < k → k ≤ r.raft.head.commit → entry_at r.raft.log k ≡ entry_at (range_log g (drop g.base list)) k
+    at zero lt le = absurd (omega arith)
+    at (suc j) lt le =
+        let same : take r.raft.head.commit (a.log p) ≡ take r.raft.head.commit list = commits_agree g.nodes a h r.raft.head.term c.by_term r.raft.head.commit (a.log p) list ok.commit (commits_less g.nodes a c.by_term r.raft.head.commit (length list) list covers c.commits) in
+        let within : r.raft.head.commit ≤ length (a.log p) = commits_within g.nodes a r.raft.head.term r.raft.head.commit (a.log p) ok.commit in
+        let seen : Shows list (range_log g (drop g.base list)) = record { within = long; entries = refl; base_term = same_term_in g.base g.base list (front g) (omega arith) (fronted ∙ sym (take_all g.base (front g) (omega (arith, length-replicate {A = Entry} g.base (record { term = 1; payload = [] }))))) ∙ front_term g.base } in
+        entry_in (a.log p) r.raft.log ok.log j (omega arith) (omega arith)
+        ∙ ap Some (same_get j r.raft.head.commit (a.log p) list (omega arith) same)
+        ∙ sym (entry_in list (range_log g (drop g.base list)) seen j (omega (arith, ok.start_le)) (omega arith))
 
 -- a live replica of the world
 pub live_ok : {S : Type 0} (g : Range S) (a : Abs) (w : World S) → WorldOk g a w → (p : ℕ) (r : Replica S) → IsLive w p r → (0 < p) × NodeOk g a p r.raft r.applied r.state
 live_ok {S} g a w ok zero r live = absurd (absent_live live)
   where
-  absent_live : ◌≡◌ {A = Status S} Absent (Live r) → ⊥
-  absent_live e = cc
+    absent_live : ◌≡◌ {A = Status S} Absent (Live r) → ⊥
+    absent_live e = cc
 live_ok g a w ok (suc k) r live = (omega arith, subst (λ z. StatusOk g a (suc k) z) live (ok.sites (suc k) (omega arith)).status)
 
 abbrev known_events : {S : Type 0} (g : Range S) → IsRange g → (events : List Event) → Known g (world_after g events)
@@ -226,11 +230,11 @@ pub one_list_holds : (S : Type 0) → OneList S
 one_list_holds S g range = record {
   committed = λ events. drop g.base (known_events g range events).list;
   grows = λ early late.
-    let longer : IsPrefixOf (known_events g range early).list (known_events g range (early ++ late)).list = known_grows g (nowhere g) range (known_start g range) early late in
-    (longer.0, sym (drop-append-le g.base (known_events g range early).list longer.0 (known_events g range early).long) ∙ ap (drop g.base) longer.1);
+      let longer : IsPrefixOf (known_events g range early).list (known_events g range (early ++ late)).list = known_grows g (nowhere g) range (known_start g range) early late in
+      (longer.0, sym (drop-append-le g.base (known_events g range early).list longer.0 (known_events g range early).long) ∙ ap (drop g.base) longer.1);
   shown = λ events p r live.
-    let k : Known g (world_after g events) = known_events g range events in
-    let node = live_ok g (known_events g range events).to (world_after g events) (known_events g range events).ok p r live in
-    shown_ok g (known_events g range events).to p r (known_events g range events).list (known_events g range events).ok.inv (known_events g range events).committed (known_events g range events).long (known_events g range events).fronted node.1
-    (subst (λ z. Covered z (length (known_events g range events).list)) live ((known_events g range events).covers p node.0));
+      let k : Known g (world_after g events) = known_events g range events in
+      let node = live_ok g (known_events g range events).to (world_after g events) (known_events g range events).ok p r live in
+      shown_ok g (known_events g range events).to p r (known_events g range events).list (known_events g range events).ok.inv (known_events g range events).committed (known_events g range events).long (known_events g range events).fronted node.1
+      (subst (λ z. Covered z (length (known_events g range events).list)) live ((known_events g range events).covers p node.0));
 }

@@ -53,12 +53,12 @@ module _ {S : Type 0} (g : Range S) (a : Abs) (p applied : ℕ) (state : S) (st 
   elects most =
       let votes : Majority g.nodes (λ q. a.vote q st.head.term ≡ p) = voted_for most in
       let free : a.lead st.head.term ≡ 0 =
-        ⊎_elim
-        (λ e. e)
-        (λ ne.
-          let s : Shared g.nodes (λ q. a.vote q st.head.term ≡ a.lead st.head.term) (λ q. a.vote q st.head.term ≡ p) = majorities_meet g.nodes _ _ (h.elected st.head.term (omega (arith, ne))) votes in
-          absurd (cand.loses (sym s.left ∙ s.right)))
-        (cases_eq (a.lead st.head.term) 0) in
+      ⊎_elim
+      (λ e. e)
+      (λ ne.
+      let s : Shared g.nodes (λ q. a.vote q st.head.term ≡ a.lead st.head.term) (λ q. a.vote q st.head.term ≡ p) = majorities_meet g.nodes _ _ (h.elected st.head.term (omega (arith, ne))) votes in
+      absurd (cand.loses (sym s.left ∙ s.right)))
+      (cases_eq (a.lead st.head.term) 0) in
       record {
         positive = pos;
         votes = subst (λ z. Majority g.nodes (λ q. a.vote q z ≡ p)) (sym ok.term) votes;
@@ -76,7 +76,7 @@ module _ {S : Type 0} (g : Range S) (a : Abs) (p applied : ℕ) (state : S) (st 
       matched = for_each_node 0;
       silent = 0;
       beat = 0;
-    }
+    };
   }
 
   crowned_ok : is_elected st.head ≡ true → NodeOk g (elect a p) p crowned applied state
@@ -122,12 +122,25 @@ on_vote_reply_ok {S} g a p applied state st from term granted h pos pf ok m =
     let c : CandidateOk a p st.head.term (a.log p) st.head.votes = as_candidate a p st.head.term (a.log p) st.head.next st.head.matched st.head.votes st.head.role stood ok.role in
     elected_ok g a p applied state (record st { head = record st.head { votes = with_node st.head.votes from true } }) h pos
     (record {
-      node = ok.node; nodes = ok.nodes; term = ok.term; term_pos = ok.term_pos; log = ok.log; start_le = ok.start_le; based = ok.based; applied_le = ok.applied_le; state_is = ok.state_is; vote = ok.vote; known = ok.known;
+      node = ok.node;
+      nodes = ok.nodes;
+      term = ok.term;
+      term_pos = ok.term_pos;
+      log = ok.log;
+      start_le = ok.start_le;
+      based = ok.based;
+      applied_le = ok.applied_le;
+      state_is = ok.state_is;
+      vote = ok.vote;
+      known = ok.known;
       role = subst (λ z. RoleOk a p st.head.term (a.log p) st.head.next st.head.matched (with_node st.head.votes from true) z) (sym stood)
-        (record {
-          late = c.late; loses = c.loses; asks = c.asks; itself = c.itself;
-          counted = λ q pq. at_node (λ x. x ≡ true → a.vote q st.head.term ≡ p) st.head.votes from true q false pf pq (λ e _. ap (λ z. a.vote z st.head.term) e ∙ ap (a.vote from) (sym same) ∙ vote.voted) (c.counted q pq);
-        });
+          (record {
+            late = c.late;
+            loses = c.loses;
+            asks = c.asks;
+            itself = c.itself;
+            counted = λ q pq. at_node (λ x. x ≡ true → a.vote q st.head.term ≡ p) st.head.votes from true q false pf pq (λ e _. ap (λ z. a.vote z st.head.term) e ∙ ap (a.vote from) (sym same) ∙ vote.voted) (c.counted q pq);
+          });
       commit = ok.commit;
     })
     stood)
@@ -201,34 +214,34 @@ module _ {S : Type 0} (g : Range S) (a : Abs) (p applied : ℕ) (state : S) (st 
       asks = own_log;
       itself = own_vote;
       counted = λ q pq. at_node (λ x. x ≡ true → stood_for.vote q up ≡ p) (for_each_node false) st.head.node true q false (omega (arith, ok.node)) pq
-        (λ e _. ap (λ z. stood_for.vote z up) (e ∙ ok.node) ∙ own_vote)
-        (at_each (λ x. x ≡ true → stood_for.vote q up ≡ p) false q false (λ e. cc) (λ e. cc));
+          (λ e _. ap (λ z. stood_for.vote z up) (e ∙ ok.node) ∙ own_vote)
+          (at_each (λ x. x ≡ true → stood_for.vote q up ≡ p) false q false (λ e. cc) (λ e. cc));
     };
     commit = commits_more g.nodes stood_for st.head.term up st.head.commit (a.log p) (a.log p) (omega arith) refl (commits_grow g.nodes a stood_for stand_moves.grows st.head.term st.head.commit (a.log p) ok.commit);
   }
     where
-    none_some : (l : ℕ) → ◌≡◌ {A = Option ℕ} None (Some l) → ⊥
-    none_some l e = cc
+      none_some : (l : ℕ) → ◌≡◌ {A = Option ℕ} None (Some l) → ⊥
+      none_some l e = cc
 
   requests_ok : Every (PacketOk g stood_for p) (requests (candidate st))
   requests_ok =
       every_map (PacketOk g stood_for p) (λ peer. (peer, Vote up (last_index st.log) (last_term st.log))) (peers (candidate st).head)
       (every_of (λ q. q ≡ p → ⊥) (λ q. PacketOk g stood_for p (q, Vote up (last_index st.log) (last_term st.log)))
-        (λ q other. record {
-          other = other;
-          fact = record {
-            late = omega (arith, ok.term_pos);
-            itself = own_vote;
-            last = shows_last (a.log p) st.log ok.log ∙ ap length (sym own_log);
-            last_term = last_term_in (a.log p) st.log ok.log ∙ ap last_tm (sym own_log);
-          };
-        })
-        (peers (candidate st).head) (peers_other (candidate st).head p ok.node))
+      (λ q other. record {
+        other = other;
+        fact = record {
+          late = omega (arith, ok.term_pos);
+          itself = own_vote;
+          last = shows_last (a.log p) st.log ok.log ∙ ap length (sym own_log);
+          last_term = last_term_in (a.log p) st.log ok.log ∙ ap last_tm (sym own_log);
+        };
+      })
+      (peers (candidate st).head) (peers_other (candidate st).head p ok.node))
 
   pub stand_ok : DraftOk g a p applied state (stand st)
   stand_ok = draft_after g a stood_for p applied state (stand st) stand_moves
       (with_replies g stood_for p applied state (elected (candidate st)) (requests (candidate st)) pos requests_ok
-        (elected_ok g stood_for p applied state (candidate st) inv_stood pos candidate_ok refl))
+      (elected_ok g stood_for p applied state (candidate st) inv_stood pos candidate_ok refl))
 
 -- Tick
 pub tick_ok : {S : Type 0} (g : Range S) (a : Abs) (p applied : ℕ) (state : S) (st : RaftState) → Inv g.nodes a → 0 < p → NodeOk g a p st applied state → DraftOk g a p applied state (tick st)
@@ -266,28 +279,28 @@ on_append_reply_ok {S} g a p applied state st from term said index h pos pf othe
     let l : LeaderOk a p st.head.term (a.log p) st.head.next st.head.matched = as_leader a p st.head.term (a.log p) st.head.next st.head.matched st.head.votes st.head.role led ok.role in
     let last : last_index st.log ≡ length (a.log p) = shows_last (a.log p) st.log ok.log in
     let tables : (nexts matches : List ℕ) → LeaderOk a p st.head.term (a.log p) nexts matches → NodeOk g a p (record st { head = record st.head { next = nexts; matched = matches } }) applied state =
-      λ nexts matches role. record { node = ok.node; nodes = ok.nodes; term = ok.term; term_pos = ok.term_pos; log = ok.log; start_le = ok.start_le; based = ok.based; applied_le = ok.applied_le; state_is = ok.state_is; vote = ok.vote; known = ok.known; role = from_leader a p st.head.term (a.log p) nexts matches st.head.votes st.head.role led role; commit = ok.commit } in
+    λ nexts matches role. record { node = ok.node; nodes = ok.nodes; term = ok.term; term_pos = ok.term_pos; log = ok.log; start_le = ok.start_le; based = ok.based; applied_le = ok.applied_le; state_is = ok.state_is; vote = ok.vote; known = ok.known; role = from_leader a p st.head.term (a.log p) nexts matches st.head.votes st.head.role led role; commit = ok.commit } in
     cond_both said (on_match st from index) (on_mismatch st from index) (λ d. DraftOk g a p applied state d)
     (λ agreed.
     sends_to_ok g a p applied state (record st { head = record st.head { matched = with_node st.head.matched from (match_after st from index); next = with_node st.head.next from (next_after st from index) } })
     (cond (leb (next_after st from index) (last_index st.log)) (One from) Nobody) h
     (tables (with_node st.head.next from (next_after st from index)) (with_node st.head.matched from (match_after st from index))
-      (record {
-        leads = l.leads;
-        ahead = λ q pq. at_node (λ x. x ≤ length (a.log p) + 1) st.head.next from (next_after st from index) q 0 pf pq (λ _. omega (arith, last)) (l.ahead q pq);
-        acked = λ q pq. at_node (λ x. x ≤ a.ack q st.head.term) st.head.matched from (match_after st from index) q 0 pf pq
+    (record {
+      leads = l.leads;
+      ahead = λ q pq. at_node (λ x. x ≤ length (a.log p) + 1) st.head.next from (next_after st from index) q 0 pf pq (λ _. omega (arith, last)) (l.ahead q pq);
+      acked = λ q pq. at_node (λ x. x ≤ a.ack q st.head.term) st.head.matched from (match_after st from index) q 0 pf pq
           (λ e. subst (λ z. match_after st from index ≤ a.ack z st.head.term) (sym e) (subst (λ z. match_after st from index ≤ a.ack from z) same (omega (arith, m agreed, ap (a.ack from) same, l.acked from pf))))
           (l.acked q pq);
-      }))
+    }))
     (cond_both (leb (next_after st from index) (last_index st.log)) (One from) Nobody (λ due. IsDueOk p st.head.role due) (λ _. (led, other)) (λ _. tt)))
     (λ _.
     sends_to_ok g a p applied state (record st { head = record st.head { next = with_node st.head.next from (min (max index (of_node st.head.matched from 0) + 1) (last_index st.log + 1)) } }) (One from) h
     (tables (with_node st.head.next from (min (max index (of_node st.head.matched from 0) + 1) (last_index st.log + 1))) st.head.matched
-      (record {
-        leads = l.leads;
-        ahead = λ q pq. at_node (λ x. x ≤ length (a.log p) + 1) st.head.next from (min (max index (of_node st.head.matched from 0) + 1) (last_index st.log + 1)) q 0 pf pq (λ _. omega (arith, last)) (l.ahead q pq);
-        acked = l.acked;
-      }))
+    (record {
+      leads = l.leads;
+      ahead = λ q pq. at_node (λ x. x ≤ length (a.log p) + 1) st.head.next from (min (max index (of_node st.head.matched from 0) + 1) (last_index st.log + 1)) q 0 pf pq (λ _. omega (arith, last)) (l.ahead q pq);
+      acked = l.acked;
+    }))
     (led, other)))
     (λ _. quiet_ok g a p applied state st h ok)
 
@@ -295,37 +308,39 @@ on_append_reply_ok {S} g a p applied state st from term said index h pos pf othe
 pub then_proposed_ok : {S : Type 0} (g : Range S) (a : Abs) (p applied : ℕ) (state : S) (d : Draft S) (payloads : List (List ℕ)) → 0 < p → DraftOk g a p applied state d → DraftOk g a p applied state (then_proposed d payloads)
 then_proposed_ok {S} g a p applied state d payloads pos ok = split (is_leader d.state.head.role) refl
   where
-  by_role : Bool → Draft S
-  by_role leads = record {
-    state = cond leads (with_payloads d.state payloads) d.state;
-    replies = d.replies ++ cond leads [] (option_map_or (λ leader. map (λ payload. (leader, Forward payload)) payloads) d.state.head.leader []);
-    due = cond (leads && ltb 0 (length payloads)) Everyone d.due;
-    taken = d.taken;
-  }
-  forwards_ok : (leads : is_leader d.state.head.role ≡ false) → (l : Option ℕ) → l ≡ d.state.head.leader → Every (PacketOk g ok.to p) (option_map_or (λ leader. map (λ payload. (leader, Forward payload)) payloads) l [])
-  forwards_ok leads None e = tt
-  forwards_ok leads (Some l) e =
-      every_map (PacketOk g ok.to p) (λ payload. (l, Forward payload)) payloads
-      (every_all (λ payload. PacketOk g ok.to p (l, Forward payload)) (λ payload. record { other = λ same. leads_not d.state.head.role leads (ok.node.known l (sym e) same); fact = tt }) payloads)
-  split : (b : Bool) → is_leader d.state.head.role ≡ b → DraftOk g a p applied state (by_role b)
-  split true e =
-      let leads : d.state.head.role ≡ Leader = leads_by d.state.head.role e in
-      let led : Led g ok.to p (index_after d.taken applied) (state_after d.taken state) (with_payloads d.state payloads) = leader_appends g ok.to p (index_after d.taken applied) (state_after d.taken state) d.state payloads ok.inv pos ok.node leads in
-      record {
-        to = led.to;
-        moves = moves_trans p a ok.to led.to ok.moves led.moves;
-        inv = led.inv;
-        node = led.node;
-        replies = every_append (PacketOk g led.to p) d.replies [] (packets_grow g ok.to led.to led.moves.grows p pos d.replies ok.replies) tt;
-        due = cond_both (ltb 0 (length payloads)) Everyone d.due (λ due. IsDueOk p d.state.head.role due) (λ _. leads) (λ _. ok.due);
-        calm = ok.calm;
-      }
-  split false e = record {
-    to = ok.to;
-    moves = ok.moves;
-    inv = ok.inv;
-    node = ok.node;
-    replies = every_append (PacketOk g ok.to p) d.replies (option_map_or (λ leader. map (λ payload. (leader, Forward payload)) payloads) d.state.head.leader []) ok.replies (forwards_ok e d.state.head.leader refl);
-    due = ok.due;
-    calm = ok.calm;
-  }
+    by_role : Bool → Draft S
+    by_role leads = record {
+      state = cond leads (with_payloads d.state payloads) d.state;
+      replies = d.replies ++ cond leads [] (option_map_or (λ leader. map (λ payload. (leader, Forward payload)) payloads) d.state.head.leader []);
+      due = cond (leads && ltb 0 (length payloads)) Everyone d.due;
+      taken = d.taken;
+    }
+
+    forwards_ok : (leads : is_leader d.state.head.role ≡ false) → (l : Option ℕ) → l ≡ d.state.head.leader → Every (PacketOk g ok.to p) (option_map_or (λ leader. map (λ payload. (leader, Forward payload)) payloads) l [])
+    forwards_ok leads None e = tt
+    forwards_ok leads (Some l) e =
+        every_map (PacketOk g ok.to p) (λ payload. (l, Forward payload)) payloads
+        (every_all (λ payload. PacketOk g ok.to p (l, Forward payload)) (λ payload. record { other = λ same. leads_not d.state.head.role leads (ok.node.known l (sym e) same); fact = tt }) payloads)
+
+    split : (b : Bool) → is_leader d.state.head.role ≡ b → DraftOk g a p applied state (by_role b)
+    split true e =
+        let leads : d.state.head.role ≡ Leader = leads_by d.state.head.role e in
+        let led : Led g ok.to p (index_after d.taken applied) (state_after d.taken state) (with_payloads d.state payloads) = leader_appends g ok.to p (index_after d.taken applied) (state_after d.taken state) d.state payloads ok.inv pos ok.node leads in
+        record {
+          to = led.to;
+          moves = moves_trans p a ok.to led.to ok.moves led.moves;
+          inv = led.inv;
+          node = led.node;
+          replies = every_append (PacketOk g led.to p) d.replies [] (packets_grow g ok.to led.to led.moves.grows p pos d.replies ok.replies) tt;
+          due = cond_both (ltb 0 (length payloads)) Everyone d.due (λ due. IsDueOk p d.state.head.role due) (λ _. leads) (λ _. ok.due);
+          calm = ok.calm;
+        }
+    split false e = record {
+      to = ok.to;
+      moves = ok.moves;
+      inv = ok.inv;
+      node = ok.node;
+      replies = every_append (PacketOk g ok.to p) d.replies (option_map_or (λ leader. map (λ payload. (leader, Forward payload)) payloads) d.state.head.leader []) ok.replies (forwards_ok e d.state.head.leader refl);
+      due = ok.due;
+      calm = ok.calm;
+    }

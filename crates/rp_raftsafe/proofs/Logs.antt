@@ -100,6 +100,6 @@ longer_push xs e = take-append-le (length xs) xs (e ∷ []) (omega arith) ∙ lo
 pub whole_front : (llog : ℕ → List Entry) (xs : List Entry) → Good llog xs → take (length xs) xs ≡ take (length xs) (llog (last_tm xs))
 whole_front llog xs good = front (length xs) refl
   where
-  front : (k : ℕ) → k ≡ length xs → take k xs ≡ take k (llog (term_in xs k))
-  front zero e = refl
-  front (suc k) e = good k (omega arith)
+    front : (k : ℕ) → k ≡ length xs → take k xs ≡ take k (llog (term_in xs k))
+    front zero e = refl
+    front (suc k) e = good k (omega arith)

@@ -36,10 +36,10 @@ at_node P xs i v q d pi pq hit old = at_set P xs (i - 1) v (q - 1) d (λ e. hit 
 pub at_each : {A : Type 0} (P : A → Type 0) (v : A) (q : ℕ) (d : A) → P v → P d → P (of_node (for_each_node v) q d)
 at_each P v q d here past = within 5 (q - 1)
   where
-  within : (n k : ℕ) → P (get_or (replicate n v) k d)
-  within zero k = past
-  within (suc n) zero = here
-  within (suc n) (suc k) = within n k
+    within : (n k : ℕ) → P (get_or (replicate n v) k d)
+    within zero k = past
+    within (suc n) zero = here
+    within (suc n) (suc k) = within n k
 
 -- those that pass in the front of a table are no more than the nodes that pass
 pub count_nodes : {A : Type 0} (test : A → Bool) (xs : List A) (d : A) (n : ℕ) → count_by test (take n xs) ≤ count (λ q. test (of_node xs q d)) n
@@ -50,18 +50,18 @@ count_nodes test xs d (suc n) =
     ⊎_elim
     (λ (lt : n < length xs).
     let more : count_by test (take (suc n) xs) ≡ count_by test (take n xs) + cond (test (get_or xs n d)) 1 0 =
-      ap (λ z. count_by test (take z xs)) (sym (add-one n)) ∙ sum_by_more (λ x. cond (test x) 1 0) xs n d lt in
+    ap (λ z. count_by test (take z xs)) (sym (add-one n)) ∙ sum_by_more (λ x. cond (test x) 1 0) xs n d lt in
     let step : count_by test (take n xs) + cond (test (get_or xs n d)) 1 0 ≤ cond (test (get_or xs n d)) (suc (count (λ q. test (of_node xs q d)) n)) (count (λ q. test (of_node xs q d)) n) =
-      split (test (get_or xs n d)) (count_by test (take n xs)) (count (λ q. test (of_node xs q d)) n) so_far in
+    split (test (get_or xs n d)) (count_by test (take n xs)) (count (λ q. test (of_node xs q d)) n) so_far in
     subst (λ z. count_by test (take (suc n) xs) ≤ cond (test (get_or xs z d)) (suc (count (λ q. test (of_node xs q d)) n)) (count (λ q. test (of_node xs q d)) n)) (sym at) (omega (arith, more, step)))
     (λ (past : length xs ≤ n).
     let same : count_by test (take (suc n) xs) ≡ count_by test (take n xs) = ap (count_by test) (take_all (suc n) xs (omega arith) ∙ sym (take_all n xs past)) in
     cond_both (test (of_node xs (suc n) d)) (suc (count (λ q. test (of_node xs q d)) n)) (count (λ q. test (of_node xs q d)) n) (λ z. count_by test (take (suc n) xs) ≤ z) (λ _. omega (arith, same, so_far)) (λ _. omega (arith, same, so_far)))
     (cases_lt n (length xs))
   where
-  split : (b : Bool) (c k : ℕ) → c ≤ k → c + cond b 1 0 ≤ cond b (suc k) k
-  split true c k le = omega arith
-  split false c k le = omega arith
+    split : (b : Bool) (c k : ℕ) → c ≤ k → c + cond b 1 0 ≤ cond b (suc k) k
+    split true c k le = omega arith
+    split false c k le = omega arith
 
 pub every_append : {A : Type 0} (P : A → Type 0) (xs ys : List A) → Every P xs → Every P ys → Every P (xs ++ ys)
 every_append P [] ys ex ey = ey
@@ -203,11 +203,11 @@ leader_appends {S} g a p applied state st payloads h pos ok led =
         vote = λ lt. all.vote ∙ ok.vote lt;
         known = ok.known;
         role = from_leader all.to p st.head.term (all.to.log p) st.head.next st.head.matched st.head.votes st.head.role led
-          (record {
-            leads = all.moves.grows.lead st.head.term (omega (arith, lead_ok.leads)) ∙ lead_ok.leads;
-            ahead = λ q pq. omega (arith, lead_ok.ahead q pq, longer);
-            acked = λ q pq. omega (arith, lead_ok.acked q pq, all.moves.grows.ack q st.head.term);
-          });
+            (record {
+              leads = all.moves.grows.lead st.head.term (omega (arith, lead_ok.leads)) ∙ lead_ok.leads;
+              ahead = λ q pq. omega (arith, lead_ok.ahead q pq, longer);
+              acked = λ q pq. omega (arith, lead_ok.acked q pq, all.moves.grows.ack q st.head.term);
+            });
         commit = commits_more g.nodes all.to st.head.term st.head.term st.head.commit (a.log p) (all.to.log p) (omega arith) (fronts st.head.commit within) (commits_grow g.nodes a all.to all.moves.grows st.head.term st.head.commit (a.log p) ok.commit);
       };
     }

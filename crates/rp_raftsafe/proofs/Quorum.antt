@@ -27,7 +27,7 @@ shared : (f g : ℕ → Bool) (n : ℕ) → n < count f n + count g n → (q : �
 shared f g zero lt = absurd (omega arith)
 shared f g (suc n) lt =
     let less : n < count f n + count g n → (q : ℕ) × (0 < q) × (q ≤ suc n) × (f q ≡ true) × (g q ≡ true) =
-      λ lt'. let r = shared f g n lt' in (r.0, r.1, omega arith, r.3, r.4) in
+    λ lt'. let r = shared f g n lt' in (r.0, r.1, omega arith, r.3, r.4) in
     ⊎_elim
     (λ (ft : f (suc n) ≡ true).
     ⊎_elim

@@ -23,8 +23,8 @@ raise_keeps n a p t up h = record {
   unled = h.unled;
   lead_term = λ s pos. at_upd (λ x. s ≤ x) a.term p t (a.lead s) (λ e. omega (arith, ap a.term e, h.lead_term s pos)) (λ ne. h.lead_term s pos);
   lead_log = λ q pos. at_upd (λ x. a.lead x ≡ q → a.log q ≡ a.llog x) a.term p t q
-  (λ e le. absurd (omega (arith, ap a.term le, ap a.term e, h.lead_term t (omega arith))))
-  (λ ne le. h.lead_log q pos le);
+      (λ e le. absurd (omega (arith, ap a.term le, ap a.term e, h.lead_term t (omega arith))))
+      (λ ne le. h.lead_log q pos le);
   lead_ack = h.lead_ack;
   good_log = h.good_log;
   good_llog = h.good_llog;
@@ -57,11 +57,11 @@ ask_keeps n a p free h = record {
   ack_term = h.ack_term;
   stored = h.stored;
   fresh = λ q u s j voted lt proper opens acked.
-  at_upd2 (λ x. IsFresh s j x) a.asked (a.term p) p (a.log p) u (a.vote q u)
-  (λ eu ev.
-  let itself : a.vote (a.vote q u) u ≡ a.vote q u = h.asked_first q u voted in
-  let none : a.vote (a.vote q u) u ≡ 0 = subst (λ z. a.vote z u ≡ 0) (sym ev) (subst (λ z. a.vote p z ≡ 0) (sym eu) free) in
-  absurd (omega (arith, itself, none)))
-  (λ ne. h.fresh q u s j voted lt proper opens acked);
+      at_upd2 (λ x. IsFresh s j x) a.asked (a.term p) p (a.log p) u (a.vote q u)
+      (λ eu ev.
+      let itself : a.vote (a.vote q u) u ≡ a.vote q u = h.asked_first q u voted in
+      let none : a.vote (a.vote q u) u ≡ 0 = subst (λ z. a.vote z u ≡ 0) (sym ev) (subst (λ z. a.vote p z ≡ 0) (sym eu) free) in
+      absurd (omega (arith, itself, none)))
+      (λ ne. h.fresh q u s j voted lt proper opens acked);
   complete = h.complete;
 }

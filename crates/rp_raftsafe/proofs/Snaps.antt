@@ -68,9 +68,9 @@ module _ {S : Type 0} (g : Range S) (a : Abs) (p applied : ℕ) (state : S) (st 
       let stores : Stores a p (a.log p) st.head.commit = same_stores g.nodes a p st.head.commit h (same_length st.head.commit (a.log p) (a.llog (a.term p)) within same) same in
       draft_after g a (store a p (a.log p) st.head.commit) p applied state (answered st from (AppendReply st.head.term true st.head.commit)) (store_moves a p (a.log p) st.head.commit)
       (answered_ok g (store a p (a.log p) st.head.commit) p applied state st from (AppendReply st.head.term true st.head.commit)
-        (store_keeps g.nodes a p (a.log p) st.head.commit (under g a p applied state st from h pf other ok follows m.leads) stores h)
-        (stored_node g a p applied state st from h pf other ok follows m.leads (a.log p) st.head.commit st.log st.head.commit stores ok.log (omega arith) ok.based (omega arith) ok.commit)
-        (stored_reply g a p applied state st from h pf other ok follows m.leads (a.log p) st.head.commit))
+      (store_keeps g.nodes a p (a.log p) st.head.commit (under g a p applied state st from h pf other ok follows m.leads) stores h)
+      (stored_node g a p applied state st from h pf other ok follows m.leads (a.log p) st.head.commit st.log st.head.commit stores ok.log (omega arith) ok.based (omega arith) ok.commit)
+      (stored_reply g a p applied state st from h pf other ok follows m.leads (a.log p) st.head.commit))
 
   shown_ok : st.head.commit < index → has_term st.log index index_term ≡ true → DraftOk g a p applied state (answered (record st { head = record st.head { commit = index } }) from (AppendReply st.head.term true index))
   shown_ok gt has =
@@ -80,9 +80,9 @@ module _ {S : Type 0} (g : Range S) (a : Abs) (p applied : ℕ) (state : S) (st 
       let commits : Commits g.nodes a st.head.term index (a.log p) = commits_more g.nodes a st.head.term st.head.term index (a.llog st.head.term) (a.log p) (omega arith) (ap (λ z. take index (a.llog z)) (sym ok.term) ∙ sym same) m.commits in
       draft_after g a (store a p (a.log p) index) p applied state (answered (record st { head = record st.head { commit = index } }) from (AppendReply st.head.term true index)) (store_moves a p (a.log p) index)
       (answered_ok g (store a p (a.log p) index) p applied state (record st { head = record st.head { commit = index } }) from (AppendReply st.head.term true index)
-        (store_keeps g.nodes a p (a.log p) index (under g a p applied state st from h pf other ok follows m.leads) stores h)
-        (stored_node g a p applied state st from h pf other ok follows m.leads (a.log p) index st.log index stores ok.log (omega arith) ok.based (omega arith) commits)
-        (stored_reply g a p applied state st from h pf other ok follows m.leads (a.log p) index))
+      (store_keeps g.nodes a p (a.log p) index (under g a p applied state st from h pf other ok follows m.leads) stores h)
+      (stored_node g a p applied state st from h pf other ok follows m.leads (a.log p) index st.log index stores ok.log (omega arith) ok.based (omega arith) commits)
+      (stored_reply g a p applied state st from h pf other ok follows m.leads (a.log p) index))
 
   -- where the log has not the term there, it has less in common with the leader's
   shorter : st.head.commit < index → has_term st.log index index_term ≡ false → (j : ℕ) → j ≤ length (a.log p) → take j (a.log p) ≡ take j (a.llog (a.term p)) → j ≤ index
@@ -119,7 +119,7 @@ module _ {S : Type 0} (g : Range S) (a : Abs) (p applied : ℕ) (state : S) (st 
           known = ok.known;
           role = subst (λ z. RoleOk (store a p (take index (a.llog (a.term p))) index) p st.head.term ((store a p (take index (a.llog (a.term p))) index).log p) st.head.next st.head.matched st.head.votes z) (sym follows) tt;
           commit = subst (λ z. Commits g.nodes (store a p (take index (a.llog (a.term p))) index) st.head.term index z) (sym log)
-            (commits_grow g.nodes a (store a p (take index (a.llog (a.term p))) index) moves.grows st.head.term index (take index (a.llog (a.term p)))
+              (commits_grow g.nodes a (store a p (take index (a.llog (a.term p))) index) moves.grows st.head.term index (take index (a.llog (a.term p)))
               (subst (λ z. Commits g.nodes a z index (take index (a.llog (a.term p)))) ok.term (snap_commits g a p from index index_term snapshot same_term)));
         };
         replies = (stored_reply g a p applied state st from h pf other ok follows m.leads (take index (a.llog (a.term p))) index, tt);
@@ -127,8 +127,8 @@ module _ {S : Type 0} (g : Range S) (a : Abs) (p applied : ℕ) (state : S) (st 
         calm = λ leads. absurd (follower_leads (sym follows ∙ leads));
       }
     where
-    follower_leads : Follower ≡ Leader → ⊥
-    follower_leads e = cc
+      follower_leads : Follower ≡ Leader → ⊥
+      follower_leads e = cc
 
   pub take_snap_ok : DraftOk g a p applied state (take_snap st from index index_term snapshot)
   take_snap_ok =
@@ -223,14 +223,14 @@ absent_snap_ok {S} g b p from t index index_term snapshot h pf other tp logs vot
         known = λ l e same. absurd (other (some_same from l e ∙ same));
         role = tt;
         commit = subst (λ z. Commits g.nodes (store b p (take index (b.llog (b.term p))) index) t index z) (sym log)
-          (commits_grow g.nodes b (store b p (take index (b.llog (b.term p))) index) moves.grows t index (take index (b.llog (b.term p)))
+            (commits_grow g.nodes b (store b p (take index (b.llog (b.term p))) index) moves.grows t index (take index (b.llog (b.term p)))
             (subst (λ z. Commits g.nodes b z index (take index (b.llog (b.term p)))) tp (snap_commits g b p from index index_term snapshot m')));
       };
       sends = (record { other = other; fact = λ _. at_upd2 (λ x. index ≤ x) b.ack p (b.term p) (max (b.ack p (b.term p)) index) p t (λ _ _. omega arith) (λ ne. absurd (ne refl (sym tp))) }, tt);
     }
   where
-  some_same : (x y : ℕ) → Some x ≡ Some y → x ≡ y
-  some_same x y e = cc
+    some_same : (x y : ℕ) → Some x ≡ Some y → x ≡ y
+    some_same x y e = cc
 
 -- a message to a node that has nothing yet
 pub absent_gets_ok : {S : Type 0} (g : Range S) (a : Abs) (p from : ℕ) (m : Message S) → Inv g.nodes a → 0 < from → (from ≡ p → ⊥) → AbsentOk g a p → MessageOk g a from p m → TurnOk g a p (record { status = absent_after g p from m; sends = absent_answer from m })

@@ -73,21 +73,21 @@ module _ (n : ℕ) (a : Abs) (p0 : ℕ) (xs : List Entry) (m : ℕ) (h : Inv n a
     ack_length = λ p t. at_upd2 (λ x. x ≤ length (a.llog t)) a.ack p0 (a.term p0) (max (a.ack p0 (a.term p0)) m) p t (λ ep et. omega (arith, ap (λ z. length (a.llog z)) et, h.ack_length p0 (a.term p0), g.within)) (λ _. h.ack_length p t);
     ack_term = λ p t lt. at_upd2 (λ x. x ≡ 0) a.ack p0 (a.term p0) (max (a.ack p0 (a.term p0)) m) p t (λ ep et. absurd (omega (arith, ap a.term ep))) (λ _. h.ack_term p t lt);
     stored = λ p t j proper opens acked.
-    at_upd2 (λ x. j < x → take (suc j) (a.llog t) ≡ take (suc j) ((store a p0 xs m).log p)) a.ack p0 (a.term p0) (max (a.ack p0 (a.term p0)) m) p t
-    (λ ep et k.
-    at_upd (λ x. take (suc j) (a.llog t) ≡ take (suc j) x) a.log p0 xs p
-    (λ _. subst (λ z. take (suc j) (a.llog z) ≡ take (suc j) xs) (sym et) (now j (subst (λ z. Proper a.llog z j) et proper) (subst (λ z. Open n a.term a.ack z j) et (stored_open t j opens)) k))
-    (λ ne. absurd (ne ep)))
-    (λ ne k.
-    at_upd (λ x. take (suc j) (a.llog t) ≡ take (suc j) x) a.log p0 xs p
-    (λ ep. before t j (λ et. ne ep et) proper (stored_open t j opens) (subst (λ z. j < a.ack z t) ep k))
-    (λ _. h.stored p t j proper (stored_open t j opens) k))
-    acked;
+        at_upd2 (λ x. j < x → take (suc j) (a.llog t) ≡ take (suc j) ((store a p0 xs m).log p)) a.ack p0 (a.term p0) (max (a.ack p0 (a.term p0)) m) p t
+        (λ ep et k.
+        at_upd (λ x. take (suc j) (a.llog t) ≡ take (suc j) x) a.log p0 xs p
+        (λ _. subst (λ z. take (suc j) (a.llog z) ≡ take (suc j) xs) (sym et) (now j (subst (λ z. Proper a.llog z j) et proper) (subst (λ z. Open n a.term a.ack z j) et (stored_open t j opens)) k))
+        (λ ne. absurd (ne ep)))
+        (λ ne k.
+        at_upd (λ x. take (suc j) (a.llog t) ≡ take (suc j) x) a.log p0 xs p
+        (λ ep. before t j (λ et. ne ep et) proper (stored_open t j opens) (subst (λ z. j < a.ack z t) ep k))
+        (λ _. h.stored p t j proper (stored_open t j opens) k))
+        acked;
     fresh = λ p s t j voted lt proper opens acked.
-    at_upd2 (λ x. j < x → IsFresh t j (a.asked s (a.vote p s))) a.ack p0 (a.term p0) (max (a.ack p0 (a.term p0)) m) p t
-    (λ ep et _. absurd (omega (arith, h.unvoted p s (omega (arith, ap a.term ep)))))
-    (λ _ k. h.fresh p s t j voted lt proper (stored_open t j opens) k)
-    acked;
+        at_upd2 (λ x. j < x → IsFresh t j (a.asked s (a.vote p s))) a.ack p0 (a.term p0) (max (a.ack p0 (a.term p0)) m) p t
+        (λ ep et _. absurd (omega (arith, h.unvoted p s (omega (arith, ap a.term ep)))))
+        (λ _ k. h.fresh p s t j voted lt proper (stored_open t j opens) k)
+        acked;
     complete = λ s t j led lt proper opens. h.complete s t j led lt proper (stored_open t j opens);
   }
 

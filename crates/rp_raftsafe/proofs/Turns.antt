@@ -51,11 +51,11 @@ module _ {S : Type 0} (g : Range S) (a : Abs) (p applied : ℕ) (state : S) (st 
   on_majority j passes = record {
     test = λ q. leb (suc j) (of_node (matched_by st) q 0);
     most = subst (λ z. z < 2 * count (λ q. leb (suc j) (of_node (matched_by st) q 0)) z) ok.nodes
-      (omega (arith, ltb-true st.head.nodes (2 * count_by (λ matched. leb (suc j) matched) (take st.head.nodes (matched_by st))) passes, count_nodes (λ matched. leb (suc j) matched) (matched_by st) 0 st.head.nodes));
+        (omega (arith, ltb-true st.head.nodes (2 * count_by (λ matched. leb (suc j) matched) (take st.head.nodes (matched_by st))) passes, count_nodes (λ matched. leb (suc j) matched) (matched_by st) 0 st.head.nodes));
     has = λ q pq _ yes'. at_node (λ x. suc j ≤ x → j < a.ack q st.head.term) st.head.matched st.head.node (last_index st.log) q 0 (omega (arith, ok.node)) pq
-      (λ e le. subst (λ z. j < a.ack z st.head.term) (sym (e ∙ ok.node)) (omega (arith, own_ack, shows_last (a.log p) st.log ok.log)))
-      (λ le. omega (arith, lead.acked q pq))
-      (leb-true (suc j) (of_node (matched_by st) q 0) yes');
+        (λ e le. subst (λ z. j < a.ack z st.head.term) (sym (e ∙ ok.node)) (omega (arith, own_ack, shows_last (a.log p) st.log ok.log)))
+        (λ le. omega (arith, lead.acked q pq))
+        (leb-true (suc j) (of_node (matched_by st) q 0) yes');
   }
 
   committable_ok : Commits g.nodes a st.head.term (committable st) (a.log p)
@@ -83,9 +83,18 @@ pub advanced_ok : {S : Type 0} (g : Range S) (a : Abs) (p applied : ℕ) (state 
 advanced_ok {S} g a p applied state st h pos ok =
     cond_both (is_leader st.head.role) (record st { head = record st.head { commit = max st.head.commit (committable st) } }) st (λ z. NodeOk g a p z applied state)
     (λ leads. record {
-      node = ok.node; nodes = ok.nodes; term = ok.term; term_pos = ok.term_pos; log = ok.log; start_le = ok.start_le; based = ok.based;
+      node = ok.node;
+      nodes = ok.nodes;
+      term = ok.term;
+      term_pos = ok.term_pos;
+      log = ok.log;
+      start_le = ok.start_le;
+      based = ok.based;
       applied_le = omega (arith, ok.applied_le);
-      state_is = ok.state_is; vote = ok.vote; known = ok.known; role = ok.role;
+      state_is = ok.state_is;
+      vote = ok.vote;
+      known = ok.known;
+      role = ok.role;
       commit = commits_max g.nodes a st.head.term st.head.commit (committable st) (a.log p) ok.commit (committable_ok g a p applied state st h pos ok (leads_by st.head.role leads));
     })
     (λ _. ok)
@@ -116,7 +125,7 @@ to_peer_ok {S} g a p applied state st h pos ok led q =
     let low : st.log.base ≤ of_node st.head.next q 0 - 1 = ltb-false (of_node st.head.next q 0 - 1) st.log.base above in
     let high : of_node st.head.next q 0 - 1 ≤ length (a.log p) = omega (arith, ahead l q) in
     let entries : suffix st.log (of_node st.head.next q 0) most_entries ≡ take most_entries (drop (of_node st.head.next q 0 - 1) (a.llog st.head.term)) =
-      suffix_in (a.log p) st.log ok.log (of_node st.head.next q 0) most_entries low ∙ ap (λ z. take most_entries (drop (of_node st.head.next q 0 - 1) z)) own in
+    suffix_in (a.log p) st.log ok.log (of_node st.head.next q 0) most_entries low ∙ ap (λ z. take most_entries (drop (of_node st.head.next q 0 - 1) z)) own in
     record {
       term_pos = ok.term_pos;
       leads = l.leads;
@@ -126,11 +135,12 @@ to_peer_ok {S} g a p applied state st h pos ok led q =
       commits = commits_more g.nodes a st.head.term st.head.term st.head.commit (a.log p) (a.llog st.head.term) (omega arith) (ap (take st.head.commit) own) ok.commit;
     })
   where
-  ahead : LeaderOk a p st.head.term (a.log p) st.head.next st.head.matched → (q : ℕ) → of_node st.head.next q 0 ≤ length (a.log p) + 1
-  ahead l zero = l.ahead 1 (omega arith)
-  ahead l (suc j) = l.ahead (suc j) (omega arith)
-  front_again : (k : ℕ) (xs : List Entry) → take (length (take k xs)) xs ≡ take k xs
-  front_again k xs = ap (λ z. take z xs) (length-take k xs) ∙ take_min k xs
+    ahead : LeaderOk a p st.head.term (a.log p) st.head.next st.head.matched → (q : ℕ) → of_node st.head.next q 0 ≤ length (a.log p) + 1
+    ahead l zero = l.ahead 1 (omega arith)
+    ahead l (suc j) = l.ahead (suc j) (omega arith)
+
+    front_again : (k : ℕ) (xs : List Entry) → take (length (take k xs)) xs ≡ take k xs
+    front_again k xs = ap (λ z. take z xs) (length-take k xs) ∙ take_min k xs
 
 -- the peers that are due are other nodes, from 1
 due_ok : (head : Head) (p : ℕ) (role : Role) (due : Due) → head.node ≡ p → IsDueOk p role due → ((due ≡ Nobody) ⊎ (role ≡ Leader)) × Every (λ q. q ≡ p → ⊥) (due_peers head due)
@@ -149,14 +159,14 @@ sent_ok {S} g a p r d pos ok =
       inv = ok.inv;
       status = node;
       sends = every_append (PacketOk g ok.to p) d.replies (last_sends r.applied r.state (advanced d.state) d.due) ok.replies
-        (⊎_elim
+          (⊎_elim
           (λ (none : d.due ≡ Nobody). subst (λ z. Every (PacketOk g ok.to p) (last_sends r.applied r.state (advanced d.state) z)) (sym none) tt)
           (λ (leads : d.state.head.role ≡ Leader).
-            let same : NodeOk g ok.to p (advanced d.state) r.applied r.state = subst (λ z. NodeOk g ok.to p (advanced d.state) (index_after z r.applied) (state_after z r.state)) (ok.calm leads) node in
-            every_map (PacketOk g ok.to p) (λ peer. (peer, to_peer r.applied r.state (advanced d.state) peer)) (due_peers (advanced d.state).head d.due)
-            (every_of (λ q. q ≡ p → ⊥) (λ q. PacketOk g ok.to p (q, to_peer r.applied r.state (advanced d.state) q))
-              (λ q other. record { other = other; fact = to_peer_ok g ok.to p r.applied r.state (advanced d.state) ok.inv pos same (advanced_role d.state ∙ leads) q })
-              (due_peers (advanced d.state).head d.due) due.1))
+          let same : NodeOk g ok.to p (advanced d.state) r.applied r.state = subst (λ z. NodeOk g ok.to p (advanced d.state) (index_after z r.applied) (state_after z r.state)) (ok.calm leads) node in
+          every_map (PacketOk g ok.to p) (λ peer. (peer, to_peer r.applied r.state (advanced d.state) peer)) (due_peers (advanced d.state).head d.due)
+          (every_of (λ q. q ≡ p → ⊥) (λ q. PacketOk g ok.to p (q, to_peer r.applied r.state (advanced d.state) q))
+          (λ q other. record { other = other; fact = to_peer_ok g ok.to p r.applied r.state (advanced d.state) ok.inv pos same (advanced_role d.state ∙ leads) q })
+          (due_peers (advanced d.state).head d.due) due.1))
           due.0);
     }
 
@@ -172,11 +182,19 @@ cut_ok : {S : Type 0} (g : Range S) (a : Abs) (p : ℕ) (r : Replica S) → Inv 
 cut_ok g a p r h ok =
     let within : r.raft.head.commit ≤ length (a.log p) = commits_within g.nodes a r.raft.head.term r.raft.head.commit (a.log p) ok.commit in
     record {
-      node = ok.node; nodes = ok.nodes; term = ok.term; term_pos = ok.term_pos;
+      node = ok.node;
+      nodes = ok.nodes;
+      term = ok.term;
+      term_pos = ok.term_pos;
       log = shows_cut (a.log p) r.raft.log r.applied ok.log ok.based (omega (arith, ok.applied_le));
       start_le = omega (arith, ok.start_le, ok.based);
       based = omega arith;
-      applied_le = ok.applied_le; state_is = ok.state_is; vote = ok.vote; known = ok.known; role = ok.role; commit = ok.commit;
+      applied_le = ok.applied_le;
+      state_is = ok.state_is;
+      vote = ok.vote;
+      known = ok.known;
+      role = ok.role;
+      commit = ok.commit;
     }
 
 -- Apply
@@ -193,31 +211,46 @@ applies_ok {S} g a p r h ok =
     let lt : r.applied < r.raft.head.commit = ltb-true r.applied r.raft.head.commit more in
     let within : r.raft.head.commit ≤ length (a.log p) = commits_within g.nodes a r.raft.head.term r.raft.head.commit (a.log p) ok.commit in
     let entry : entry_at r.raft.log (r.applied + 1) ≡ Some (get_or (a.log p) r.applied no_entry) =
-      ap (entry_at r.raft.log) (add-one r.applied) ∙ entry_in (a.log p) r.raft.log ok.log r.applied ok.based (omega arith) in
+    ap (entry_at r.raft.log) (add-one r.applied) ∙ entry_in (a.log p) r.raft.log ok.log r.applied ok.based (omega arith) in
     subst (λ z. TurnOk g a p (option_map_or (applied_one g r) z (stays (Live r)))) (sym entry)
     (stays_ok g a p (Live (record r { applied = r.applied + 1; state = g.act r.state (get_or (a.log p) r.applied no_entry) })) h
-      (record {
-        node = ok.node; nodes = ok.nodes; term = ok.term; term_pos = ok.term_pos; log = ok.log; start_le = ok.start_le;
-        based = omega (arith, ok.based);
-        applied_le = omega arith;
-        state_is = ap (λ z. g.act z (get_or (a.log p) r.applied no_entry)) ok.state_is ∙ sym (state_more g (a.log p) r.applied (omega (arith, ok.start_le, ok.based)) (omega arith));
-        vote = ok.vote; known = ok.known; role = ok.role; commit = ok.commit;
-      })))
+    (record {
+      node = ok.node;
+      nodes = ok.nodes;
+      term = ok.term;
+      term_pos = ok.term_pos;
+      log = ok.log;
+      start_le = ok.start_le;
+      based = omega (arith, ok.based);
+      applied_le = omega arith;
+      state_is = ap (λ z. g.act z (get_or (a.log p) r.applied no_entry)) ok.state_is ∙ sym (state_more g (a.log p) r.applied (omega (arith, ok.start_le, ok.based)) (omega arith));
+      vote = ok.vote;
+      known = ok.known;
+      role = ok.role;
+      commit = ok.commit;
+    })))
     (λ _. stays_ok g a p (Live r) h ok)
 
 -- Restart
 restarted_ok : {S : Type 0} (g : Range S) (a : Abs) (p : ℕ) (r : Replica S) → NodeOk g a p r.raft r.applied r.state → NodeOk g a p (restarted r.applied r.raft) r.applied r.state
 restarted_ok g a p r ok = record {
-  node = ok.node; nodes = ok.nodes; term = ok.term; term_pos = ok.term_pos; log = ok.log; start_le = ok.start_le; based = ok.based;
+  node = ok.node;
+  nodes = ok.nodes;
+  term = ok.term;
+  term_pos = ok.term_pos;
+  log = ok.log;
+  start_le = ok.start_le;
+  based = ok.based;
   applied_le = omega arith;
-  state_is = ok.state_is; vote = ok.vote;
+  state_is = ok.state_is;
+  vote = ok.vote;
   known = λ l e _. absurd (none_some l e);
   role = tt;
   commit = commits_less g.nodes a r.raft.head.term r.applied r.raft.head.commit (a.log p) ok.applied_le ok.commit;
 }
   where
-  none_some : (l : ℕ) → ◌≡◌ {A = Option ℕ} None (Some l) → ⊥
-  none_some l e = cc
+    none_some : (l : ℕ) → ◌≡◌ {A = Option ℕ} None (Some l) → ⊥
+    none_some l e = cc
 
 -- Begin
 first_ok : {S : Type 0} (g : Range S) (a : Abs) (p : ℕ) → Begun g a → AbsentOk g a p → NodeOk g a p (first g p).raft g.base g.start
@@ -236,20 +269,21 @@ first_ok {S} g a p begun ok =
       vote = λ lt. absurd (omega arith);
       known = λ l e same. cond_both (eqb p g.holder) Leader Follower (λ z. z ≡ Leader) (λ _. refl) (λ ne. absurd (eqb-false p g.holder ne (sym same ∙ sym (some_same g.holder l e))));
       role = cond_both (eqb p g.holder) Leader Follower (λ z. RoleOk a p 1 (a.log p) (for_each_node (g.base + 1)) (for_each_node 0) (for_each_node false) z)
-        (λ e. record {
-          leads = begun.holder ∙ sym (eqb-true p g.holder e);
-          ahead = λ q pq. at_each (λ x. x ≤ length (a.log p) + 1) (g.base + 1) q 0 (omega (arith, ap length ok.log)) (omega arith);
-          acked = λ q pq. at_each (λ x. x ≤ a.ack q 1) 0 q 0 (omega arith) (omega arith);
-        })
-        (λ _. tt);
+          (λ e. record {
+            leads = begun.holder ∙ sym (eqb-true p g.holder e);
+            ahead = λ q pq. at_each (λ x. x ≤ length (a.log p) + 1) (g.base + 1) q 0 (omega (arith, ap length ok.log)) (omega arith);
+            acked = λ q pq. at_each (λ x. x ≤ a.ack q 1) 0 q 0 (omega arith) (omega arith);
+          })
+          (λ _. tt);
       commit = subst (λ z. Commits g.nodes a 1 g.base z) (sym ok.log) begun.base;
     }
   where
-  some_same : (x y : ℕ) → Some x ≡ Some y → x ≡ y
-  some_same x y e = cc
-  front_term : (b : ℕ) → term_in (replicate b (record { term = 1; payload = [] })) b ≡ start_term b
-  front_term zero = refl
-  front_term (suc n) = ap (λ z. z.term) (get_or-replicate (suc n) n (record { term = 1; payload = [] }) no_entry (omega arith))
+    some_same : (x y : ℕ) → Some x ≡ Some y → x ≡ y
+    some_same x y e = cc
+
+    front_term : (b : ℕ) → term_in (replicate b (record { term = 1; payload = [] })) b ≡ start_term b
+    front_term zero = refl
+    front_term (suc n) = ap (λ z. z.term) (get_or-replicate (suc n) n (record { term = 1; payload = [] }) no_entry (omega arith))
 
 pub acts_ok : {S : Type 0} (g : Range S) (a : Abs) (p : ℕ) (action : Action) (status : Status S) → Begun g a → Inv g.nodes a → 0 < p → StatusOk g a p status → TurnOk g a p (acts g p action status)
 acts_ok g a p Begin Absent begun h pos ok = stays_ok g a p (Live (first g p)) h (first_ok g a p begun ok)

@@ -35,9 +35,9 @@ term_at_in xs l s k le lt =
     (λ e. ap Some (sym s.base_term) ∙ ap (λ z. Some (term_in xs z)) (eqb-true l.base k e))
     (λ ne. above k (omega (arith, eqb-false l.base k ne)) lt)
   where
-  above : (k : ℕ) → l.base < k → k ≤ length xs → option_map (λ (e : Entry). e.term) (entry_at l k) ≡ Some (term_in xs k)
-  above zero gt le' = absurd (omega arith)
-  above (suc j) gt le' = ap (option_map (λ (e : Entry). e.term)) (entry_in xs l s j (omega arith) (omega arith))
+    above : (k : ℕ) → l.base < k → k ≤ length xs → option_map (λ (e : Entry). e.term) (entry_at l k) ≡ Some (term_in xs k)
+    above zero gt le' = absurd (omega arith)
+    above (suc j) gt le' = ap (option_map (λ (e : Entry). e.term)) (entry_in xs l s j (omega arith) (omega arith))
 
 pub term_at_or : (xs : List Entry) (l : LogState) → Shows xs l → (k d : ℕ) → l.base ≤ k → k ≤ length xs → unwrap_or (term_at l k) d ≡ term_in xs k
 term_at_or xs l s k d le lt = ap (λ z. unwrap_or z d) (term_at_in xs l s k le lt)
@@ -67,8 +67,8 @@ pub record HasTerm (xs : List Entry) (l : LogState) (k t : ℕ) : Type 0 where
 none_has : (o : Option ℕ) (t : ℕ) → o ≡ None → option_map_or (λ x. eqb x t) o false ≡ true → ⊥
 none_has o t e h = absurd (true≢' (sym h ∙ ap (λ z. option_map_or (λ x. eqb x t) z false) e))
   where
-  true≢' : true ≡ false → ⊥
-  true≢' e' = cc
+    true≢' : true ≡ false → ⊥
+    true≢' e' = cc
 
 pub has_term_is : (xs : List Entry) (l : LogState) → Shows xs l → (k t : ℕ) → has_term l k t ≡ true → HasTerm xs l k t
 has_term_is xs l s k t h =
@@ -118,7 +118,7 @@ shows_front xs i t le e =
       base_term = same_term_in i i (take i xs) xs (omega arith) (take_take i xs) ∙ e;
     }
   where
-  take_take : (k : ℕ) (ys : List Entry) → take k (take k ys) ≡ take k ys
-  take_take zero ys = refl
-  take_take (suc k) [] = refl
-  take_take (suc k) (y ∷ ys) = ap (λ z. y ∷ z) (take_take k ys)
+    take_take : (k : ℕ) (ys : List Entry) → take k (take k ys) ≡ take k ys
+    take_take zero ys = refl
+    take_take (suc k) [] = refl
+    take_take (suc k) (y ∷ ys) = ap (λ z. y ∷ z) (take_take k ys)

@@ -38,12 +38,12 @@ pub record After {S : Type 0} (g : Range S) (a : Abs) (w : World S) : Type 0 whe
 pub every_get : {A : Type 0} (P : A → Type 0) (xs : List A) (i : ℕ) (x : A) → Every P xs → slice_get xs i ≡ Some x → P x
 every_get {A} P [] i x every e = absurd (none_some e)
   where
-  none_some : ◌≡◌ {A = Option A} None (Some x) → ⊥
-  none_some e' = cc
+    none_some : ◌≡◌ {A = Option A} None (Some x) → ⊥
+    none_some e' = cc
 every_get {A} P (y ∷ ys) zero x every e = subst P (some_same e) every.0
   where
-  some_same : ◌≡◌ {A = Option A} (Some y) (Some x) → y ≡ x
-  some_same e' = cc
+    some_same : ◌≡◌ {A = Option A} (Some y) (Some x) → y ≡ x
+    some_same e' = cc
 every_get P (y ∷ ys) (suc i) x every e = every_get P ys i x every.1 e
 
 -- a turn of one node leaves the facts on all nodes
@@ -58,26 +58,27 @@ turn_world {S} g a w place turn range ok within t = record {
   };
 }
   where
-  new : Site S
-  new = after_turn (site w (suc place)) turn
-  at : (p : ℕ) → 0 < p → SiteOk g t.to p (site (with_site w (suc place) (after_turn (site w (suc place)) turn)) p)
-  at zero pos = absurd (omega arith)
-  at (suc k) pos =
-      ⊎_elim
-      (λ (same : k ≡ place).
-      subst (λ z. SiteOk g t.to (suc z) (get_or (set w place (after_turn (site w (suc place)) turn)) z (record { status = Absent; sent = [] }))) (sym same)
-      (subst (λ z. SiteOk g t.to (suc place) z) (sym (get_or-set_same w place (after_turn (site w (suc place)) turn) (record { status = Absent; sent = [] }) within))
+    new : Site S
+    new = after_turn (site w (suc place)) turn
+
+    at : (p : ℕ) → 0 < p → SiteOk g t.to p (site (with_site w (suc place) (after_turn (site w (suc place)) turn)) p)
+    at zero pos = absurd (omega arith)
+    at (suc k) pos =
+        ⊎_elim
+        (λ (same : k ≡ place).
+        subst (λ z. SiteOk g t.to (suc z) (get_or (set w place (after_turn (site w (suc place)) turn)) z (record { status = Absent; sent = [] }))) (sym same)
+        (subst (λ z. SiteOk g t.to (suc place) z) (sym (get_or-set_same w place (after_turn (site w (suc place)) turn) (record { status = Absent; sent = [] }) within))
         (record {
           status = t.status;
           sent = every_append (PacketOk g t.to (suc place)) (site w (suc place)).sent turn.sends (packets_grow g a t.to t.moves.grows (suc place) (omega arith) (site w (suc place)).sent (ok.sites (suc place) (omega arith)).sent) t.sends;
         })))
-      (λ (ne : k ≡ place → ⊥).
-      subst (λ z. SiteOk g t.to (suc k) z) (sym (get_or-set_other w place k (after_turn (site w (suc place)) turn) (record { status = Absent; sent = [] }) ne))
-      (record {
-        status = status_moves g (suc place) a t.to t.moves (suc k) (λ e. ne (omega (arith, e))) pos (site w (suc k)).status (ok.sites (suc k) pos).status;
-        sent = packets_grow g a t.to t.moves.grows (suc k) pos (site w (suc k)).sent (ok.sites (suc k) pos).sent;
-      }))
-      (cases_eq k place)
+        (λ (ne : k ≡ place → ⊥).
+        subst (λ z. SiteOk g t.to (suc k) z) (sym (get_or-set_other w place k (after_turn (site w (suc place)) turn) (record { status = Absent; sent = [] }) ne))
+        (record {
+          status = status_moves g (suc place) a t.to t.moves (suc k) (λ e. ne (omega (arith, e))) pos (site w (suc k)).status (ok.sites (suc k) pos).status;
+          sent = packets_grow g a t.to t.moves.grows (suc k) pos (site w (suc k)).sent (ok.sites (suc k) pos).sent;
+        }))
+        (cases_eq k place)
 
 same_world : {S : Type 0} (g : Range S) (a : Abs) (w : World S) → WorldOk g a w → After g a w
 same_world g a w ok = record { to = a; grows = grows_refl a; ok = ok }
@@ -95,24 +96,26 @@ happens_ok g a w (Acts (suc place) action) range ok =
     (cases_lt place (length w))
 happens_ok {S} g a w (Comes from number again) range ok = found from number (message_of (site w from) number) refl
   where
-  arrives : (from : ℕ) → 0 < from → (sent : ℕ × Message S) → PacketOk g a from sent → After g a (comes g w from again sent)
-  arrives from pf (zero, m) packet = same_world g a w ok
-  arrives from pf (suc place, m) packet =
-      ⊎_elim
-      (λ (within : place < length w).
-      turn_world g a w place (gets g (suc place) from m again (site w (suc place)).status) range ok within
-      (gets_ok g a (suc place) from m again (site w (suc place)).status ok.inv (omega arith) pf (λ e. packet.other (sym e)) (ok.sites (suc place) (omega arith)).status packet.fact))
-      (λ (past : length w ≤ place).
-      subst (λ z. After g a z) (sym (set_past w place (after_turn (site w (suc place)) (gets g (suc place) from m again (site w (suc place)).status)) past)) (same_world g a w ok))
-      (cases_lt place (length w))
-  none_some : (x : ℕ × Message S) → ◌≡◌ {A = Option (ℕ × Message S)} None (Some x) → ⊥
-  none_some x e = cc
-  found : (from number : ℕ) → (o : Option (ℕ × Message S)) → message_of (site w from) number ≡ o → After g a (option_map_or (comes g w from again) o w)
-  found from number None e = same_world g a w ok
-  found zero zero (Some sent) e = absurd (none_some sent e)
-  found zero (suc i) (Some sent) e = absurd (none_some sent e)
-  found (suc k) zero (Some sent) e = absurd (none_some sent e)
-  found (suc k) (suc i) (Some sent) e = arrives (suc k) (omega arith) sent (every_get (PacketOk g a (suc k)) (site w (suc k)).sent i sent (ok.sites (suc k) (omega arith)).sent e)
+    arrives : (from : ℕ) → 0 < from → (sent : ℕ × Message S) → PacketOk g a from sent → After g a (comes g w from again sent)
+    arrives from pf (zero, m) packet = same_world g a w ok
+    arrives from pf (suc place, m) packet =
+        ⊎_elim
+        (λ (within : place < length w).
+        turn_world g a w place (gets g (suc place) from m again (site w (suc place)).status) range ok within
+        (gets_ok g a (suc place) from m again (site w (suc place)).status ok.inv (omega arith) pf (λ e. packet.other (sym e)) (ok.sites (suc place) (omega arith)).status packet.fact))
+        (λ (past : length w ≤ place).
+        subst (λ z. After g a z) (sym (set_past w place (after_turn (site w (suc place)) (gets g (suc place) from m again (site w (suc place)).status)) past)) (same_world g a w ok))
+        (cases_lt place (length w))
+
+    none_some : (x : ℕ × Message S) → ◌≡◌ {A = Option (ℕ × Message S)} None (Some x) → ⊥
+    none_some x e = cc
+
+    found : (from number : ℕ) → (o : Option (ℕ × Message S)) → message_of (site w from) number ≡ o → After g a (option_map_or (comes g w from again) o w)
+    found from number None e = same_world g a w ok
+    found zero zero (Some sent) e = absurd (none_some sent e)
+    found zero (suc i) (Some sent) e = absurd (none_some sent e)
+    found (suc k) zero (Some sent) e = absurd (none_some sent e)
+    found (suc k) (suc i) (Some sent) e = arrives (suc k) (omega arith) sent (every_get (PacketOk g a (suc k)) (site w (suc k)).sent i sent (ok.sites (suc k) (omega arith)).sent e)
 
 -- a schedule
 pub run_ok : {S : Type 0} (g : Range S) (a : Abs) (w : World S) (events : List Event) → IsRange g → WorldOk g a w → After g a (run g events w)
@@ -147,9 +150,9 @@ at_first P one other t here there = cond_both (eqb t 1) one other P (λ e. here 
 everyone : (n : ℕ) (P : ℕ → Type 0) → 0 < n → ((q : ℕ) → P q) → Majority n P
 everyone n P some all = record { test = λ _. true; most = omega (arith, counts n); has = λ q _ _ _. all q }
   where
-  counts : (k : ℕ) → count (λ _. true) k ≡ k
-  counts zero = refl
-  counts (suc k) = ap suc (counts k)
+    counts : (k : ℕ) → count (λ _. true) k ≡ k
+    counts zero = refl
+    counts (suc k) = ap suc (counts k)
 
 front_good : {S : Type 0} (g : Range S) → Good (beginning g).llog (front g)
 front_good g j lt =
@@ -167,7 +170,7 @@ beginning_inv : {S : Type 0} (g : Range S) → IsRange g → Inv g.nodes (beginn
 beginning_inv g range =
     let len : length (front g) ≡ g.base = length-replicate g.base (record { term = 1; payload = [] }) in
     let empty : (t j : ℕ) → (t ≡ 1 → ⊥) → Proper (beginning g).llog t j → ⊥ =
-      λ t j ne proper. at_first (λ x. j < length x → ⊥) (front g) [] t (λ e _. ne e) (λ _ lt. omega arith) proper.within in
+    λ t j ne proper. at_first (λ x. j < length x → ⊥) (front g) [] t (λ e _. ne e) (λ _ lt. omega arith) proper.within in
     record {
       unvoted = λ p t lt. at_first (λ x. x ≡ 0) g.holder 0 t (λ e. absurd (omega arith)) (λ _. refl);
       asked_first = λ p t _. refl;
@@ -176,8 +179,8 @@ beginning_inv g range =
       lead_term = λ t. at_first (λ x. 0 < x → t ≤ 1) g.holder 0 t (λ e _. omega arith) (λ _ lt. absurd (omega arith));
       lead_log = λ p pos e. refl;
       lead_ack = λ t. at_first (λ x. 0 < x → (beginning g).ack x t ≡ length ((beginning g).llog t)) g.holder 0 t
-        (λ e _. at_first (λ x. x ≡ length ((beginning g).llog t)) g.base 0 t (λ _. at_first (λ y. g.base ≡ length y) (front g) [] t (λ _. sym len) (λ ne. absurd (ne e))) (λ ne. absurd (ne e)))
-        (λ _ lt. absurd (omega arith));
+          (λ e _. at_first (λ x. x ≡ length ((beginning g).llog t)) g.base 0 t (λ _. at_first (λ y. g.base ≡ length y) (front g) [] t (λ _. sym len) (λ ne. absurd (ne e))) (λ ne. absurd (ne e)))
+          (λ _ lt. absurd (omega arith));
       good_log = λ p. front_good g;
       good_llog = λ t. at_first (λ x. Good (beginning g).llog x) (front g) [] t (λ _. front_good g) (λ _ j lt. absurd (omega arith));
       log_terms = λ p j. front_terms g j;
@@ -213,15 +216,17 @@ beginning_ok {S} g range = record {
   sites = at;
 }
   where
-  nothing_there : Site S
-  nothing_there = record { status = Absent; sent = [] }
-  each : (n k : ℕ) → (P : Site S → Type 0) → P (record { status = Absent; sent = [] }) → P (get_or (replicate n (record { status = Absent; sent = [] })) k (record { status = Absent; sent = [] }))
-  each zero k P here = here
-  each (suc n) zero P here = here
-  each (suc n) (suc k) P here = each n k P here
-  at : (p : ℕ) → 0 < p → SiteOk g (beginning g) p (site (nowhere g) p)
-  at zero pos = absurd (omega arith)
-  at (suc k) pos = each g.nodes k (SiteOk g (beginning g) (suc k)) (record { status = record { term = refl; log = refl }; sent = tt })
+    nothing_there : Site S
+    nothing_there = record { status = Absent; sent = [] }
+
+    each : (n k : ℕ) → (P : Site S → Type 0) → P (record { status = Absent; sent = [] }) → P (get_or (replicate n (record { status = Absent; sent = [] })) k (record { status = Absent; sent = [] }))
+    each zero k P here = here
+    each (suc n) zero P here = here
+    each (suc n) (suc k) P here = each n k P here
+
+    at : (p : ℕ) → 0 < p → SiteOk g (beginning g) p (site (nowhere g) p)
+    at zero pos = absurd (omega arith)
+    at (suc k) pos = each g.nodes k (SiteOk g (beginning g) (suc k)) (record { status = record { term = refl; log = refl }; sent = tt })
 
 -- the world after a schedule from the start
 pub after_start : {S : Type 0} (g : Range S) → IsRange g → (events : List Event) → After g (beginning g) (world_after g events)

@@ -1,0 +1,38 @@
+//! Laws of the world of one range, for every schedule of deliveries, ticks, proposals, cuts, removals and
+//! restarts. `S` is the type of a range's state, of which snapshots are made. No program calls these.
+
+ghost use Rattle.rp_raftsafe.specs.Safety.{OneLeader, LogsMatch, CommitsAgree, OneList, AppendsFit, SentToOthers};
+
+/// In each term at most one node is ever leader, at one time or at two (Raft 2014, section 5.2, election safety).
+pub fn one_leader<S>()
+    ensures { OneLeader S }
+{}
+
+/// Two logs that have one term at an index are the same up to it, as far as both show them (Raft 2014,
+/// section 5.3, log matching).
+pub fn logs_match<S>()
+    ensures { LogsMatch S }
+{}
+
+/// Two replicas agree on each entry that both have committed, at one time or at two.
+pub fn commits_agree<S>()
+    ensures { CommitsAgree S }
+{}
+
+/// There is a committed list, which the schedule determines and which only grows, and each replica shows it:
+/// its base, its entries up to the commit index, and its state, which is the fold of the list up to the
+/// applied index (Raft 2014, section 5.4, state machine safety).
+pub fn one_list<S>()
+    ensures { OneList S }
+{}
+
+/// An `Append` whose term is not below the receiver's has, above the receiver's base and up to its commit
+/// index, the terms that its log has there.
+pub fn appends_fit<S>()
+    ensures { AppendsFit S }
+{}
+
+/// Each message goes to another node than the one that sent it.
+pub fn sent_to_others<S>()
+    ensures { SentToOthers S }
+{}
