@@ -11,12 +11,12 @@ use Rattle.rp_raftsafe.proofs.Store.{Stores}
 use Rattle.rp_raftsafe.proofs.Views.{Shows, HasTerm, has_term_is}
 
 -- so many places from the front have the same terms, and the next one has not
-same_terms_left : (xs ys : List Entry) → same_terms xs ys ≤ length xs
+pub same_terms_left : (xs ys : List Entry) → same_terms xs ys ≤ length xs
 same_terms_left [] ys = omega arith
 same_terms_left (x ∷ xs) [] = omega arith
 same_terms_left (x ∷ xs) (y ∷ ys) = cond_both (eqb x.term y.term) (suc (same_terms xs ys)) 0 (λ z. z ≤ suc (length xs)) (λ _. omega (arith, same_terms_left xs ys)) (λ _. omega arith)
 
-same_terms_right : (xs ys : List Entry) → same_terms xs ys ≤ length ys
+pub same_terms_right : (xs ys : List Entry) → same_terms xs ys ≤ length ys
 same_terms_right [] ys = omega arith
 same_terms_right (x ∷ xs) [] = omega arith
 same_terms_right (x ∷ xs) (y ∷ ys) = cond_both (eqb x.term y.term) (suc (same_terms xs ys)) 0 (λ z. z ≤ suc (length ys)) (λ _. omega (arith, same_terms_right xs ys)) (λ _. omega arith)

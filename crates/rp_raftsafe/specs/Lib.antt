@@ -1,5 +1,6 @@
 pub mod World
 pub mod Safety
+pub mod Bounds
 pub use Rattle.rp_raftlog.specs.LogState
 pub use Rattle.rp_raft.specs.RaftState
 pub use Rattle.rp_raft.specs.Step
