@@ -50,7 +50,7 @@ pub sents_more : {S : Type 0} (b c : ℕ) (xs : List (ℕ × Message S)) → b �
 sents_more b c xs le = every_of (SentBelow b) (SentBelow c) (λ x h. message_more b c x.1 le h) xs
 
 -- a term of the log
-log_term_le : (b : ℕ) (l : LogState) (k : ℕ) → l.base_term ≤ b → All (λ (e : Entry). e.term ≤ b) l.entries → unwrap_or (term_at l k) 0 ≤ b
+pub log_term_le : (b : ℕ) (l : LogState) (k : ℕ) → l.base_term ≤ b → All (λ (e : Entry). e.term ≤ b) l.entries → unwrap_or (term_at l k) 0 ≤ b
 log_term_le b l k base all =
     cond_both (eqb l.base k) (Some l.base_term) (option_map (λ (e : Entry). e.term) (entry_at l k)) (λ z. unwrap_or z 0 ≤ b)
     (λ _. base)
@@ -67,7 +67,7 @@ log_term_le b l k base all =
       (cases_lt i (length l.entries))
 
 -- a place of a table
-table_le : (b : ℕ) (xs : List ℕ) (k d : ℕ) → d ≤ b → All (λ n. n ≤ b) xs → get_or xs k d ≤ b
+pub table_le : (b : ℕ) (xs : List ℕ) (k d : ℕ) → d ≤ b → All (λ n. n ≤ b) xs → get_or xs k d ≤ b
 table_le b xs k d le all =
     ⊎_elim
     (λ (lt : k < length xs). all k d lt)
@@ -90,7 +90,7 @@ draft_more b c d le h = record { state = below_more b c d.state le h.state; repl
   taken_more None k = tt
   taken_more (Some t) k = omega arith
 
-quiet_below : {S : Type 0} (b : ℕ) (st : RaftState) → RaftBelow b st → DraftBelow {S = S} b (quiet st)
+pub quiet_below : {S : Type 0} (b : ℕ) (st : RaftState) → RaftBelow b st → DraftBelow {S = S} b (quiet st)
 quiet_below b st h = record { state = h; replies = tt; taken = tt }
 
 sends_below : {S : Type 0} (b : ℕ) (st : RaftState) (due : Due) → RaftBelow b st → DraftBelow {S = S} b (sends_to st due)
@@ -99,7 +99,7 @@ sends_below b st due h = record { state = h; replies = tt; taken = tt }
 answered_below : {S : Type 0} (b : ℕ) (st : RaftState) (to : ℕ) (m : Message S) → RaftBelow b st → MessageBelow b m → DraftBelow b (answered st to m)
 answered_below b st to m h k = record { state = h; replies = (k, tt); taken = tt }
 
-with_payloads_below : (b : ℕ) (st : RaftState) (payloads : List (List ℕ)) → RaftBelow b st → RaftBelow (b + length payloads) (with_payloads st payloads)
+pub with_payloads_below : (b : ℕ) (st : RaftState) (payloads : List (List ℕ)) → RaftBelow b st → RaftBelow (b + length payloads) (with_payloads st payloads)
 with_payloads_below b st payloads h =
     let more : RaftBelow (b + length payloads) st = below_more b (b + length payloads) st (omega arith) h in
     let added : List Entry = map (λ payload. record { term = st.head.term; payload = payload }) payloads in
@@ -146,7 +146,7 @@ candidate_below b st h =
 last_term_le : (b : ℕ) (st : RaftState) → RaftBelow b st → last_term st.log ≤ b
 last_term_le b st h = log_term_le b st.log (last_index st.log) h.base_term h.terms
 
-tick_below : {S : Type 0} (b : ℕ) (st : RaftState) → RaftBelow b st → DraftBelow {S = S} (b + 2) (tick st)
+pub tick_below : {S : Type 0} (b : ℕ) (st : RaftState) → RaftBelow b st → DraftBelow {S = S} (b + 2) (tick st)
 tick_below {S} b st h =
     let more : RaftBelow (b + 2) st = below_more b (b + 2) st (omega arith) h in
     let next : RaftBelow (b + 1) (candidate st) = candidate_below b st h in
@@ -287,3 +287,54 @@ received_below b st from (Append t prev pt es commit) h k = draft_more b (b + 1)
 received_below b st from (AppendReply t said index) h k = draft_more b (b + 1) (on_append_reply (observed st t) from t said index) (omega arith) (on_append_reply_below b (observed st t) from t said index (observed_below b st t k.0 h) k.1)
 received_below b st from (Forward payload) h k = on_forward_below b st payload h
 received_below b st from (Snap t i it s) h k = draft_more b (b + 1) (on_snap (observed st t) from t i it s) (omega arith) (on_snap_below b (observed st t) from t i it s (observed_below b st t k.0 h) k.1 k.2)
+
+-- Propose, behind an event
+pub then_proposed_below : {S : Type 0} (b : ℕ) (d : Draft S) (payloads : List (List ℕ)) → DraftBelow b d → DraftBelow (b + length payloads) (then_proposed d payloads)
+then_proposed_below {S} b d payloads h =
+    let more : DraftBelow (b + length payloads) d = draft_more b (b + length payloads) d (omega arith) h in
+    record {
+      state = cond_both (is_leader d.state.head.role) (with_payloads d.state payloads) d.state (λ z. RaftBelow (b + length payloads) z) (λ _. with_payloads_below b d.state payloads h.state) (λ _. more.state);
+      replies = every_append (SentBelow (b + length payloads)) d.replies (forwards d.state payloads) more.replies
+        (cond_both (is_leader d.state.head.role) [] (option_map_or (λ leader. map (λ payload. (leader, Forward payload)) payloads) d.state.head.leader []) (λ z. Every (SentBelow (b + length payloads)) z) (λ _. tt) (λ _. forwards_below d.state.head.leader));
+      taken = more.taken;
+    }
+  where
+  forwards_below : (l : Option ℕ) → Every (SentBelow {S = S} (b + length payloads)) (option_map_or (λ leader. map (λ payload. (leader, Forward payload)) payloads) l [])
+  forwards_below None = tt
+  forwards_below (Some l) = every_map (SentBelow (b + length payloads)) (λ payload. (l, Forward payload)) payloads (every_all (λ payload. SentBelow {S = S} (b + length payloads) (l, Forward payload)) (λ payload. tt) payloads)
+
+-- the end of an event
+greatest_le : (test : ℕ → Bool) (n : ℕ) → greatest test n ≤ n
+greatest_le test zero = omega arith
+greatest_le test (suc n) = cond_both (test (suc n)) (suc n) (greatest test n) (λ z. z ≤ suc n) (λ _. omega arith) (λ _. omega (arith, greatest_le test n))
+
+advanced_below : (b : ℕ) (st : RaftState) → RaftBelow b st → RaftBelow b (advanced st)
+advanced_below b st h =
+    cond_both (is_leader st.head.role) (record st { head = record st.head { commit = max st.head.commit (committable st) } }) st (λ z. RaftBelow b z)
+    (λ _. same_below b st (record st.head { commit = max st.head.commit (committable st) }) h h.term (omega (arith, h.commit, h.last, greatest_le (λ index. has_term st.log index st.head.term && is_on_majority st index) (last_index st.log))) h.next h.matched)
+    (λ _. h)
+
+to_peer_below : {S : Type 0} (b applied : ℕ) (s : S) (st : RaftState) → RaftBelow b st → applied < b → (q : ℕ) → MessageBelow b (to_peer applied s st q)
+to_peer_below b applied s st h lt q =
+    let next : of_node st.head.next q 0 ≤ b = table_le b st.head.next (q - 1) 0 (omega arith) h.next in
+    cond_both (ltb (of_node st.head.next q 0 - 1) st.log.base)
+    (Snap st.head.term applied (unwrap_or (term_at st.log applied) 0) s)
+    (Append st.head.term (of_node st.head.next q 0 - 1) (unwrap_or (term_at st.log (of_node st.head.next q 0 - 1)) 0) (suffix st.log (of_node st.head.next q 0) most_entries) st.head.commit)
+    (λ m. MessageBelow b m)
+    (λ _. (h.term, lt, log_term_le b st.log applied h.base_term h.terms))
+    (λ above.
+    (h.term,
+      omega (arith, ltb-false (of_node st.head.next q 0 - 1) st.log.base above, next, h.last,
+        length-take most_entries (drop (of_node st.head.next q 0 - st.log.base - 1) st.log.entries), length-drop (of_node st.head.next q 0 - st.log.base - 1) st.log.entries),
+      log_term_le b st.log (of_node st.head.next q 0 - 1) h.base_term h.terms,
+      All-take (λ (e : Entry). e.term ≤ b) most_entries (drop (of_node st.head.next q 0 - st.log.base - 1) st.log.entries) (All-drop (λ (e : Entry). e.term ≤ b) (of_node st.head.next q 0 - st.log.base - 1) st.log.entries h.terms),
+      h.commit))
+
+-- a whole event of a replica's Raft
+pub sent_below : {S : Type 0} (b c applied : ℕ) (s : S) (d : Draft S) → b ≤ c → applied < b → DraftBelow c d → RaftBelow c (advanced d.state) × Every (SentBelow c) (d.replies ++ last_sends applied s (advanced d.state) d.due)
+sent_below {S} b c applied s d le lt h =
+    let after : RaftBelow c (advanced d.state) = advanced_below c d.state h.state in
+    (after,
+      every_append (SentBelow c) d.replies (last_sends applied s (advanced d.state) d.due) h.replies
+      (every_map (SentBelow c) (λ peer. (peer, to_peer applied s (advanced d.state) peer)) (due_peers (advanced d.state).head d.due)
+        (every_all (λ peer. SentBelow {S = S} c (peer, to_peer applied s (advanced d.state) peer)) (λ peer. to_peer_below c applied s (advanced d.state) after (omega arith) peer) (due_peers (advanced d.state).head d.due))))

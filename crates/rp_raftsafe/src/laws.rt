@@ -2,6 +2,7 @@
 //! restarts. `S` is the type of a range's state, of which snapshots are made. No program calls these.
 
 ghost use Rattle.rp_raftsafe.specs.Safety.{OneLeader, LogsMatch, CommitsAgree, OneList, AppendsFit, SentToOthers};
+ghost use Rattle.rp_raftsafe.specs.Bounds.{Bounded};
 
 /// In each term at most one node is ever leader, at one time or at two (Raft 2014, section 5.2, election safety).
 pub fn one_leader<S>()
@@ -36,3 +37,10 @@ pub fn appends_fit<S>()
 pub fn sent_to_others<S>()
     ensures { SentToOthers S }
 {}
+
+/// Every term, index and count of a replica or a message stays below a bound that grows with the events: by 2
+/// for a tick, 1 for a message that comes, and 1 for each payload.
+pub fn bounded<S>()
+    ensures { Bounded S }
+{
+}
