@@ -1,5 +1,5 @@
 -- What contracts see of a replica's Raft: its head and its log; and how it begins.
-use Rattle.std.specs.Prelude.{◌≡◌, ℕ, zero, suc, ◌+◌, ◌-◌, ◌*◌, ◌<◌, ◌≤◌, max, min, Bool, true, false, not, ◌&&◌, ◌||◌, Option, Some, None, List, [], ◌∷◌, ◌++◌, length, take, replicate, slice_index_or, slice_set, nat_lt, nat_le, ◌==◌, if◌then◌else◌, filter, count_by}
+use Rattle.std.specs.Prelude.{ℕ, zero, suc, ◌+◌, ◌-◌, ◌*◌, Bool, true, false, not, Some, None, List, [], ◌∷◌, ◌++◌, replicate, slice_index_or, slice_set, nat_lt, ◌==◌, if◌then◌else◌, filter}
 use Rattle.rp_raft.specs.declared.heads.Role.{Role}
 use Rattle.rp_raft.specs.declared.heads.Role.TheVariants.{Follower, Candidate, Leader}
 use Rattle.rp_raft.specs.declared.heads.Head.{Head}

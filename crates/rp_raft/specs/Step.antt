@@ -1,10 +1,9 @@
 -- The Raft step: what an event makes of a replica's Raft, and what it sends. A definition for each row of
 -- events and messages, and last the messages that are made from the state that the event leaves.
-use Rattle.std.specs.Prelude.{◌≡◌, ℕ, zero, suc, ◌+◌, ◌-◌, ◌*◌, ◌<◌, ◌≤◌, max, min, Bool, true, false, not, ◌&&◌, ◌||◌, Option, Some, None, List, [], ◌∷◌, ◌++◌, map, length, take, unwrap_or, nat_lt, nat_le, ◌==◌, if◌then◌else◌, count_by}
+use Rattle.std.specs.Prelude.{ℕ, zero, suc, ◌+◌, ◌-◌, ◌*◌, max, min, Bool, true, false, ◌&&◌, ◌||◌, Option, Some, None, List, [], ◌∷◌, ◌++◌, map, length, take, unwrap_or, nat_lt, nat_le, ◌==◌, if◌then◌else◌, count_by}
 use Rattle.std.specs.Option.{option_map_or}
 use Rattle.rp_raftlog.specs.declared.entries.Entry.{Entry}
 use Rattle.rp_raftlog.specs.LogState.{LogState, log_at, last_index, last_term, term_at, has_term, suffix, appended, accepted, accepted_to, matches, cut}
-use Rattle.rp_raft.specs.declared.heads.Role.{Role}
 use Rattle.rp_raft.specs.declared.heads.Role.TheVariants.{Follower, Candidate, Leader}
 use Rattle.rp_raft.specs.declared.heads.Due.{Due}
 use Rattle.rp_raft.specs.declared.heads.Due.TheVariants.{Nobody, One, Everyone}

@@ -1,11 +1,11 @@
 -- Entries of a leader that are put over a log.
-use Rattle.std.proofs.Common.{◌≡◌, ℕ, zero, suc, ◌+◌, ◌-◌, ◌<◌, ◌≤◌, max, Bool, true, false, cond, eqb, ltb, leb, Option, Some, None, List, [], ◌∷◌, ◌++◌, length, take, drop, get_or, refl, sym, ap, subst, ◌∙◌, arith, ◌⊎◌, ⊎_elim, inl, inr, length-drop, length-take, get_or-drop, get_or-take, length-take-le, eqb-true, ltb-true, ltb-false, drop-drop, take-take, add-zero, add-suc, length-append, append-nil}
+use Rattle.std.proofs.Common.{◌≡◌, ℕ, zero, suc, ◌+◌, ◌-◌, ◌<◌, ◌≤◌, true, eqb, ltb, List, [], ◌∷◌, ◌++◌, length, take, drop, refl, sym, ap, subst, ◌∙◌, arith, ⊎_elim, length-drop, length-take, get_or-drop, get_or-take, length-take-le, eqb-true, ltb-true, ltb-false, drop-drop, take-take, add-zero, add-suc, append-nil}
 use Rattle.std.proofs.Math.Seq.{take-add}
-use Rattle.std.proofs.lemmas.Bool.{cond_both, cases_lt, cases_eq, eqb-false}
+use Rattle.std.proofs.lemmas.Bool.{cond_both, cases_lt, eqb-false}
 use Rattle.std.proofs.lemmas.List.{drop-take, drop_all, take_all}
 use Rattle.rp_raftlog.specs.declared.entries.Entry.{Entry}
-use Rattle.rp_raftlog.specs.LogState.{LogState, same_terms, Edit, edited, overlay, accepting, accepted, accepted_to, matches, has_term}
-use Rattle.rp_raftsafe.proofs.Logs.{no_entry, tm, term_in, Good, same_less, same_length, same_tm, same_term_in, logs_match, tm_past}
+use Rattle.rp_raftlog.specs.LogState.{LogState, same_terms, Edit, edited, overlay, accepting, accepted_to, matches, has_term}
+use Rattle.rp_raftsafe.proofs.Logs.{no_entry, tm, term_in, Good, same_length, same_tm, same_term_in, logs_match, tm_past}
 use Rattle.rp_raftsafe.proofs.Machine.{Abs, Inv}
 use Rattle.rp_raftsafe.proofs.Store.{Stores}
 use Rattle.rp_raftsafe.proofs.Views.{Shows, HasTerm, has_term_is}

@@ -1,23 +1,21 @@
 -- The laws of leaders, of logs and of what is sent.
-use Rattle.std.proofs.Common.{◌≡◌, ℕ, zero, suc, ◌+◌, ◌-◌, ◌<◌, ◌≤◌, Bool, true, false, eqb, Option, Some, None, List, [], ◌∷◌, ◌++◌, length, take, drop, get_or, refl, sym, ap, subst, ◌∙◌, arith, eq-eqb, add-one}
-use Rattle.std.specs.Prelude.{slice_get}
+use Rattle.std.proofs.Common.{◌≡◌, ℕ, zero, suc, ◌+◌, ◌<◌, ◌≤◌, false, eqb, Option, Some, None, List, ◌++◌, length, take, refl, sym, ap, ◌∙◌, arith, eq-eqb, add-one}
 use Rattle.std.specs.Option.{option_map_or}
-use Rattle.std.specs.List.{AllByRecursion as Every}
 use Rattle.std.proofs.lemmas.Option.{slice_get_within, get_or_from_slice_get}
 use Rattle.rp_raftlog.specs.declared.entries.Entry.{Entry}
-use Rattle.rp_raftlog.specs.LogState.{LogState, entry_at, term_at, has_term}
+use Rattle.rp_raftlog.specs.LogState.{LogState, entry_at, term_at}
 use Rattle.rp_raft.specs.declared.messages.Message.{Message}
 use Rattle.rp_raft.specs.declared.messages.Message.TheVariants.{Append}
-use Rattle.rp_raftsafe.specs.World.{Range, IsRange, Replica, Status, Absent, Live, World, site, Event, world_after}
-use Rattle.rp_raftsafe.specs.Safety.{IsLive, HasSent, Leads, OneLeader, SameUpTo, LogsMatch, CommitsAgree, AppendsFit, SentToOthers}
+use Rattle.rp_raftsafe.specs.World.{Range, World, site, world_after}
+use Rattle.rp_raftsafe.specs.Safety.{HasSent, Leads, OneLeader, SameUpTo, LogsMatch, CommitsAgree, AppendsFit, SentToOthers}
 use Rattle.rp_raftsafe.proofs.Logs.{no_entry, tm, term_in, Good, good_more, logs_match, same_get, same_tm, same_term_in}
-use Rattle.rp_raftsafe.proofs.Machine.{Abs, Inv}
+use Rattle.rp_raftsafe.proofs.Machine.{Abs}
 use Rattle.rp_raftsafe.proofs.Safe.{Commits, commits_less, commits_within, commits_agree, commits_grow, committed_front}
 use Rattle.rp_raftsafe.proofs.Views.{Shows, HasTerm, entry_in, term_at_in, has_term_is}
 use Rattle.rp_raftsafe.proofs.Accept.{tm_part}
-use Rattle.rp_raftsafe.proofs.Refine.{NodeOk, LeaderOk, PacketOk, AppendOk, StatusOk}
+use Rattle.rp_raftsafe.proofs.Refine.{NodeOk, LeaderOk, PacketOk, AppendOk}
 use Rattle.rp_raftsafe.proofs.Pieces.{as_leader}
-use Rattle.rp_raftsafe.proofs.Worlds.{WorldOk, After, Both, after_start, both_ok, every_get}
+use Rattle.rp_raftsafe.proofs.Worlds.{WorldOk, after_start, both_ok, every_get}
 use Rattle.rp_raftsafe.proofs.Known.{live_ok}
 
 -- who leads is the machine's leader

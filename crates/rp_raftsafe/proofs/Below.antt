@@ -1,28 +1,26 @@
 -- Each event of a replica's Raft raises the bound of its numbers by a little.
-use Rattle.std.proofs.Common.{◌≡◌, ℕ, zero, suc, ◌+◌, ◌-◌, ◌<◌, ◌≤◌, max, min, Bool, true, false, cond, ◌&&◌, eqb, ltb, leb, Option, Some, None, List, [], ◌∷◌, ◌++◌, map, length, take, drop, get_or, replicate, refl, sym, ap, subst, ◌∙◌, arith, ◌⊎◌, ⊎_elim, inl, inr, ltb-true, ltb-false, leb-true, length-append, length-take, length-drop, eqb-true}
+use Rattle.std.proofs.Common.{ℕ, zero, suc, ◌+◌, ◌-◌, ◌<◌, ◌≤◌, max, min, Bool, true, false, cond, ◌&&◌, eqb, ltb, leb, Option, Some, None, List, [], ◌∷◌, ◌++◌, map, length, take, drop, get_or, sym, subst, arith, ⊎_elim, ltb-false, length-append, length-take, length-drop}
 use Rattle.std.specs.Prelude.{slice_get, All}
 use Rattle.std.specs.Option.{option_map, option_map_or, unwrap_or}
 use Rattle.std.specs.List.{AllByRecursion as Every}
 use Rattle.std.proofs.lemmas.Bool.{cond_both, cases_lt, eqb-false}
 use Rattle.std.proofs.lemmas.Option.{slice_get-get_or, slice_get_past}
-use Rattle.std.proofs.lemmas.List.{get_or_past, length-map, length_push}
+use Rattle.std.proofs.lemmas.List.{get_or_past, length-map}
 use Rattle.std.proofs.lemmas.List.Elements.{All-weaker, All-append, All-map, All-take, All-drop, All-replicate, All-set, All-nil}
 use Rattle.rp_raftlog.specs.declared.entries.Entry.{Entry}
-use Rattle.rp_raftlog.specs.LogState.{LogState, log_at, last_index, last_term, entry_at, term_at, has_term, suffix, same_terms, Edit, edited, overlay, accepting, accepted, accepted_to, matches, cut}
+use Rattle.rp_raftlog.specs.LogState.{LogState, log_at, last_index, last_term, entry_at, term_at, has_term, suffix, same_terms, Edit, edited, accepting, accepted, accepted_to, matches}
 use Rattle.rp_raft.specs.declared.heads.Head.{Head}
-use Rattle.rp_raft.specs.declared.heads.Role.TheVariants.{Follower, Candidate, Leader}
+use Rattle.rp_raft.specs.declared.heads.Role.TheVariants.{Follower, Leader}
 use Rattle.rp_raft.specs.declared.heads.Due.{Due}
 use Rattle.rp_raft.specs.declared.heads.Due.TheVariants.{Nobody, One, Everyone}
 use Rattle.rp_raft.specs.declared.messages.Message.{Message}
 use Rattle.rp_raft.specs.declared.messages.Message.TheVariants.{Vote, VoteReply, Append, AppendReply, Forward, Snap}
-use Rattle.rp_raft.specs.declared.events.RaftEvent.{RaftEvent}
-use Rattle.rp_raft.specs.declared.events.RaftEvent.TheVariants.{Tick, Receive, Propose, Cut}
 use Rattle.rp_raft.specs.RaftState.{RaftState, is_leader, is_candidate, of_node, with_node, for_each_node, peers}
-use Rattle.rp_raft.specs.Step.{Draft, Done, quiet, answered, sends_to, nothing, with_payloads, leading, is_elected, elected, tick_leading, candidate, requests, stand, patience, tick_waiting, tick, observed, is_up_to_date, may_vote, on_vote, on_vote_reply, following, refused_old, take_append, on_append, on_mismatch, match_after, next_after, on_match, on_append_reply, on_forward, take_snap, on_snap, received, proposed, forwards, due_after, then_proposed, drafted, greatest, committable, advanced, is_on_majority, most_entries, to_peer, due_peers, last_sends, sent, step_then, absent_answer}
-use Rattle.rp_raftsafe.specs.Bounds.{RaftBelow, ReplicaBelow, MessageBelow}
+use Rattle.rp_raft.specs.Step.{Draft, quiet, answered, sends_to, nothing, with_payloads, leading, is_elected, elected, tick_leading, candidate, requests, stand, patience, tick_waiting, tick, observed, is_up_to_date, may_vote, on_vote, on_vote_reply, following, refused_old, take_append, on_append, on_mismatch, match_after, next_after, on_match, on_append_reply, on_forward, take_snap, on_snap, received, forwards, then_proposed, greatest, committable, advanced, is_on_majority, most_entries, to_peer, due_peers, last_sends, sent}
+use Rattle.rp_raftsafe.specs.Bounds.{RaftBelow, MessageBelow}
 use Rattle.rp_raftsafe.proofs.Logs.{no_entry}
 use Rattle.rp_raftsafe.proofs.Pieces.{every_append, every_map, every_all, every_of}
-use Rattle.rp_raftsafe.proofs.Accept.{same_terms_left, same_terms_right}
+use Rattle.rp_raftsafe.proofs.Accept.{same_terms_left}
 
 pub below_more : (b c : ℕ) (st : RaftState) → b ≤ c → RaftBelow b st → RaftBelow c st
 below_more b c st le h = record {
@@ -59,12 +57,12 @@ log_term_le b l k base all =
     (λ _. at (k - l.base - 1))
     (λ _. omega arith))
   where
-  at : (i : ℕ) → unwrap_or (option_map (λ (e : Entry). e.term) (slice_get l.entries i)) 0 ≤ b
-  at i =
-      ⊎_elim
-      (λ (lt : i < length l.entries). subst (λ z. unwrap_or (option_map (λ (e : Entry). e.term) z) 0 ≤ b) (sym (slice_get-get_or l.entries i no_entry lt)) (all i no_entry lt))
-      (λ (past : length l.entries ≤ i). subst (λ z. unwrap_or (option_map (λ (e : Entry). e.term) z) 0 ≤ b) (sym (slice_get_past l.entries i past)) (omega arith))
-      (cases_lt i (length l.entries))
+    at : (i : ℕ) → unwrap_or (option_map (λ (e : Entry). e.term) (slice_get l.entries i)) 0 ≤ b
+    at i =
+        ⊎_elim
+        (λ (lt : i < length l.entries). subst (λ z. unwrap_or (option_map (λ (e : Entry). e.term) z) 0 ≤ b) (sym (slice_get-get_or l.entries i no_entry lt)) (all i no_entry lt))
+        (λ (past : length l.entries ≤ i). subst (λ z. unwrap_or (option_map (λ (e : Entry). e.term) z) 0 ≤ b) (sym (slice_get_past l.entries i past)) (omega arith))
+        (cases_lt i (length l.entries))
 
 -- a place of a table
 pub table_le : (b : ℕ) (xs : List ℕ) (k d : ℕ) → d ≤ b → All (λ n. n ≤ b) xs → get_or xs k d ≤ b
@@ -86,9 +84,9 @@ pub record DraftBelow {S : Type 0} (b : ℕ) (d : Draft S) : Type 0 where
 draft_more : {S : Type 0} (b c : ℕ) (d : Draft S) → b ≤ c → DraftBelow b d → DraftBelow c d
 draft_more b c d le h = record { state = below_more b c d.state le h.state; replies = sents_more b c d.replies le h.replies; taken = taken_more d.taken h.taken }
   where
-  taken_more : {S : Type 0} (t : Option (ℕ × S)) → TakenBelow b t → TakenBelow c t
-  taken_more None k = tt
-  taken_more (Some t) k = omega arith
+    taken_more : {S : Type 0} (t : Option (ℕ × S)) → TakenBelow b t → TakenBelow c t
+    taken_more None k = tt
+    taken_more (Some t) k = omega arith
 
 pub quiet_below : {S : Type 0} (b : ℕ) (st : RaftState) → RaftBelow b st → DraftBelow {S = S} b (quiet st)
 quiet_below b st h = record { state = h; replies = tt; taken = tt }
@@ -108,14 +106,14 @@ with_payloads_below b st payloads h =
       last = omega (arith, h.last, length-append st.log.entries (map (λ payload. record { term = st.head.term; payload = payload }) payloads), length-map payloads (λ payload. entry_of st.head.term payload));
       base_term = more.base_term;
       terms = All-append (λ (e : Entry). e.term ≤ b + length payloads) st.log.entries (map (λ payload. record { term = st.head.term; payload = payload }) payloads) more.terms
-        (All-map (λ (e : Entry). e.term ≤ b + length payloads) (λ payload. record { term = st.head.term; payload = payload }) payloads (λ k d lt. more.term));
+          (All-map (λ (e : Entry). e.term ≤ b + length payloads) (λ payload. record { term = st.head.term; payload = payload }) payloads (λ k d lt. more.term));
       commit = more.commit;
       next = more.next;
       matched = more.matched;
     }
   where
-  entry_of : ℕ → List ℕ → Entry
-  entry_of t payload = record { term = t; payload = payload }
+    entry_of : ℕ → List ℕ → Entry
+    entry_of t payload = record { term = t; payload = payload }
 
 leading_below : (b : ℕ) (st : RaftState) → RaftBelow b st → RaftBelow (b + 1) (leading st)
 leading_below b st h =
@@ -123,7 +121,11 @@ leading_below b st h =
     (record st { head = record st.head { role = Leader; leader = Some st.head.node; next = for_each_node (last_index st.log + 1); matched = for_each_node 0; silent = 0; beat = 0 } })
     (nothing ∷ [])
     (record {
-      term = h.term; last = h.last; base_term = h.base_term; terms = h.terms; commit = h.commit;
+      term = h.term;
+      last = h.last;
+      base_term = h.base_term;
+      terms = h.terms;
+      commit = h.commit;
       next = All-replicate (λ (n : ℕ). n ≤ b) 5 (last_index st.log + 1) (omega (arith, h.last));
       matched = All-replicate (λ (n : ℕ). n ≤ b) 5 0 (omega arith);
     })
@@ -151,8 +153,8 @@ tick_below {S} b st h =
     let more : RaftBelow (b + 2) st = below_more b (b + 2) st (omega arith) h in
     let next : RaftBelow (b + 1) (candidate st) = candidate_below b st h in
     let requests_below : Every (SentBelow (b + 2)) (requests {S = S} (candidate st)) =
-      every_map (SentBelow (b + 2)) (λ peer. (peer, Vote (st.head.term + 1) (last_index st.log) (last_term st.log))) (peers (candidate st).head)
-      (every_all (λ peer. SentBelow {S = S} (b + 2) (peer, Vote (st.head.term + 1) (last_index st.log) (last_term st.log))) (λ peer. (omega (arith, h.term), omega (arith, h.last), omega (arith, last_term_le b st h))) (peers (candidate st).head)) in
+    every_map (SentBelow (b + 2)) (λ peer. (peer, Vote (st.head.term + 1) (last_index st.log) (last_term st.log))) (peers (candidate st).head)
+    (every_all (λ peer. SentBelow {S = S} (b + 2) (peer, Vote (st.head.term + 1) (last_index st.log) (last_term st.log))) (λ peer. (omega (arith, h.term), omega (arith, h.last), omega (arith, last_term_le b st h))) (peers (candidate st).head)) in
     let stood : DraftBelow {S = S} (b + 1 + 1) (elected (candidate st)) = elected_below (b + 1) (candidate st) next in
     let stood' : DraftBelow {S = S} (b + 2) (elected (candidate st)) = draft_more (b + 1 + 1) (b + 2) (elected (candidate st)) (omega arith) stood in
     cond_both (is_leader st.head.role) (tick_leading st) (tick_waiting st) (λ d. DraftBelow {S = S} (b + 2) d)
@@ -209,15 +211,18 @@ accepted_below b l prev es last terms more all =
       terms = All-append (λ (e : Entry). e.term ≤ b) (take (length l.entries) l.entries) [] (All-take (λ (e : Entry). e.term ≤ b) (length l.entries) l.entries terms) (All-nil (λ (e : Entry). e.term ≤ b));
     })
     (λ ne. record {
-      last = omega (arith, eqb-false (same_terms (drop (l.base - prev) es) (drop (prev - l.base) l.entries)) (length (drop (l.base - prev) es)) ne,
+      last = omega (
+        arith,
+        eqb-false (same_terms (drop (l.base - prev) es) (drop (prev - l.base) l.entries)) (length (drop (l.base - prev) es)) ne,
         same_terms_left (drop (l.base - prev) es) (drop (prev - l.base) l.entries),
         length-drop (l.base - prev) es,
         length-append (take (prev - l.base + same_terms (drop (l.base - prev) es) (drop (prev - l.base) l.entries)) l.entries) (drop (same_terms (drop (l.base - prev) es) (drop (prev - l.base) l.entries)) (drop (l.base - prev) es)),
         length-take (prev - l.base + same_terms (drop (l.base - prev) es) (drop (prev - l.base) l.entries)) l.entries,
-        length-drop (same_terms (drop (l.base - prev) es) (drop (prev - l.base) l.entries)) (drop (l.base - prev) es));
+        length-drop (same_terms (drop (l.base - prev) es) (drop (prev - l.base) l.entries)) (drop (l.base - prev) es),
+      );
       terms = All-append (λ (e : Entry). e.term ≤ b) (take (prev - l.base + same_terms (drop (l.base - prev) es) (drop (prev - l.base) l.entries)) l.entries) (drop (same_terms (drop (l.base - prev) es) (drop (prev - l.base) l.entries)) (drop (l.base - prev) es))
-        (All-take (λ (e : Entry). e.term ≤ b) (prev - l.base + same_terms (drop (l.base - prev) es) (drop (prev - l.base) l.entries)) l.entries terms)
-        (All-drop (λ (e : Entry). e.term ≤ b) (same_terms (drop (l.base - prev) es) (drop (prev - l.base) l.entries)) (drop (l.base - prev) es) (All-drop (λ (e : Entry). e.term ≤ b) (l.base - prev) es all));
+          (All-take (λ (e : Entry). e.term ≤ b) (prev - l.base + same_terms (drop (l.base - prev) es) (drop (prev - l.base) l.entries)) l.entries terms)
+          (All-drop (λ (e : Entry). e.term ≤ b) (same_terms (drop (l.base - prev) es) (drop (prev - l.base) l.entries)) (drop (l.base - prev) es) (All-drop (λ (e : Entry). e.term ≤ b) (l.base - prev) es all));
     })
 
 take_append_below : {S : Type 0} (b : ℕ) (st : RaftState) (from prev pt : ℕ) (es : List Entry) (commit : ℕ) → RaftBelow b st → prev + length es < b → All (λ (e : Entry). e.term ≤ b) es → DraftBelow {S = S} b (take_append st from prev pt es commit)
@@ -227,8 +232,8 @@ take_append_below {S} b st from prev pt es commit h more all =
     (answered (record { head = record st.head { commit = max st.head.commit (min commit (prev + length es)) }; log = accepted st.log prev es }) from (AppendReply st.head.term true (accepted_to st.log prev es)))
     (answered st from (AppendReply st.head.term false st.head.commit)) (λ d. DraftBelow {S = S} b d)
     (λ _. answered_below b (record { head = record st.head { commit = max st.head.commit (min commit (prev + length es)) }; log = accepted st.log prev es }) from (AppendReply st.head.term true (accepted_to st.log prev es))
-      (record { term = h.term; last = edit.last; base_term = h.base_term; terms = edit.terms; commit = omega (arith, h.commit); next = h.next; matched = h.matched })
-      (h.term, omega (arith, h.last)))
+    (record { term = h.term; last = edit.last; base_term = h.base_term; terms = edit.terms; commit = omega (arith, h.commit); next = h.next; matched = h.matched })
+    (h.term, omega (arith, h.last)))
     (λ _. answered_below b st from (AppendReply st.head.term false st.head.commit) h (h.term, h.commit))
 
 on_append_below : {S : Type 0} (b : ℕ) (st : RaftState) (from t prev pt : ℕ) (es : List Entry) (commit : ℕ) → RaftBelow b st → prev + length es < b → All (λ (e : Entry). e.term ≤ b) es → DraftBelow {S = S} b (on_append st from t prev pt es commit)
@@ -244,13 +249,13 @@ on_append_reply_below {S} b st from t said index h lt =
     (λ _.
     cond_both said (on_match st from index) (on_mismatch st from index) (λ d. DraftBelow {S = S} b d)
     (λ _. sends_below b _ (cond (leb (next_after st from index) (last_index st.log)) (One from) Nobody)
-      (same_below b st (record st.head { matched = with_node st.head.matched from (match_after st from index); next = with_node st.head.next from (next_after st from index) }) h h.term h.commit
-        (All-set (λ (n : ℕ). n ≤ b) st.head.next (from - 1) (next_after st from index) (omega (arith, h.last)) h.next)
-        (All-set (λ (n : ℕ). n ≤ b) st.head.matched (from - 1) (match_after st from index) (omega arith) h.matched)))
+    (same_below b st (record st.head { matched = with_node st.head.matched from (match_after st from index); next = with_node st.head.next from (next_after st from index) }) h h.term h.commit
+    (All-set (λ (n : ℕ). n ≤ b) st.head.next (from - 1) (next_after st from index) (omega (arith, h.last)) h.next)
+    (All-set (λ (n : ℕ). n ≤ b) st.head.matched (from - 1) (match_after st from index) (omega arith) h.matched)))
     (λ _. sends_below b _ (One from)
-      (same_below b st (record st.head { next = with_node st.head.next from (min (max index (of_node st.head.matched from 0) + 1) (last_index st.log + 1)) }) h h.term h.commit
-        (All-set (λ (n : ℕ). n ≤ b) st.head.next (from - 1) (min (max index (of_node st.head.matched from 0) + 1) (last_index st.log + 1)) (omega (arith, h.last)) h.next)
-        h.matched)))
+    (same_below b st (record st.head { next = with_node st.head.next from (min (max index (of_node st.head.matched from 0) + 1) (last_index st.log + 1)) }) h h.term h.commit
+    (All-set (λ (n : ℕ). n ≤ b) st.head.next (from - 1) (min (max index (of_node st.head.matched from 0) + 1) (last_index st.log + 1)) (omega (arith, h.last)) h.next)
+    h.matched)))
     (λ _. quiet_below b st h)
 
 on_forward_below : {S : Type 0} (b : ℕ) (st : RaftState) (payload : List ℕ) → RaftBelow b st → DraftBelow {S = S} (b + 1) (on_forward st payload)
@@ -295,13 +300,13 @@ then_proposed_below {S} b d payloads h =
     record {
       state = cond_both (is_leader d.state.head.role) (with_payloads d.state payloads) d.state (λ z. RaftBelow (b + length payloads) z) (λ _. with_payloads_below b d.state payloads h.state) (λ _. more.state);
       replies = every_append (SentBelow (b + length payloads)) d.replies (forwards d.state payloads) more.replies
-        (cond_both (is_leader d.state.head.role) [] (option_map_or (λ leader. map (λ payload. (leader, Forward payload)) payloads) d.state.head.leader []) (λ z. Every (SentBelow (b + length payloads)) z) (λ _. tt) (λ _. forwards_below d.state.head.leader));
+          (cond_both (is_leader d.state.head.role) [] (option_map_or (λ leader. map (λ payload. (leader, Forward payload)) payloads) d.state.head.leader []) (λ z. Every (SentBelow (b + length payloads)) z) (λ _. tt) (λ _. forwards_below d.state.head.leader));
       taken = more.taken;
     }
   where
-  forwards_below : (l : Option ℕ) → Every (SentBelow {S = S} (b + length payloads)) (option_map_or (λ leader. map (λ payload. (leader, Forward payload)) payloads) l [])
-  forwards_below None = tt
-  forwards_below (Some l) = every_map (SentBelow (b + length payloads)) (λ payload. (l, Forward payload)) payloads (every_all (λ payload. SentBelow {S = S} (b + length payloads) (l, Forward payload)) (λ payload. tt) payloads)
+    forwards_below : (l : Option ℕ) → Every (SentBelow {S = S} (b + length payloads)) (option_map_or (λ leader. map (λ payload. (leader, Forward payload)) payloads) l [])
+    forwards_below None = tt
+    forwards_below (Some l) = every_map (SentBelow (b + length payloads)) (λ payload. (l, Forward payload)) payloads (every_all (λ payload. SentBelow {S = S} (b + length payloads) (l, Forward payload)) (λ payload. tt) payloads)
 
 -- the end of an event
 greatest_le : (test : ℕ → Bool) (n : ℕ) → greatest test n ≤ n
@@ -322,19 +327,27 @@ to_peer_below b applied s st h lt q =
     (Append st.head.term (of_node st.head.next q 0 - 1) (unwrap_or (term_at st.log (of_node st.head.next q 0 - 1)) 0) (suffix st.log (of_node st.head.next q 0) most_entries) st.head.commit)
     (λ m. MessageBelow b m)
     (λ _. (h.term, lt, log_term_le b st.log applied h.base_term h.terms))
-    (λ above.
-    (h.term,
-      omega (arith, ltb-false (of_node st.head.next q 0 - 1) st.log.base above, next, h.last,
-        length-take most_entries (drop (of_node st.head.next q 0 - st.log.base - 1) st.log.entries), length-drop (of_node st.head.next q 0 - st.log.base - 1) st.log.entries),
+    (λ above. (
+      h.term,
+      omega (
+        arith,
+        ltb-false (of_node st.head.next q 0 - 1) st.log.base above,
+        next,
+        h.last,
+        length-take most_entries (drop (of_node st.head.next q 0 - st.log.base - 1) st.log.entries),
+        length-drop (of_node st.head.next q 0 - st.log.base - 1) st.log.entries,
+      ),
       log_term_le b st.log (of_node st.head.next q 0 - 1) h.base_term h.terms,
       All-take (λ (e : Entry). e.term ≤ b) most_entries (drop (of_node st.head.next q 0 - st.log.base - 1) st.log.entries) (All-drop (λ (e : Entry). e.term ≤ b) (of_node st.head.next q 0 - st.log.base - 1) st.log.entries h.terms),
-      h.commit))
+      h.commit,
+    ))
 
 -- a whole event of a replica's Raft
 pub sent_below : {S : Type 0} (b c applied : ℕ) (s : S) (d : Draft S) → b ≤ c → applied < b → DraftBelow c d → RaftBelow c (advanced d.state) × Every (SentBelow c) (d.replies ++ last_sends applied s (advanced d.state) d.due)
 sent_below {S} b c applied s d le lt h =
-    let after : RaftBelow c (advanced d.state) = advanced_below c d.state h.state in
-    (after,
+    let after : RaftBelow c (advanced d.state) = advanced_below c d.state h.state in (
+      after,
       every_append (SentBelow c) d.replies (last_sends applied s (advanced d.state) d.due) h.replies
-      (every_map (SentBelow c) (λ peer. (peer, to_peer applied s (advanced d.state) peer)) (due_peers (advanced d.state).head d.due)
-        (every_all (λ peer. SentBelow {S = S} c (peer, to_peer applied s (advanced d.state) peer)) (λ peer. to_peer_below c applied s (advanced d.state) after (omega arith) peer) (due_peers (advanced d.state).head d.due))))
+          (every_map (SentBelow c) (λ peer. (peer, to_peer applied s (advanced d.state) peer)) (due_peers (advanced d.state).head d.due)
+          (every_all (λ peer. SentBelow {S = S} c (peer, to_peer applied s (advanced d.state) peer)) (λ peer. to_peer_below c applied s (advanced d.state) after (omega arith) peer) (due_peers (advanced d.state).head d.due))),
+    )

@@ -1,22 +1,21 @@
 -- The numbers of a world stay below a bound that grows with the events.
-use Rattle.std.proofs.Common.{◌≡◌, ℕ, zero, suc, ◌+◌, ◌-◌, ◌<◌, ◌≤◌, Bool, true, false, cond, ltb, Option, Some, None, List, [], ◌∷◌, ◌++◌, length, drop, get_or, set, replicate, refl, sym, ap, subst, ◌∙◌, arith, ◌⊎◌, ⊎_elim, inl, inr, ltb-true, length-drop}
-use Rattle.std.specs.Prelude.{slice_get, sum_by, All}
+use Rattle.std.proofs.Common.{◌≡◌, ℕ, zero, suc, ◌+◌, ◌-◌, ◌<◌, ◌≤◌, ltb, Option, Some, None, List, [], ◌∷◌, length, get_or, replicate, refl, sym, subst, arith, ltb-true, length-drop}
+use Rattle.std.specs.Prelude.{sum_by}
 use Rattle.std.specs.Option.{option_map_or}
 use Rattle.std.specs.List.{AllByRecursion as Every}
 use Rattle.std.proofs.lemmas.Bool.{cond_both}
 use Rattle.std.proofs.lemmas.List.Sums.{sum_by-cons}
 use Rattle.std.proofs.lemmas.List.Elements.{All-replicate, All-nil, All-drop}
 use Rattle.rp_raftlog.specs.declared.entries.Entry.{Entry}
-use Rattle.rp_raftlog.specs.LogState.{LogState, last_index, entry_at, cut}
+use Rattle.rp_raftlog.specs.LogState.{entry_at, cut}
 use Rattle.rp_raft.specs.declared.messages.Message.{Message}
 use Rattle.rp_raft.specs.declared.messages.Message.TheVariants.{Vote, VoteReply, Append, AppendReply, Forward, Snap}
 use Rattle.rp_raft.specs.declared.events.RaftEvent.{RaftEvent}
 use Rattle.rp_raft.specs.declared.events.RaftEvent.TheVariants.{Tick, Receive, Propose, Cut}
 use Rattle.rp_raft.specs.RaftState.{RaftState, restarted}
-use Rattle.rp_raft.specs.Step.{Draft, quiet, drafted, then_proposed, sent, advanced, absent_answer}
-use Rattle.rp_raftsafe.specs.World.{Range, Replica, Status, Absent, Live, Removed, Site, World, Turn, stays, first, start_term, from_snap, after_raft, by_raft, applied_one, Action, Begin, Ticks, Proposes, Applies, Cuts, Removes, Restarts, replica_acts, acts, absent_after, gets, site, with_site, after_turn, message_of, Event, Acts, Comes, comes, happens, run, nowhere, world_after}
-use Rattle.rp_raftsafe.specs.Safety.{IsLive, HasSent}
-use Rattle.rp_raftsafe.specs.Bounds.{RaftBelow, ReplicaBelow, MessageBelow, action_weight, event_weight, bound_after, IsBounded, Bounded}
+use Rattle.rp_raft.specs.Step.{quiet, drafted, then_proposed, absent_answer}
+use Rattle.rp_raftsafe.specs.World.{Range, Replica, Status, Absent, Live, Removed, Site, World, Turn, stays, first, start_term, by_raft, applied_one, Action, Begin, Ticks, Proposes, Applies, Cuts, Removes, Restarts, replica_acts, acts, absent_after, gets, site, with_site, after_turn, message_of, Event, Acts, Comes, comes, happens, run, nowhere, world_after}
+use Rattle.rp_raftsafe.specs.Bounds.{RaftBelow, ReplicaBelow, MessageBelow, action_weight, event_weight, bound_after, Bounded}
 use Rattle.rp_raftsafe.proofs.Tables.{at_set}
 use Rattle.rp_raftsafe.proofs.Pieces.{every_append}
 use Rattle.rp_raftsafe.proofs.Worlds.{every_get}
@@ -50,9 +49,9 @@ by_raft_below {S} b k r event again h d =
       sends = whole.1;
     })
   where
-  taken : (t : Option (ℕ × S)) → TakenBelow (b + k) t → option_map_or (λ x. x.0) t r.applied < b + k + length again
-  taken None t = omega (arith, h.applied)
-  taken (Some x) t = omega (arith, t)
+    taken : (t : Option (ℕ × S)) → TakenBelow (b + k) t → option_map_or (λ x. x.0) t r.applied < b + k + length again
+    taken None t = omega (arith, h.applied)
+    taken (Some x) t = omega (arith, t)
 
 first_below : {S : Type 0} (g : Range S) (b p : ℕ) → g.base + 1 ≤ b → ReplicaBelow b (first g p)
 first_below g b p le = record {
@@ -68,9 +67,9 @@ first_below g b p le = record {
   applied = omega arith;
 }
   where
-  start_le : (base : ℕ) → start_term base ≤ b
-  start_le zero = omega arith
-  start_le (suc base) = omega arith
+    start_le : (base : ℕ) → start_term base ≤ b
+    start_le zero = omega arith
+    start_le (suc base) = omega arith
 
 applies_below : {S : Type 0} (g : Range S) (b : ℕ) (r : Replica S) → ReplicaBelow b r → TurnBelow b (replica_acts g r Applies)
 applies_below {S} g b r h =
@@ -78,13 +77,17 @@ applies_below {S} g b r h =
     (λ lt. one (omega (arith, ltb-true r.applied r.raft.head.commit lt, h.raft.commit)) (entry_at r.raft.log (r.applied + 1)))
     (λ _. stays_below b (Live r) h)
   where
-  one : r.applied + 1 < b → (o : Option Entry) → TurnBelow b (option_map_or (applied_one g r) o (stays (Live r)))
-  one lt None = stays_below b (Live r) h
-  one lt (Some e) = stays_below b (Live (record r { applied = r.applied + 1; state = g.act r.state e })) (record { raft = h.raft; applied = lt })
+    one : r.applied + 1 < b → (o : Option Entry) → TurnBelow b (option_map_or (applied_one g r) o (stays (Live r)))
+    one lt None = stays_below b (Live r) h
+    one lt (Some e) = stays_below b (Live (record r { applied = r.applied + 1; state = g.act r.state e })) (record { raft = h.raft; applied = lt })
 
 restarted_below : (b applied : ℕ) (st : RaftState) → applied < b → RaftBelow b st → RaftBelow b (restarted applied st)
 restarted_below b applied st lt h = record {
-  term = h.term; last = h.last; base_term = h.base_term; terms = h.terms; commit = lt;
+  term = h.term;
+  last = h.last;
+  base_term = h.base_term;
+  terms = h.terms;
+  commit = lt;
   next = All-replicate (λ (n : ℕ). n ≤ b) 5 (st.log.base + 1) (omega (arith, h.last));
   matched = All-replicate (λ (n : ℕ). n ≤ b) 5 0 (omega arith);
 }
@@ -95,7 +98,9 @@ cut_below b applied st lt h = record {
   last = omega (arith, h.last, length-drop (applied - st.log.base) st.log.entries);
   base_term = log_term_le b st.log applied h.base_term h.terms;
   terms = All-drop (λ (e : Entry). e.term ≤ b) (applied - st.log.base) st.log.entries h.terms;
-  commit = h.commit; next = h.next; matched = h.matched;
+  commit = h.commit;
+  next = h.next;
+  matched = h.matched;
 }
 
 acts_below : {S : Type 0} (g : Range S) (b p : ℕ) (action : Action) (status : Status S) → g.base + 1 ≤ b → StatusBelow b status → TurnBelow (b + action_weight action) (acts g p action status)
@@ -177,14 +182,16 @@ happens_below : {S : Type 0} (g : Range S) (b : ℕ) (w : World S) (event : Even
 happens_below g b w (Acts node action) le h = with_turn b (b + action_weight action) w node (acts g node action (site w node).status) (omega arith) h (acts_below g b node action (site w node).status le (h node).status)
 happens_below {S} g b w (Comes from number again) le h = found (message_of (site w from) number) refl
   where
-  none_some : (x : ℕ × Message S) → ◌≡◌ {A = Option (ℕ × Message S)} None (Some x) → ⊥
-  none_some x e = cc
-  at : (number : ℕ) (x : ℕ × Message S) → message_of (site w from) number ≡ Some x → SentBelow b x
-  at zero x e = absurd (none_some x e)
-  at (suc i) x e = every_get (SentBelow b) (site w from).sent i x (h from).sent e
-  found : (o : Option (ℕ × Message S)) → message_of (site w from) number ≡ o → WorldBelow (b + (1 + length again)) (option_map_or (comes g w from again) o w)
-  found None e = λ q. site_more b (b + (1 + length again)) (site w q) (omega arith) (h q)
-  found (Some x) e = with_turn b (b + (1 + length again)) w x.0 (gets g x.0 from x.1 again (site w x.0).status) (omega arith) h (gets_below g b x.0 from x.1 again (site w x.0).status (omega arith) (h x.0).status (at number x e))
+    none_some : (x : ℕ × Message S) → ◌≡◌ {A = Option (ℕ × Message S)} None (Some x) → ⊥
+    none_some x e = cc
+
+    at : (number : ℕ) (x : ℕ × Message S) → message_of (site w from) number ≡ Some x → SentBelow b x
+    at zero x e = absurd (none_some x e)
+    at (suc i) x e = every_get (SentBelow b) (site w from).sent i x (h from).sent e
+
+    found : (o : Option (ℕ × Message S)) → message_of (site w from) number ≡ o → WorldBelow (b + (1 + length again)) (option_map_or (comes g w from again) o w)
+    found None e = λ q. site_more b (b + (1 + length again)) (site w q) (omega arith) (h q)
+    found (Some x) e = with_turn b (b + (1 + length again)) w x.0 (gets g x.0 from x.1 again (site w x.0).status) (omega arith) h (gets_below g b x.0 from x.1 again (site w x.0).status (omega arith) (h x.0).status (at number x e))
 
 run_below : {S : Type 0} (g : Range S) (b : ℕ) (w : World S) (events : List Event) → g.base + 1 ≤ b → WorldBelow b w → WorldBelow (b + sum_by event_weight events) (run g events w)
 run_below g b w [] le h = λ q. site_more b (b + 0) (site w q) (omega arith) (h q)
@@ -196,10 +203,10 @@ nowhere_below : {S : Type 0} (g : Range S) (b : ℕ) → WorldBelow b (nowhere g
 nowhere_below g b zero = record { status = tt; sent = tt }
 nowhere_below {S} g b (suc k) = each g.nodes k
   where
-  each : (n k : ℕ) → SiteBelow {S = S} b (get_or (replicate n (record { status = Absent; sent = [] })) k (record { status = Absent; sent = [] }))
-  each zero k = record { status = tt; sent = tt }
-  each (suc n) zero = record { status = tt; sent = tt }
-  each (suc n) (suc k) = each n k
+    each : (n k : ℕ) → SiteBelow {S = S} b (get_or (replicate n (record { status = Absent; sent = [] })) k (record { status = Absent; sent = [] }))
+    each zero k = record { status = tt; sent = tt }
+    each (suc n) zero = record { status = tt; sent = tt }
+    each (suc n) (suc k) = each n k
 
 pub bounded_holds : (S : Type 0) → Bounded S
 bounded_holds S g events =

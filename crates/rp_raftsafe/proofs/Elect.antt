@@ -1,7 +1,6 @@
 -- A candidate with a majority of votes becomes the leader of its term.
-use Rattle.std.proofs.Common.{◌≡◌, ℕ, zero, suc, ◌<◌, ◌≤◌, List, [], ◌∷◌, length, take, refl, sym, ap, subst, ◌∙◌, arith, ◌⊎◌, ⊎_elim, inl, inr}
+use Rattle.std.proofs.Common.{◌≡◌, ℕ, zero, suc, ◌<◌, ◌≤◌, [], length, take, refl, sym, ap, subst, ◌∙◌, arith, ◌⊎◌, ⊎_elim, inl, inr}
 use Rattle.std.proofs.lemmas.Bool.{cases_lt, cases_eq}
-use Rattle.rp_raftlog.specs.declared.entries.Entry.{Entry}
 use Rattle.rp_raftsafe.proofs.Tables.{upd, upd2, at_upd, at_upd2}
 use Rattle.rp_raftsafe.proofs.Logs.{tm, term_in, last_tm, Good, Longer, good_more, longer_refl, same_less, same_length, same_tm, whole_front}
 use Rattle.rp_raftsafe.proofs.Quorum.{Majority, Shared, majority_map, majorities_meet}

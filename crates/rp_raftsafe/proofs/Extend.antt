@@ -1,11 +1,11 @@
 -- A leader appends an entry of its term.
-use Rattle.std.proofs.Common.{◌≡◌, ℕ, zero, suc, ◌<◌, ◌≤◌, List, [], ◌∷◌, ◌++◌, length, take, refl, sym, ap, subst, ◌∙◌, arith, ◌⊎◌, ⊎_elim, inl, inr}
-use Rattle.std.proofs.lemmas.Bool.{cases_lt, cases_eq}
+use Rattle.std.proofs.Common.{◌≡◌, ℕ, suc, ◌<◌, ◌≤◌, [], ◌∷◌, ◌++◌, length, take, sym, ap, subst, ◌∙◌, arith, ◌⊎◌, ⊎_elim, inl, inr}
+use Rattle.std.proofs.lemmas.Bool.{cases_lt}
 use Rattle.std.proofs.lemmas.List.{length_push, get_or_append_left}
 use Rattle.rp_raftlog.specs.declared.entries.Entry.{Entry}
 use Rattle.rp_raftsafe.proofs.Tables.{upd, upd2, at_upd, at_upd2, upd_same}
 use Rattle.rp_raftsafe.proofs.Logs.{tm, no_entry, Good, Longer, good_more, good_push, longer_refl, longer_push, longer_take, longer_length, same_length, tm_push}
-use Rattle.rp_raftsafe.proofs.Quorum.{Majority, Shared, majority_map, majorities_meet}
+use Rattle.rp_raftsafe.proofs.Quorum.{Shared, majority_map, majorities_meet}
 use Rattle.rp_raftsafe.proofs.Machine.{Abs, Proper, Open, IsFresh, Inv}
 
 abbrev pub extend : Abs → ℕ → Entry → Abs

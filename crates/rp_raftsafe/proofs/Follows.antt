@@ -1,32 +1,28 @@
 -- Events by which a node votes and follows are moves of it.
-use Rattle.std.proofs.Common.{◌≡◌, ℕ, zero, suc, ◌+◌, ◌-◌, ◌*◌, ◌<◌, ◌≤◌, max, min, Bool, true, false, cond, ◌&&◌, ◌||◌, eqb, ltb, leb, Option, Some, None, List, [], ◌∷◌, ◌++◌, map, length, take, drop, refl, sym, ap, subst, ◌∙◌, arith, ◌⊎◌, ⊎_elim, inl, inr, eqb-true, ltb-true, ltb-false, leb-true, leb-false, take-take, length-take-le}
+use Rattle.std.proofs.Common.{◌≡◌, ℕ, ◌+◌, ◌<◌, ◌≤◌, max, min, Bool, true, false, ◌&&◌, eqb, ltb, leb, Option, Some, None, List, length, take, drop, refl, sym, ap, subst, ◌∙◌, arith, ⊎_elim, inl, inr, eqb-true, ltb-true, ltb-false, leb-true}
 use Rattle.std.specs.Prelude.{fold}
-use Rattle.std.specs.List.{AllByRecursion as Every}
 use Rattle.std.specs.Option.{option_map_or}
-use Rattle.std.proofs.lemmas.Bool.{cond_both, cases_lt, cases_eq, cases_order, eqb-false, and_parts, or_cases, both_ways}
+use Rattle.std.proofs.lemmas.Bool.{cond_both, and_parts, or_cases}
 use Rattle.rp_raftlog.specs.declared.entries.Entry.{Entry}
-use Rattle.rp_raftlog.specs.LogState.{LogState, log_at, last_index, last_term, has_term, accepted, accepted_to, accepting, matches}
-use Rattle.rp_raft.specs.declared.heads.Head.{Head}
+use Rattle.rp_raftlog.specs.LogState.{LogState, last_index, last_term, accepted, accepted_to, accepting, matches}
 use Rattle.rp_raft.specs.declared.heads.Role.{Role}
 use Rattle.rp_raft.specs.declared.heads.Role.TheVariants.{Follower, Candidate, Leader}
-use Rattle.rp_raft.specs.declared.messages.Message.{Message}
-use Rattle.rp_raft.specs.declared.messages.Message.TheVariants.{Vote, VoteReply, Append, AppendReply, Forward, Snap}
-use Rattle.rp_raft.specs.RaftState.{RaftState, made_by_snap}
-use Rattle.rp_raft.specs.Step.{Draft, quiet, answered, observed, is_up_to_date, may_vote, on_vote, following, refused_old, take_append, on_append, take_snap, on_snap, received}
+use Rattle.rp_raft.specs.declared.messages.Message.TheVariants.{VoteReply, AppendReply}
+use Rattle.rp_raft.specs.RaftState.{RaftState}
+use Rattle.rp_raft.specs.Step.{answered, observed, is_up_to_date, may_vote, on_vote, following, refused_old, take_append, on_append}
 use Rattle.rp_raftsafe.specs.World.{Range}
-use Rattle.rp_raftsafe.proofs.Tables.{upd, upd2, at_upd, at_upd2, upd_same}
-use Rattle.rp_raftsafe.proofs.Logs.{tm, term_in, last_tm, Good, same_less, same_length, same_term_in, logs_match}
+use Rattle.rp_raftsafe.proofs.Tables.{at_upd2, upd_same}
+use Rattle.rp_raftsafe.proofs.Logs.{term_in, last_tm, same_less}
 use Rattle.rp_raftsafe.proofs.Machine.{Abs, Inv, AtLeast}
 use Rattle.rp_raftsafe.proofs.Raise.{raise, raise_keeps}
 use Rattle.rp_raftsafe.proofs.Grant.{grant, Grants, grant_keeps}
 use Rattle.rp_raftsafe.proofs.Store.{store, Stores, Follows, store_keeps}
-use Rattle.rp_raftsafe.proofs.Growth.{Grows, Moves, moves_refl, moves_trans, raise_moves, grant_moves, store_moves}
+use Rattle.rp_raftsafe.proofs.Growth.{Grows, Moves, moves_refl, raise_moves, grant_moves, store_moves}
 use Rattle.rp_raftsafe.proofs.Safe.{Commits, commits_grow, commits_more, commits_less, commits_max, commits_within, committed_front}
-use Rattle.rp_raftsafe.proofs.Views.{Shows, HasTerm, shows_last, last_term_in, has_term_is, has_term_from, shows_front}
-use Rattle.rp_raftsafe.proofs.Accept.{EditOk, accept_is, good_take, tm_take_le}
-use Rattle.rp_raftsafe.proofs.Refine.{NodeOk, RoleOk, LeaderOk, CandidateOk, PacketOk, MessageOk, VoteOk, GrantOk, AppendOk, SnapOk, AbsentOk, number, state_at, message_grows}
-use Rattle.rp_raftsafe.proofs.Pieces.{DraftOk, draft_after, quiet_ok, answered_ok}
-use Rattle.rp_raftsafe.proofs.Leads.{on_vote_reply_ok, on_append_reply_ok, on_forward_ok}
+use Rattle.rp_raftsafe.proofs.Views.{Shows, shows_last, last_term_in}
+use Rattle.rp_raftsafe.proofs.Accept.{EditOk, accept_is}
+use Rattle.rp_raftsafe.proofs.Refine.{NodeOk, RoleOk, PacketOk, VoteOk, AppendOk, number}
+use Rattle.rp_raftsafe.proofs.Pieces.{DraftOk, draft_after, answered_ok}
 
 none_some : (l : ℕ) → ◌≡◌ {A = Option ℕ} None (Some l) → ⊥
 none_some l e = cc

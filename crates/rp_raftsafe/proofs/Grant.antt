@@ -1,10 +1,10 @@
 -- A node gives its vote of the present term.
-use Rattle.std.proofs.Common.{◌≡◌, ℕ, zero, suc, ◌<◌, ◌≤◌, List, [], length, take, refl, sym, ap, subst, ◌∙◌, arith, ◌⊎◌, ⊎_elim, inl, inr}
+use Rattle.std.proofs.Common.{◌≡◌, ℕ, suc, ◌<◌, ◌≤◌, List, length, take, refl, sym, ap, subst, ◌∙◌, arith, ◌⊎◌, ⊎_elim, inl, inr}
 use Rattle.std.proofs.lemmas.Bool.{cases_order}
 use Rattle.rp_raftlog.specs.declared.entries.Entry.{Entry}
-use Rattle.rp_raftsafe.proofs.Tables.{upd, upd2, at_upd, at_upd2}
-use Rattle.rp_raftsafe.proofs.Logs.{tm, last_tm, Good, same_length, same_tm, whole_front}
-use Rattle.rp_raftsafe.proofs.Quorum.{Majority, majority_map}
+use Rattle.rp_raftsafe.proofs.Tables.{upd2, at_upd2}
+use Rattle.rp_raftsafe.proofs.Logs.{tm, last_tm, same_length, same_tm, whole_front}
+use Rattle.rp_raftsafe.proofs.Quorum.{majority_map}
 use Rattle.rp_raftsafe.proofs.Machine.{Abs, Proper, Open, IsFresh, AtLeast, Inv}
 
 abbrev pub grant : Abs → ℕ → ℕ → Abs

@@ -1,7 +1,7 @@
 -- What no move takes back; and what a move of one node leaves of the others.
-use Rattle.std.proofs.Common.{◌≡◌, ℕ, zero, suc, ◌<◌, ◌≤◌, max, List, [], ◌∷◌, ◌++◌, length, take, refl, sym, ap, subst, ◌∙◌, arith}
+use Rattle.std.proofs.Common.{◌≡◌, ℕ, suc, ◌<◌, ◌≤◌, max, List, [], ◌∷◌, ◌++◌, length, refl, sym, ap, subst, ◌∙◌, arith}
 use Rattle.rp_raftlog.specs.declared.entries.Entry.{Entry}
-use Rattle.rp_raftsafe.proofs.Tables.{upd, upd2, at_upd, at_upd2}
+use Rattle.rp_raftsafe.proofs.Tables.{at_upd, at_upd2}
 use Rattle.rp_raftsafe.proofs.Logs.{Longer, longer_refl, longer_take, longer_length}
 use Rattle.rp_raftsafe.proofs.Machine.{Abs, Inv}
 use Rattle.rp_raftsafe.proofs.Raise.{raise, ask}

@@ -1,18 +1,17 @@
 -- The committed list, as a function of the schedule.
-use Rattle.std.proofs.Common.{◌≡◌, ℕ, zero, suc, ◌+◌, ◌-◌, ◌<◌, ◌≤◌, Option, Some, None, List, [], ◌∷◌, ◌++◌, length, take, drop, get_or, replicate, refl, sym, ap, subst, ◌∙◌, arith, ◌⊎◌, ⊎_elim, inl, inr, take-append-drop, take-take, length-take-le, append_assoc, append-nil, length-append}
+use Rattle.std.proofs.Common.{◌≡◌, ℕ, zero, suc, ◌+◌, ◌-◌, ◌<◌, ◌≤◌, Some, List, [], ◌∷◌, ◌++◌, length, take, drop, get_or, replicate, refl, sym, ap, subst, ◌∙◌, arith, ⊎_elim, take-append-drop, take-take, length-take-le, append_assoc, append-nil, length-append}
 use Rattle.std.specs.Prelude.{fold}
 use Rattle.std.proofs.lemmas.Bool.{cases_lt}
 use Rattle.std.proofs.lemmas.List.{get_or_past, drop-take, take_all, length-replicate, take-append-le, drop-append-le, get_or-replicate}
 use Rattle.rp_raftlog.specs.declared.entries.Entry.{Entry}
-use Rattle.rp_raftlog.specs.LogState.{LogState, entry_at, term_at}
+use Rattle.rp_raftlog.specs.LogState.{entry_at}
 use Rattle.rp_raftsafe.specs.World.{Range, IsRange, start_term, Replica, Status, Absent, Live, Removed, Site, World, site, Event, happens, run, nowhere, world_after}
-use Rattle.rp_raftsafe.specs.Safety.{IsLive, IsPrefixOf, range_log, IsShown, OneListOf, OneList}
-use Rattle.rp_raftsafe.proofs.Logs.{no_entry, tm, term_in, same_less, same_length, same_get, same_term_in, longer_refl}
+use Rattle.rp_raftsafe.specs.Safety.{IsLive, IsPrefixOf, range_log, IsShown, OneList}
+use Rattle.rp_raftsafe.proofs.Logs.{no_entry, term_in, same_less, same_get, same_term_in, longer_refl}
 use Rattle.rp_raftsafe.proofs.Machine.{Abs, Inv}
-use Rattle.rp_raftsafe.proofs.Growth.{Grows}
 use Rattle.rp_raftsafe.proofs.Safe.{Commits, commits_less, commits_more, commits_within, commits_agree, commits_grow}
 use Rattle.rp_raftsafe.proofs.Views.{Shows, shows_last, entry_in, term_at_in}
-use Rattle.rp_raftsafe.proofs.Refine.{NodeOk, StatusOk, Begun, front, state_at}
+use Rattle.rp_raftsafe.proofs.Refine.{NodeOk, StatusOk, front}
 use Rattle.rp_raftsafe.proofs.Worlds.{WorldOk, After, happens_ok, beginning, beginning_ok}
 
 -- the list covers what a node has committed

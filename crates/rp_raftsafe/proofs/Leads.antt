@@ -1,33 +1,30 @@
 -- Events of a candidate and of a leader are moves of its node.
-use Rattle.std.proofs.Common.{◌≡◌, ℕ, zero, suc, ◌+◌, ◌-◌, ◌*◌, ◌<◌, ◌≤◌, max, min, Bool, true, false, cond, ◌&&◌, eqb, ltb, leb, Option, Some, None, List, [], ◌∷◌, ◌++◌, map, length, take, drop, refl, sym, ap, subst, ◌∙◌, arith, ◌⊎◌, ⊎_elim, inl, inr, eqb-true, ltb-true, leb-true, append-nil}
+use Rattle.std.proofs.Common.{◌≡◌, ℕ, ◌+◌, ◌*◌, ◌<◌, ◌≤◌, max, min, Bool, true, false, cond, ◌&&◌, eqb, ltb, leb, Option, Some, None, List, [], ◌∷◌, ◌++◌, map, length, take, refl, sym, ap, subst, ◌∙◌, arith, ⊎_elim, inl, inr, eqb-true, ltb-true}
 use Rattle.std.specs.Prelude.{count_by}
 use Rattle.std.specs.List.{AllByRecursion as Every}
 use Rattle.std.specs.Option.{option_map_or}
-use Rattle.std.proofs.lemmas.Bool.{cond_both, cases_lt, cases_eq, eqb-false, and_parts}
+use Rattle.std.proofs.lemmas.Bool.{cond_both, cases_eq, and_parts}
 use Rattle.rp_raftlog.specs.declared.entries.Entry.{Entry}
-use Rattle.rp_raftlog.specs.LogState.{LogState, last_index, last_term}
-use Rattle.rp_raft.specs.declared.heads.Head.{Head}
+use Rattle.rp_raftlog.specs.LogState.{last_index, last_term}
 use Rattle.rp_raft.specs.declared.heads.Role.{Role}
 use Rattle.rp_raft.specs.declared.heads.Role.TheVariants.{Follower, Candidate, Leader}
-use Rattle.rp_raft.specs.declared.heads.Due.{Due}
 use Rattle.rp_raft.specs.declared.heads.Due.TheVariants.{Nobody, One, Everyone}
-use Rattle.rp_raft.specs.declared.messages.Message.{Message}
-use Rattle.rp_raft.specs.declared.messages.Message.TheVariants.{Vote, VoteReply, Append, AppendReply, Forward, Snap}
-use Rattle.rp_raft.specs.RaftState.{RaftState, is_leader, is_candidate, of_node, with_node, for_each_node, peers, is_majority}
-use Rattle.rp_raft.specs.Step.{Draft, quiet, answered, sends_to, nothing, with_payloads, leading, is_elected, elected, tick_leading, candidate, requests, stand, patience, tick_waiting, tick, on_vote_reply, on_mismatch, match_after, next_after, on_match, on_append_reply, on_forward, proposed, forwards, due_after, then_proposed}
+use Rattle.rp_raft.specs.declared.messages.Message.TheVariants.{Vote, Forward}
+use Rattle.rp_raft.specs.RaftState.{RaftState, is_leader, is_candidate, of_node, with_node, for_each_node, peers}
+use Rattle.rp_raft.specs.Step.{Draft, quiet, sends_to, nothing, with_payloads, leading, is_elected, elected, tick_leading, candidate, requests, stand, patience, tick_waiting, tick, on_vote_reply, on_mismatch, match_after, next_after, on_match, on_append_reply, on_forward, then_proposed}
 use Rattle.rp_raftsafe.specs.World.{Range}
-use Rattle.rp_raftsafe.proofs.Tables.{upd, upd2, at_upd, at_upd2, upd_same}
+use Rattle.rp_raftsafe.proofs.Tables.{at_upd, at_upd2, upd_same}
 use Rattle.rp_raftsafe.proofs.Logs.{last_tm}
-use Rattle.rp_raftsafe.proofs.Quorum.{Majority, Shared, count, majority_map, majorities_meet}
+use Rattle.rp_raftsafe.proofs.Quorum.{Majority, Shared, count, majorities_meet}
 use Rattle.rp_raftsafe.proofs.Machine.{Abs, Inv}
 use Rattle.rp_raftsafe.proofs.Raise.{raise, raise_keeps, ask, ask_keeps}
 use Rattle.rp_raftsafe.proofs.Grant.{grant, Grants, grant_keeps}
 use Rattle.rp_raftsafe.proofs.Elect.{elect, Elects, elect_keeps}
-use Rattle.rp_raftsafe.proofs.Growth.{Grows, Moves, moves_refl, moves_trans, raise_moves, ask_moves, grant_moves, elect_moves}
-use Rattle.rp_raftsafe.proofs.Safe.{Commits, commits_grow, commits_more}
-use Rattle.rp_raftsafe.proofs.Views.{Shows, shows_last, last_term_in}
-use Rattle.rp_raftsafe.proofs.Refine.{NodeOk, RoleOk, LeaderOk, CandidateOk, PacketOk, MessageOk, GrantOk, number, state_at, packets_grow}
-use Rattle.rp_raftsafe.proofs.Pieces.{at_node, at_each, count_nodes, every_append, every_map, every_of, every_all, peers_other, IsDueOk, index_after, state_after, DraftOk, draft_after, sends_to_ok, quiet_ok, answered_ok, with_replies, as_leader, from_leader, leads_by, leads_not, Led, leader_appends}
+use Rattle.rp_raftsafe.proofs.Growth.{Moves, moves_trans, raise_moves, ask_moves, grant_moves, elect_moves}
+use Rattle.rp_raftsafe.proofs.Safe.{commits_grow, commits_more}
+use Rattle.rp_raftsafe.proofs.Views.{shows_last, last_term_in}
+use Rattle.rp_raftsafe.proofs.Refine.{NodeOk, RoleOk, LeaderOk, CandidateOk, PacketOk, GrantOk, packets_grow}
+use Rattle.rp_raftsafe.proofs.Pieces.{at_node, at_each, count_nodes, every_append, every_map, every_of, every_all, peers_other, IsDueOk, index_after, state_after, DraftOk, draft_after, sends_to_ok, quiet_ok, with_replies, as_leader, from_leader, leads_by, leads_not, Led, leader_appends}
 
 stands_by : (r : Role) → is_candidate r ≡ true → r ≡ Candidate
 stands_by Follower e = cc

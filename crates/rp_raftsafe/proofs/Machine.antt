@@ -1,5 +1,5 @@
 -- Raft as a machine over whole logs with its history, and what holds of each state of it.
-use Rattle.std.proofs.Common.{◌≡◌, ℕ, zero, suc, ◌<◌, ◌≤◌, List, [], length, take, ◌⊎◌}
+use Rattle.std.proofs.Common.{◌≡◌, ℕ, suc, ◌<◌, ◌≤◌, List, [], length, take, ◌⊎◌}
 use Rattle.rp_raftlog.specs.declared.entries.Entry.{Entry}
 use Rattle.rp_raftsafe.proofs.Logs.{tm, last_tm, Good}
 use Rattle.rp_raftsafe.proofs.Quorum.{Majority}

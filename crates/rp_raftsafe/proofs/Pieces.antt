@@ -1,32 +1,30 @@
 -- What the handlers of events are made of.
-use Rattle.std.proofs.Common.{◌≡◌, ℕ, zero, suc, ◌+◌, ◌-◌, ◌*◌, ◌<◌, ◌≤◌, max, Bool, true, false, cond, not, eqb, ltb, leb, Option, Some, None, List, [], ◌∷◌, ◌++◌, map, length, take, drop, get_or, set, replicate, refl, sym, ap, subst, ◌∙◌, arith, ◌⊎◌, ⊎_elim, inl, inr, append_assoc, append-nil, length-append, eqb-true, ltb-true, length-take, add-one}
+use Rattle.std.proofs.Common.{◌≡◌, ℕ, zero, suc, ◌+◌, ◌-◌, ◌<◌, ◌≤◌, Bool, true, false, cond, not, eqb, Option, None, List, [], ◌∷◌, ◌++◌, map, length, take, drop, get_or, replicate, refl, sym, ap, subst, ◌∙◌, arith, ⊎_elim, append_assoc, append-nil, length-append, add-one}
 use Rattle.std.specs.Prelude.{filter, count_by, fold}
 use Rattle.std.specs.List.{AllByRecursion as Every}
 use Rattle.std.specs.Option.{option_map_or}
-use Rattle.std.proofs.lemmas.Bool.{cond_both, cases_lt, cases_eq, eqb-false, not-true}
+use Rattle.std.proofs.lemmas.Bool.{cond_both, cases_lt, eqb-false, not-true}
 use Rattle.std.proofs.lemmas.List.{take-append-le, take_all}
 use Rattle.std.proofs.lemmas.List.Sums.{sum_by_more}
 use Rattle.rp_raftlog.specs.declared.entries.Entry.{Entry}
-use Rattle.rp_raftlog.specs.LogState.{LogState, last_index, appended}
+use Rattle.rp_raftlog.specs.LogState.{appended}
 use Rattle.rp_raft.specs.declared.heads.Head.{Head}
 use Rattle.rp_raft.specs.declared.heads.Role.{Role}
 use Rattle.rp_raft.specs.declared.heads.Role.TheVariants.{Follower, Candidate, Leader}
 use Rattle.rp_raft.specs.declared.heads.Due.{Due}
 use Rattle.rp_raft.specs.declared.heads.Due.TheVariants.{Nobody, One, Everyone}
 use Rattle.rp_raft.specs.declared.messages.Message.{Message}
-use Rattle.rp_raft.specs.RaftState.{RaftState, is_leader, of_node, with_node, for_each_node, nodes_to, peers, is_majority}
-use Rattle.rp_raft.specs.Step.{Draft, quiet, answered, sends_to, nothing, with_payloads, leading, is_elected, elected}
+use Rattle.rp_raft.specs.RaftState.{RaftState, is_leader, of_node, with_node, for_each_node, nodes_to, peers}
+use Rattle.rp_raft.specs.Step.{Draft, quiet, answered, sends_to, with_payloads}
 use Rattle.rp_raftsafe.specs.World.{Range}
-use Rattle.rp_raftsafe.proofs.Tables.{upd, upd2, at_upd, at_upd2, at_set, upd_same}
-use Rattle.rp_raftsafe.proofs.Logs.{same_less}
-use Rattle.rp_raftsafe.proofs.Quorum.{Majority, Shared, count, majority_map, majorities_meet}
+use Rattle.rp_raftsafe.proofs.Tables.{at_set, upd_same}
+use Rattle.rp_raftsafe.proofs.Quorum.{count}
 use Rattle.rp_raftsafe.proofs.Machine.{Abs, Inv}
-use Rattle.rp_raftsafe.proofs.Elect.{elect, Elects, elect_keeps}
 use Rattle.rp_raftsafe.proofs.Extend.{extend, Extends, extend_keeps}
-use Rattle.rp_raftsafe.proofs.Growth.{Grows, Moves, moves_refl, moves_trans, elect_moves, extend_moves}
-use Rattle.rp_raftsafe.proofs.Safe.{Commits, commits_grow, commits_more, commits_within}
-use Rattle.rp_raftsafe.proofs.Views.{Shows, shows_last, shows_append}
-use Rattle.rp_raftsafe.proofs.Refine.{NodeOk, RoleOk, LeaderOk, CandidateOk, PacketOk, number, state_at, packets_grow}
+use Rattle.rp_raftsafe.proofs.Growth.{Moves, moves_refl, moves_trans, extend_moves}
+use Rattle.rp_raftsafe.proofs.Safe.{commits_grow, commits_more, commits_within}
+use Rattle.rp_raftsafe.proofs.Views.{Shows, shows_append}
+use Rattle.rp_raftsafe.proofs.Refine.{NodeOk, RoleOk, LeaderOk, PacketOk, packets_grow}
 
 -- what a table has for a node after one node's place was written
 pub at_node : {A : Type 0} (P : A → Type 0) (xs : List A) (i : ℕ) (v : A) (q : ℕ) (d : A) → 0 < i → 0 < q → (q ≡ i → P v) → P (of_node xs q d) → P (of_node (with_node xs i v) q d)

@@ -1,10 +1,9 @@
 -- A node goes on to a later term; and a candidate notes its log.
-use Rattle.std.proofs.Common.{◌≡◌, ℕ, zero, suc, ◌<◌, ◌≤◌, List, [], length, take, refl, sym, ap, subst, ◌∙◌, arith, ◌⊎◌, ⊎_elim, inl, inr}
-use Rattle.rp_raftlog.specs.declared.entries.Entry.{Entry}
+use Rattle.std.proofs.Common.{◌≡◌, ℕ, ◌<◌, ◌≤◌, sym, ap, subst, arith, ⊎_elim, inl, inr}
 use Rattle.rp_raftsafe.proofs.Tables.{upd, upd2, at_upd, at_upd2}
-use Rattle.rp_raftsafe.proofs.Logs.{tm, Good}
-use Rattle.rp_raftsafe.proofs.Quorum.{Majority, majority_map}
-use Rattle.rp_raftsafe.proofs.Machine.{Abs, Proper, Open, IsFresh, Inv}
+use Rattle.rp_raftsafe.proofs.Logs.{tm}
+use Rattle.rp_raftsafe.proofs.Quorum.{majority_map}
+use Rattle.rp_raftsafe.proofs.Machine.{Abs, Open, IsFresh, Inv}
 
 abbrev pub raise : Abs → ℕ → ℕ → Abs
 raise a p t = record a { term = upd a.term p t }

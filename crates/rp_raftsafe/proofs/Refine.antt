@@ -1,18 +1,17 @@
 -- How a replica and a message stand for a state of the machine.
-use Rattle.std.proofs.Common.{◌≡◌, ℕ, zero, suc, ◌+◌, ◌-◌, ◌<◌, ◌≤◌, max, Bool, true, false, Option, Some, None, List, [], ◌∷◌, ◌++◌, length, take, drop, replicate, refl, sym, ap, subst, ◌∙◌, arith, ◌⊎◌, length-drop, length-take, take-take, drop-drop}
+use Rattle.std.proofs.Common.{◌≡◌, ℕ, ◌+◌, ◌<◌, ◌≤◌, Bool, true, false, Option, Some, None, List, [], ◌∷◌, length, take, drop, replicate, sym, ap, subst, ◌∙◌, arith, length-drop, length-take}
 use Rattle.std.specs.Prelude.{fold}
 use Rattle.std.specs.List.{AllByRecursion as Every}
 use Rattle.std.proofs.lemmas.List.{drop-take}
 use Rattle.rp_raftlog.specs.declared.entries.Entry.{Entry}
-use Rattle.rp_raftlog.specs.LogState.{LogState}
 use Rattle.rp_raft.specs.declared.heads.Role.{Role}
 use Rattle.rp_raft.specs.declared.heads.Role.TheVariants.{Follower, Candidate, Leader}
 use Rattle.rp_raft.specs.declared.messages.Message.{Message}
 use Rattle.rp_raft.specs.declared.messages.Message.TheVariants.{Vote, VoteReply, Append, AppendReply, Forward, Snap}
 use Rattle.rp_raft.specs.RaftState.{RaftState, of_node}
-use Rattle.rp_raftsafe.specs.World.{Range, Replica, Status, Absent, Live, Removed}
-use Rattle.rp_raftsafe.proofs.Logs.{tm, term_in, last_tm, same_term_in, longer_take, longer_length}
-use Rattle.rp_raftsafe.proofs.Machine.{Abs, Inv}
+use Rattle.rp_raftsafe.specs.World.{Range, Status, Absent, Live, Removed}
+use Rattle.rp_raftsafe.proofs.Logs.{term_in, last_tm, same_term_in, longer_take, longer_length}
+use Rattle.rp_raftsafe.proofs.Machine.{Abs}
 use Rattle.rp_raftsafe.proofs.Growth.{Grows, Moves}
 use Rattle.rp_raftsafe.proofs.Safe.{Commits, commits_grow, commits_more, commits_within}
 use Rattle.rp_raftsafe.proofs.Views.{Shows}

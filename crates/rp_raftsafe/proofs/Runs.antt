@@ -1,12 +1,10 @@
 -- Worked runs, by computation: the laws do not speak of worlds in which nothing happens.
-use Rattle.std.proofs.Common.{◌≡◌, ℕ, zero, suc, ◌+◌, List, [], ◌∷◌, ◌++◌, length, refl, Option, Some, None, replicate}
+use Rattle.std.proofs.Common.{◌≡◌, ℕ, zero, suc, ◌+◌, List, [], ◌∷◌, ◌++◌, length, refl}
 use Rattle.std.specs.Prelude.{sum}
 use Rattle.rp_raftlog.specs.declared.entries.Entry.{Entry}
 use Rattle.rp_raft.specs.declared.heads.Role.{Role}
 use Rattle.rp_raft.specs.declared.heads.Role.TheVariants.{Follower, Candidate, Leader}
-use Rattle.rp_raft.specs.declared.messages.Message.{Message}
-use Rattle.rp_raft.specs.declared.messages.Message.TheVariants.{Vote, VoteReply, Append, AppendReply, Forward, Snap}
-use Rattle.rp_raftsafe.specs.World.{Range, Replica, Status, Absent, Live, Removed, Site, World, Action, Begin, Ticks, Proposes, Applies, Cuts, Removes, Restarts, Event, Acts, Comes, site, run, world_after}
+use Rattle.rp_raftsafe.specs.World.{Range, Status, Absent, Live, Removed, World, Begin, Ticks, Proposes, Applies, Cuts, Removes, Restarts, Event, Acts, Comes, site, world_after}
 
 -- a state is a sum of bytes
 abbrev pub adds : ℕ → Entry → ℕ

@@ -1,8 +1,8 @@
 -- What is committed, and that it is one list.
-use Rattle.std.proofs.Common.{◌≡◌, ℕ, zero, suc, ◌<◌, ◌≤◌, max, List, [], ◌∷◌, ◌++◌, length, take, refl, sym, ap, subst, ◌∙◌, arith, ◌⊎◌, ⊎_elim, inl, inr}
-use Rattle.std.proofs.lemmas.Bool.{cases_lt, cases_eq, cases_order}
+use Rattle.std.proofs.Common.{◌≡◌, ℕ, suc, ◌<◌, ◌≤◌, max, List, length, take, refl, sym, ap, subst, ◌∙◌, arith, ◌⊎◌, ⊎_elim, inl, inr}
+use Rattle.std.proofs.lemmas.Bool.{cases_lt, cases_eq}
 use Rattle.rp_raftlog.specs.declared.entries.Entry.{Entry}
-use Rattle.rp_raftsafe.proofs.Logs.{tm, same_less, same_length, longer_take, longer_length, same_tm}
+use Rattle.rp_raftsafe.proofs.Logs.{same_less, same_length, longer_take, longer_length, same_tm}
 use Rattle.rp_raftsafe.proofs.Quorum.{Majority, majority_map}
 use Rattle.rp_raftsafe.proofs.Machine.{Abs, Proper, Open, Inv}
 use Rattle.rp_raftsafe.proofs.Growth.{Grows}

@@ -1,32 +1,31 @@
 -- A snapshot that comes to a follower, or to a node that has nothing yet, is a move of it; and so is each message.
-use Rattle.std.proofs.Common.{◌≡◌, ℕ, zero, suc, ◌+◌, ◌-◌, ◌*◌, ◌<◌, ◌≤◌, max, min, Bool, true, false, cond, eqb, ltb, leb, Option, Some, None, List, [], ◌∷◌, ◌++◌, map, length, take, drop, refl, sym, ap, subst, ◌∙◌, arith, ◌⊎◌, ⊎_elim, inl, inr, ltb-false, leb-true, leb-false, take-take, length-take-le}
+use Rattle.std.proofs.Common.{◌≡◌, ℕ, zero, suc, ◌<◌, ◌≤◌, max, true, false, cond, ltb, leb, Some, List, [], ◌∷◌, length, take, drop, refl, sym, ap, subst, ◌∙◌, arith, ⊎_elim, ltb-false, leb-true, leb-false, take-take}
 use Rattle.std.specs.Prelude.{fold}
 use Rattle.std.specs.List.{AllByRecursion as Every}
-use Rattle.std.proofs.lemmas.Bool.{cond_both, cases_lt, cases_eq, both_ways}
+use Rattle.std.proofs.lemmas.Bool.{cond_both, cases_lt, both_ways}
 use Rattle.std.proofs.lemmas.List.{length-replicate}
 use Rattle.rp_raftlog.specs.declared.entries.Entry.{Entry}
-use Rattle.rp_raftlog.specs.LogState.{LogState, log_at, has_term}
-use Rattle.rp_raft.specs.declared.heads.Role.{Role}
-use Rattle.rp_raft.specs.declared.heads.Role.TheVariants.{Follower, Candidate, Leader}
-use Rattle.rp_raft.specs.declared.heads.Due.TheVariants.{Nobody, One, Everyone}
+use Rattle.rp_raftlog.specs.LogState.{log_at, has_term}
+use Rattle.rp_raft.specs.declared.heads.Role.TheVariants.{Follower, Leader}
+use Rattle.rp_raft.specs.declared.heads.Due.TheVariants.{Nobody}
 use Rattle.rp_raft.specs.declared.messages.Message.{Message}
 use Rattle.rp_raft.specs.declared.messages.Message.TheVariants.{Vote, VoteReply, Append, AppendReply, Forward, Snap}
-use Rattle.rp_raft.specs.RaftState.{RaftState, made_by_snap}
-use Rattle.rp_raft.specs.Step.{Draft, quiet, answered, observed, following, refused_old, take_snap, on_snap, on_vote, on_vote_reply, on_append, on_append_reply, on_forward, received, absent_answer}
-use Rattle.rp_raftsafe.specs.World.{Range, Replica, Status, Absent, Live, Removed, Turn, from_snap, absent_after}
-use Rattle.rp_raftsafe.proofs.Tables.{upd, at_upd, at_upd2, upd_same}
-use Rattle.rp_raftsafe.proofs.Logs.{tm, term_in, Good, same_less, same_length, same_term_in, logs_match}
+use Rattle.rp_raft.specs.RaftState.{RaftState}
+use Rattle.rp_raft.specs.Step.{Draft, answered, observed, following, refused_old, take_snap, on_snap, on_vote, on_vote_reply, on_append, on_append_reply, received, absent_answer}
+use Rattle.rp_raftsafe.specs.World.{Range, Live, Turn, from_snap, absent_after}
+use Rattle.rp_raftsafe.proofs.Tables.{at_upd2, upd_same}
+use Rattle.rp_raftsafe.proofs.Logs.{term_in, Good, same_less, same_length, same_term_in, logs_match}
 use Rattle.rp_raftsafe.proofs.Machine.{Abs, Inv}
 use Rattle.rp_raftsafe.proofs.Raise.{raise, raise_keeps}
-use Rattle.rp_raftsafe.proofs.Store.{store, Stores, Follows, store_keeps}
-use Rattle.rp_raftsafe.proofs.Growth.{Grows, Moves, moves_refl, moves_trans, raise_moves, store_moves}
-use Rattle.rp_raftsafe.proofs.Safe.{Commits, commits_grow, commits_more, commits_less, commits_within}
+use Rattle.rp_raftsafe.proofs.Store.{store, Stores, store_keeps}
+use Rattle.rp_raftsafe.proofs.Growth.{Moves, moves_refl, moves_trans, raise_moves, store_moves}
+use Rattle.rp_raftsafe.proofs.Safe.{Commits, commits_grow, commits_more, commits_within}
 use Rattle.rp_raftsafe.proofs.Views.{Shows, HasTerm, has_term_is, has_term_from, shows_front}
 use Rattle.rp_raftsafe.proofs.Accept.{good_take, tm_take_le}
-use Rattle.rp_raftsafe.proofs.Refine.{NodeOk, RoleOk, PacketOk, MessageOk, SnapOk, AbsentOk, StatusOk, number, front, state_at, message_grows}
-use Rattle.rp_raftsafe.proofs.Pieces.{DraftOk, draft_after, quiet_ok, answered_ok}
+use Rattle.rp_raftsafe.proofs.Refine.{NodeOk, RoleOk, PacketOk, MessageOk, SnapOk, AbsentOk, StatusOk, front, state_at, message_grows}
+use Rattle.rp_raftsafe.proofs.Pieces.{DraftOk, draft_after, answered_ok}
 use Rattle.rp_raftsafe.proofs.Leads.{on_vote_reply_ok, on_append_reply_ok, on_forward_ok}
-use Rattle.rp_raftsafe.proofs.Follows.{Observed, observed_ok, on_vote_ok, following_ok, refused_old_ok, under, committed_same, stored_node, stored_reply, on_append_ok}
+use Rattle.rp_raftsafe.proofs.Follows.{observed_ok, on_vote_ok, following_ok, refused_old_ok, under, committed_same, stored_node, stored_reply, on_append_ok}
 
 false_true : false ≡ true → ⊥
 false_true e = cc

@@ -1,10 +1,10 @@
 -- A node takes entries of its term's leader.
-use Rattle.std.proofs.Common.{◌≡◌, ℕ, zero, suc, ◌<◌, ◌≤◌, max, List, [], ◌∷◌, ◌++◌, length, take, refl, sym, ap, subst, ◌∙◌, arith, ◌⊎◌, ⊎_elim, inl, inr}
-use Rattle.std.proofs.lemmas.Bool.{cases_lt, cases_eq, cases_order}
+use Rattle.std.proofs.Common.{◌≡◌, ℕ, suc, ◌<◌, ◌≤◌, max, List, length, take, sym, ap, subst, ◌∙◌, arith, ◌⊎◌, ⊎_elim, inl, inr}
+use Rattle.std.proofs.lemmas.Bool.{cases_lt}
 use Rattle.rp_raftlog.specs.declared.entries.Entry.{Entry}
 use Rattle.rp_raftsafe.proofs.Tables.{upd, upd2, at_upd, at_upd2}
 use Rattle.rp_raftsafe.proofs.Logs.{tm, Good, same_less, same_length}
-use Rattle.rp_raftsafe.proofs.Quorum.{Majority, majority_map}
+use Rattle.rp_raftsafe.proofs.Quorum.{majority_map}
 use Rattle.rp_raftsafe.proofs.Machine.{Abs, Proper, Open, IsFresh, Inv}
 
 -- the log becomes xs, of which the leader learns that m entries are as its own

@@ -1,5 +1,5 @@
 -- A function, or a table, that is changed at one place.
-use Rattle.std.proofs.Common.{◌≡◌, ℕ, zero, suc, ◌+◌, ◌-◌, ◌<◌, ◌≤◌, Bool, true, false, cond, ◌&&◌, eqb, List, [], ◌∷◌, length, get_or, set, refl, sym, subst, ◌∙◌, arith, eqb-true, eq-eqb, get_or-set_same, get_or-set_other, ◌⊎◌, ⊎_elim, inl, inr}
+use Rattle.std.proofs.Common.{◌≡◌, ℕ, cond, ◌&&◌, eqb, List, length, get_or, set, refl, sym, subst, eqb-true, get_or-set_same, get_or-set_other, ⊎_elim}
 use Rattle.std.proofs.lemmas.Bool.{cond_both, eqb-false, and_parts, and_cases, cases_eq, cases_lt}
 use Rattle.std.proofs.lemmas.List.{set_past}
 

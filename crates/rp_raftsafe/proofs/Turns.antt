@@ -1,33 +1,33 @@
 -- The end of each event: the commit index moves on, and the last messages are made. So each turn of a node is a run of moves.
-use Rattle.std.proofs.Common.{◌≡◌, ℕ, zero, suc, ◌+◌, ◌-◌, ◌*◌, ◌<◌, ◌≤◌, max, min, Bool, true, false, cond, ◌&&◌, eqb, ltb, leb, Option, Some, None, List, [], ◌∷◌, ◌++◌, map, length, take, drop, get_or, refl, sym, ap, subst, ◌∙◌, arith, ◌⊎◌, ⊎_elim, inl, inr, ltb-false, ltb-true, leb-true, take-take, length-take, length-drop, get_or-drop, take-suc, add-one, take-append-drop, replicate, length-take-le, eqb-true}
-use Rattle.std.specs.Prelude.{fold, count_by, slice_get}
+use Rattle.std.proofs.Common.{◌≡◌, ℕ, zero, suc, ◌+◌, ◌-◌, ◌*◌, ◌<◌, ◌≤◌, max, Bool, true, false, ◌&&◌, eqb, ltb, leb, Option, Some, None, List, [], ◌∷◌, length, take, drop, get_or, refl, sym, ap, subst, ◌∙◌, arith, ◌⊎◌, ⊎_elim, inl, inr, ltb-false, ltb-true, leb-true, length-take, add-one, replicate, length-take-le, eqb-true}
+use Rattle.std.specs.Prelude.{fold, count_by}
 use Rattle.std.specs.List.{AllByRecursion as Every}
 use Rattle.std.specs.Option.{option_map_or, unwrap_or}
-use Rattle.std.proofs.lemmas.Bool.{cond_both, cases_lt, cases_eq, and_parts, eqb-false}
+use Rattle.std.proofs.lemmas.Bool.{cond_both, and_parts, eqb-false}
 use Rattle.std.proofs.lemmas.List.{take_min, length-replicate, take_more, drop-append-le, drop_all, get_or-replicate}
 use Rattle.std.proofs.lemmas.List.Sums.{fold_push}
 use Rattle.rp_raftlog.specs.declared.entries.Entry.{Entry}
-use Rattle.rp_raftlog.specs.LogState.{LogState, last_index, entry_at, term_at, has_term, suffix, cut}
+use Rattle.rp_raftlog.specs.LogState.{last_index, entry_at, term_at, has_term, suffix, cut}
 use Rattle.rp_raft.specs.declared.heads.Head.{Head}
 use Rattle.rp_raft.specs.declared.heads.Role.{Role}
-use Rattle.rp_raft.specs.declared.heads.Role.TheVariants.{Follower, Candidate, Leader}
+use Rattle.rp_raft.specs.declared.heads.Role.TheVariants.{Follower, Leader}
 use Rattle.rp_raft.specs.declared.heads.Due.{Due}
 use Rattle.rp_raft.specs.declared.heads.Due.TheVariants.{Nobody, One, Everyone}
 use Rattle.rp_raft.specs.declared.messages.Message.{Message}
-use Rattle.rp_raft.specs.declared.messages.Message.TheVariants.{Vote, VoteReply, Append, AppendReply, Forward, Snap}
+use Rattle.rp_raft.specs.declared.messages.Message.TheVariants.{Append, Snap}
 use Rattle.rp_raft.specs.declared.events.RaftEvent.{RaftEvent}
 use Rattle.rp_raft.specs.declared.events.RaftEvent.TheVariants.{Tick, Receive, Propose, Cut}
-use Rattle.rp_raft.specs.RaftState.{RaftState, is_leader, of_node, with_node, for_each_node, peers, is_majority, started, restarted}
-use Rattle.rp_raft.specs.Step.{Draft, Done, quiet, matched_by, is_on_majority, greatest, committable, advanced, most_entries, to_peer, due_peers, last_sends, sent, drafted, then_proposed, step_then}
-use Rattle.rp_raftsafe.specs.World.{Range, IsRange, Replica, Status, Absent, Live, Removed, Turn, stays, first, start_term, after_raft, by_raft, applied_one, Action, Begin, Ticks, Proposes, Applies, Cuts, Removes, Restarts, replica_acts, absent_acts, acts, gets}
+use Rattle.rp_raft.specs.RaftState.{RaftState, is_leader, of_node, for_each_node, restarted}
+use Rattle.rp_raft.specs.Step.{Draft, quiet, matched_by, is_on_majority, greatest, committable, advanced, most_entries, to_peer, due_peers, last_sends, sent, drafted, then_proposed}
+use Rattle.rp_raftsafe.specs.World.{Range, Replica, Status, Absent, Live, Removed, stays, first, start_term, after_raft, by_raft, applied_one, Action, Begin, Ticks, Proposes, Applies, Cuts, Removes, Restarts, replica_acts, acts, gets}
 use Rattle.rp_raftsafe.proofs.Logs.{no_entry, tm, term_in}
 use Rattle.rp_raftsafe.proofs.Quorum.{Majority, count}
-use Rattle.rp_raftsafe.proofs.Machine.{Abs, Proper, Inv}
-use Rattle.rp_raftsafe.proofs.Growth.{Moves, moves_refl}
-use Rattle.rp_raftsafe.proofs.Safe.{Commits, CommitOk, commits_less, commits_more, commits_max, commits_within}
+use Rattle.rp_raftsafe.proofs.Machine.{Abs, Inv}
+use Rattle.rp_raftsafe.proofs.Growth.{moves_refl}
+use Rattle.rp_raftsafe.proofs.Safe.{Commits, commits_less, commits_more, commits_max, commits_within}
 use Rattle.rp_raftsafe.proofs.Views.{Shows, HasTerm, shows_last, entry_in, term_at_or, has_term_is, suffix_in, shows_cut}
-use Rattle.rp_raftsafe.proofs.Refine.{NodeOk, RoleOk, LeaderOk, PacketOk, MessageOk, AppendOk, SnapOk, AbsentOk, StatusOk, Begun, number, front, state_at}
-use Rattle.rp_raftsafe.proofs.Pieces.{at_node, at_each, count_nodes, every_append, every_map, every_of, peers_other, IsDueOk, index_after, state_after, DraftOk, quiet_ok, as_leader, from_leader, leads_by}
+use Rattle.rp_raftsafe.proofs.Refine.{NodeOk, RoleOk, LeaderOk, PacketOk, MessageOk, AbsentOk, StatusOk, Begun, front, state_at}
+use Rattle.rp_raftsafe.proofs.Pieces.{at_node, at_each, count_nodes, every_append, every_map, every_of, peers_other, IsDueOk, index_after, state_after, DraftOk, quiet_ok, as_leader, leads_by}
 use Rattle.rp_raftsafe.proofs.Leads.{tick_ok, then_proposed_ok}
 use Rattle.rp_raftsafe.proofs.Snaps.{received_ok, TurnOk, absent_gets_ok}
 

@@ -1,13 +1,13 @@
 -- A log with a base as a view of a whole log.
-use Rattle.std.proofs.Common.{◌≡◌, ℕ, zero, suc, ◌+◌, ◌-◌, ◌<◌, ◌≤◌, max, Bool, true, false, cond, eqb, ltb, leb, Option, Some, None, List, [], ◌∷◌, ◌++◌, length, take, drop, get_or, refl, sym, ap, subst, ◌∙◌, arith, ◌⊎◌, ⊎_elim, inl, inr, length-drop, get_or-drop, length-take-le, eqb-true, ltb-false, ltb-true, eq-eqb, drop-drop, add-suc, length-append}
+use Rattle.std.proofs.Common.{◌≡◌, ℕ, zero, suc, ◌+◌, ◌-◌, ◌<◌, ◌≤◌, true, false, eqb, ltb, Option, Some, None, List, [], ◌∷◌, ◌++◌, length, take, drop, get_or, refl, sym, ap, ◌∙◌, arith, ⊎_elim, length-drop, get_or-drop, length-take-le, eqb-true, ltb-false, ltb-true, eq-eqb, drop-drop, length-append}
 use Rattle.std.specs.Prelude.{slice_get}
 use Rattle.std.specs.Option.{option_map, option_map_or, unwrap_or}
-use Rattle.std.proofs.lemmas.Bool.{cond_both, cases_lt, cases_eq, eqb-false, cond-true}
+use Rattle.std.proofs.lemmas.Bool.{cond_both, cases_lt, eqb-false}
 use Rattle.std.proofs.lemmas.Option.{slice_get-get_or, slice_get_past}
 use Rattle.std.proofs.lemmas.List.{drop-append-le, drop_all, take-append-le}
 use Rattle.rp_raftlog.specs.declared.entries.Entry.{Entry}
 use Rattle.rp_raftlog.specs.LogState.{LogState, log_at, last_index, last_term, entry_at, term_at, has_term, suffix, appended, cut}
-use Rattle.rp_raftsafe.proofs.Logs.{no_entry, tm, term_in, last_tm, same_term_in}
+use Rattle.rp_raftsafe.proofs.Logs.{no_entry, term_in, last_tm, same_term_in}
 
 pub record Shows (xs : List Entry) (l : LogState) : Type 0 where
   pub within : l.base ≤ length xs

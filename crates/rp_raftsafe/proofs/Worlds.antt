@@ -1,20 +1,19 @@
 -- The world after each schedule stands for a state of the machine.
-use Rattle.std.proofs.Common.{◌≡◌, ℕ, zero, suc, ◌+◌, ◌-◌, ◌*◌, ◌<◌, ◌≤◌, Bool, true, false, cond, eqb, Option, Some, None, List, [], ◌∷◌, ◌++◌, length, take, get_or, set, replicate, refl, sym, ap, subst, ◌∙◌, arith, ◌⊎◌, ⊎_elim, inl, inr, get_or-set_same, get_or-set_other}
+use Rattle.std.proofs.Common.{◌≡◌, ℕ, zero, suc, ◌<◌, ◌≤◌, true, cond, eqb, Option, Some, None, List, [], ◌∷◌, ◌++◌, length, take, get_or, set, replicate, refl, sym, ap, subst, arith, ⊎_elim, inl, inr, get_or-set_same, get_or-set_other}
 use Rattle.std.specs.Prelude.{slice_get}
 use Rattle.std.specs.List.{AllByRecursion as Every}
 use Rattle.std.specs.Option.{option_map_or}
 use Rattle.std.proofs.lemmas.Bool.{cases_lt, cases_eq, cond_both, eqb-true, eqb-false}
-use Rattle.std.proofs.lemmas.List.{set_past, length-replicate, get_or_past, get_or-replicate, drop_all}
+use Rattle.std.proofs.lemmas.List.{set_past, length-replicate, get_or_past, get_or-replicate}
 use Rattle.rp_raftlog.specs.declared.entries.Entry.{Entry}
 use Rattle.rp_raft.specs.declared.messages.Message.{Message}
-use Rattle.rp_raftsafe.specs.World.{Range, IsRange, Replica, Status, Absent, Live, Removed, Site, World, Turn, acts, gets, site, with_site, after_turn, message_of, Event, Acts, Comes, comes, happens, run, nowhere, world_after}
-use Rattle.rp_raftsafe.proofs.Tables.{at_set}
-use Rattle.rp_raftsafe.proofs.Logs.{no_entry, tm, last_tm, Good}
+use Rattle.rp_raftsafe.specs.World.{Range, IsRange, Absent, Site, World, Turn, acts, gets, site, with_site, after_turn, message_of, Event, Acts, Comes, comes, happens, run, nowhere, world_after}
+use Rattle.rp_raftsafe.proofs.Logs.{no_entry, tm, Good}
 use Rattle.rp_raftsafe.proofs.Quorum.{Majority, count}
 use Rattle.rp_raftsafe.proofs.Machine.{Abs, Proper, Inv}
-use Rattle.rp_raftsafe.proofs.Growth.{Grows, Moves, grows_refl, grows_trans}
-use Rattle.rp_raftsafe.proofs.Safe.{Commits, CommitOk}
-use Rattle.rp_raftsafe.proofs.Refine.{PacketOk, AbsentOk, StatusOk, Begun, front, packets_grow, status_moves, begun_grows}
+use Rattle.rp_raftsafe.proofs.Growth.{Grows, grows_refl, grows_trans}
+use Rattle.rp_raftsafe.proofs.Safe.{Commits}
+use Rattle.rp_raftsafe.proofs.Refine.{PacketOk, StatusOk, Begun, front, packets_grow, status_moves, begun_grows}
 use Rattle.rp_raftsafe.proofs.Pieces.{every_append}
 use Rattle.rp_raftsafe.proofs.Snaps.{TurnOk}
 use Rattle.rp_raftsafe.proofs.Turns.{acts_ok, gets_ok}

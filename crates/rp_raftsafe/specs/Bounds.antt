@@ -1,11 +1,11 @@
 -- How large the numbers of a world can be: each event adds a little.
-use Rattle.std.specs.Prelude.{ℕ, zero, suc, ◌+◌, ◌<◌, ◌≤◌, List, [], ◌∷◌, length, All, sum_by}
+use Rattle.std.specs.Prelude.{ℕ, ◌+◌, ◌<◌, ◌≤◌, List, length, All, sum_by}
 use Rattle.rp_raftlog.specs.declared.entries.Entry.{Entry}
-use Rattle.rp_raftlog.specs.LogState.{LogState, last_index}
+use Rattle.rp_raftlog.specs.LogState.{last_index}
 use Rattle.rp_raft.specs.declared.messages.Message.{Message}
 use Rattle.rp_raft.specs.declared.messages.Message.TheVariants.{Vote, VoteReply, Append, AppendReply, Forward, Snap}
 use Rattle.rp_raft.specs.RaftState.{RaftState}
-use Rattle.rp_raftsafe.specs.World.{Range, IsRange, Replica, Action, Begin, Ticks, Proposes, Applies, Cuts, Removes, Restarts, Event, Acts, Comes, world_after}
+use Rattle.rp_raftsafe.specs.World.{Range, Replica, Action, Begin, Ticks, Proposes, Applies, Cuts, Removes, Restarts, Event, Acts, Comes, world_after}
 use Rattle.rp_raftsafe.specs.Safety.{IsLive, HasSent}
 
 -- terms are at most the bound, and indexes are below it

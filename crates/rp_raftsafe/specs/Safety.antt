@@ -1,13 +1,12 @@
 -- What Raft keeps of the world of one range, after each schedule and at two times of one run.
-use Rattle.std.specs.Prelude.{◌≡◌, ℕ, zero, suc, ◌+◌, ◌-◌, ◌<◌, ◌≤◌, Option, Some, None, List, [], ◌∷◌, ◌++◌, length, take, slice_get, fold}
+use Rattle.std.specs.Prelude.{◌≡◌, ℕ, ◌-◌, ◌<◌, ◌≤◌, Some, List, ◌++◌, take, slice_get, fold}
 use Rattle.rp_raftlog.specs.declared.entries.Entry.{Entry}
 use Rattle.rp_raftlog.specs.LogState.{LogState, last_index, entry_at, term_at}
-use Rattle.rp_raft.specs.declared.heads.Role.{Role}
 use Rattle.rp_raft.specs.declared.heads.Role.TheVariants.{Leader}
 use Rattle.rp_raft.specs.declared.messages.Message.{Message}
 use Rattle.rp_raft.specs.declared.messages.Message.TheVariants.{Append}
 use Rattle.rp_raft.specs.Conditions.{FitsCommitted}
-use Rattle.rp_raftsafe.specs.World.{Range, IsRange, start_term, Replica, Status, Live, World, site, Event, world_after}
+use Rattle.rp_raftsafe.specs.World.{Range, IsRange, start_term, Replica, Live, World, site, Event, world_after}
 
 -- the node has this replica
 abbrev pub IsLive : {S : Type 0} → World S → ℕ → Replica S → Type 0

@@ -3,6 +3,7 @@
 
 ghost use Rattle.rp_raftsafe.specs.Safety.{OneLeader, LogsMatch, CommitsAgree, OneList, AppendsFit, SentToOthers};
 ghost use Rattle.rp_raftsafe.specs.Bounds.{Bounded};
+ghost use Rattle.rp_raftsafe.specs.Many.{SeesOwn, StartsNowhere};
 
 /// In each term at most one node is ever leader, at one time or at two (Raft 2014, section 5.2, election safety).
 pub fn one_leader<S>()
@@ -42,5 +43,11 @@ pub fn sent_to_others<S>()
 /// for a tick, 1 for a message that comes, and 1 for each payload.
 pub fn bounded<S>()
     ensures { Bounded S }
-{
-}
+{}
+
+/// Of nodes with several ranges and one list of what they sent, each range sees its own world: each event is
+/// one of its own, or nothing to it.
+pub fn sees_own<S>()
+    ensures run { SeesOwn S }
+    ensures start { StartsNowhere S }
+{}
