@@ -1,24 +1,24 @@
 -- Each event leaves in logs and messages payloads that were there, that it was handed, or Nothing. And it cuts logs
 -- and makes snapshots no further than what was applied before.
-use Rattle.std.proofs.Common.{◌≡◌, ℕ, zero, suc, ◌+◌, ◌-◌, ◌<◌, ◌≤◌, max, min, Bool, true, false, cond, ◌&&◌, eqb, ltb, leb, Option, Some, None, List, [], ◌∷◌, ◌++◌, map, length, take, drop, get_or, replicate, refl, sym, ap, subst, arith}
+use Rattle.std.proofs.Common.{◌≡◌, ℕ, zero, suc, ◌+◌, ◌-◌, ◌≤◌, max, min, Bool, true, false, cond, ◌&&◌, eqb, ltb, leb, Option, Some, None, List, [], ◌∷◌, map, length, take, drop, refl, subst, arith}
 use Rattle.std.specs.Prelude.{All, slice_get}
 use Rattle.std.specs.Option.{option_map_or, unwrap_or}
 use Rattle.std.specs.List.{AllByRecursion as Every}
 use Rattle.std.proofs.lemmas.Bool.{cond_both}
 use Rattle.std.proofs.lemmas.Option.{slice_get_within, get_or_from_slice_get}
-use Rattle.std.proofs.lemmas.List.Elements.{All-append, All-map, All-take, All-drop, All-nil, All-cons, All-get_or}
+use Rattle.std.proofs.lemmas.List.Elements.{All-append, All-map, All-take, All-drop, All-nil, All-cons}
 use Rattle.rp_raftlog.specs.declared.entries.Entry.{Entry}
-use Rattle.rp_raftlog.specs.LogState.{LogState, log_at, last_index, last_term, entry_at, term_at, has_term, suffix, same_terms, Edit, edited, accepting, accepted, accepted_to, matches, cut}
-use Rattle.rp_raft.specs.declared.heads.Role.TheVariants.{Follower, Candidate, Leader}
+use Rattle.rp_raftlog.specs.LogState.{LogState, log_at, last_index, last_term, entry_at, term_at, has_term, suffix, same_terms, edited, accepting, accepted, accepted_to, matches, cut}
+use Rattle.rp_raft.specs.declared.heads.Role.TheVariants.{Follower, Leader}
 use Rattle.rp_raft.specs.declared.heads.Due.{Due}
-use Rattle.rp_raft.specs.declared.heads.Due.TheVariants.{Nobody, One, Everyone}
+use Rattle.rp_raft.specs.declared.heads.Due.TheVariants.{Nobody, Everyone}
 use Rattle.rp_raft.specs.declared.messages.Message.{Message}
 use Rattle.rp_raft.specs.declared.messages.Message.TheVariants.{Vote, VoteReply, Append, AppendReply, Forward, Snap}
 use Rattle.rp_raft.specs.declared.events.RaftEvent.{RaftEvent}
 use Rattle.rp_raft.specs.declared.events.RaftEvent.TheVariants.{Tick, Receive, Propose, Cut}
 use Rattle.rp_raft.specs.RaftState.{RaftState, is_leader, is_candidate, of_node, with_node, peers, restarted}
-use Rattle.rp_raft.specs.Step.{Draft, quiet, answered, sends_to, nothing, with_payloads, leading, is_elected, elected, tick_leading, candidate, requests, stand, patience, tick_waiting, tick, observed, is_up_to_date, may_vote, on_vote, on_vote_reply, following, refused_old, take_append, on_append, on_mismatch, match_after, next_after, on_match, on_append_reply, on_forward, take_snap, on_snap, received, forwards, then_proposed, drafted, committable, advanced, most_entries, to_peer, due_peers, last_sends, sent, absent_answer}
-use Rattle.rp_raftsafe.specs.World.{Range, Replica, Status, Absent, Live, Removed, Site, World, Turn, stays, first, from_snap, after_raft, by_raft, applied_one, Action, Begin, Ticks, Proposes, Applies, Cuts, Removes, Restarts, replica_acts, acts, absent_after, gets, site, with_site, after_turn, message_of, Event, Acts, Comes, comes, happens}
+use Rattle.rp_raft.specs.Step.{Draft, quiet, answered, sends_to, nothing, with_payloads, leading, is_elected, elected, tick_leading, candidate, stand, patience, tick_waiting, tick, observed, is_up_to_date, may_vote, on_vote, on_vote_reply, following, refused_old, take_append, on_append, on_mismatch, on_match, on_append_reply, on_forward, take_snap, on_snap, received, forwards, then_proposed, drafted, committable, advanced, most_entries, to_peer, due_peers, last_sends, absent_answer}
+use Rattle.rp_raftsafe.specs.World.{Range, Replica, Status, Absent, Live, Removed, Site, World, Turn, stays, first, by_raft, applied_one, Action, Begin, Ticks, Proposes, Applies, Cuts, Removes, Restarts, replica_acts, acts, absent_after, gets, site, with_site, after_turn, message_of, Event, Acts, Comes, comes, happens}
 use Rattle.rp_raftsafe.specs.Proposed.{action_payloads, event_payloads, MessageCarries}
 use Rattle.rp_raftsafe.proofs.Tables.{at_set}
 use Rattle.rp_raftsafe.proofs.Pieces.{every_append, every_map, every_all, every_of}
@@ -57,7 +57,7 @@ answered_has P n st to m h c s = record { log = h; replies = (record { carries =
 with_payloads_has : (P : List ℕ → Type 0) (n : ℕ) (st : RaftState) (payloads : List (List ℕ)) → LogHas P n st.log → All P payloads → LogHas P n (with_payloads st payloads).log
 with_payloads_has P n st payloads h all = record {
   entries = All-append (λ (e : Entry). P e.payload) st.log.entries (map (λ payload. record { term = st.head.term; payload = payload }) payloads) h.entries
-    (All-map (λ (e : Entry). P e.payload) (λ payload. record { term = st.head.term; payload = payload }) payloads all);
+      (All-map (λ (e : Entry). P e.payload) (λ payload. record { term = st.head.term; payload = payload }) payloads all);
   base = h.base;
 }
 
@@ -67,8 +67,8 @@ elected_has {S} P n st empty h =
     (λ _. sends_has P n (leading st) Everyone (with_payloads_has P n (crowned st) (nothing ∷ []) h (All-cons P nothing [] empty (All-nil P))))
     (λ _. quiet_has P n st h)
   where
-  crowned : RaftState → RaftState
-  crowned x = record x { head = record x.head { role = Leader } }
+    crowned : RaftState → RaftState
+    crowned x = record x { head = record x.head { role = Leader } }
 
 tick_has : {S : Type 0} (P : List ℕ → Type 0) (n : ℕ) (st : RaftState) → P nothing → LogHas P n st.log → DraftHas {S = S} P n (tick st)
 tick_has {S} P n st empty h =
@@ -82,7 +82,7 @@ tick_has {S} P n st empty h =
     (λ _. record {
       log = (elected_has {S = S} P n (candidate st) empty h).log;
       replies = every_map (SentHas P n) (λ peer. (peer, Vote (st.head.term + 1) (last_index st.log) (last_term st.log))) (peers (candidate st).head)
-        (every_all (λ peer. SentHas {S = S} P n (peer, Vote (st.head.term + 1) (last_index st.log) (last_term st.log))) (λ peer. record { carries = tt; snap = tt }) (peers (candidate st).head));
+          (every_all (λ peer. SentHas {S = S} P n (peer, Vote (st.head.term + 1) (last_index st.log) (last_term st.log))) (λ peer. record { carries = tt; snap = tt }) (peers (candidate st).head));
     })
     (λ _. quiet_has P n (record st { head = record st.head { silent = st.head.silent + 1 } }) h))
 
@@ -106,14 +106,14 @@ on_vote_reply_has {S} P n st from t granted empty h =
 accepted_has : (P : List ℕ → Type 0) (n : ℕ) (l : LogState) (prev : ℕ) (es : List Entry) → LogHas P n l → All (λ (e : Entry). P e.payload) es → LogHas P n (accepted l prev es)
 accepted_has P n l prev es h all = record { entries = edit; base = h.base }
   where
-  edit : All (λ (e : Entry). P e.payload) (edited l.entries (accepting l prev es))
-  edit =
-      cond_both (eqb (same_terms (drop (l.base - prev) es) (drop (prev - l.base) l.entries)) (length (drop (l.base - prev) es)))
-      (record { keep = length l.entries; added = [] })
-      (record { keep = prev - l.base + same_terms (drop (l.base - prev) es) (drop (prev - l.base) l.entries); added = drop (same_terms (drop (l.base - prev) es) (drop (prev - l.base) l.entries)) (drop (l.base - prev) es) })
-      (λ edit. All (λ (e : Entry). P e.payload) (edited l.entries edit))
-      (λ _. All-append (λ (e : Entry). P e.payload) (take (length l.entries) l.entries) [] (All-take (λ (e : Entry). P e.payload) (length l.entries) l.entries h.entries) (All-nil (λ (e : Entry). P e.payload)))
-      (λ _. All-append (λ (e : Entry). P e.payload) (take (prev - l.base + same_terms (drop (l.base - prev) es) (drop (prev - l.base) l.entries)) l.entries) (drop (same_terms (drop (l.base - prev) es) (drop (prev - l.base) l.entries)) (drop (l.base - prev) es))
+    edit : All (λ (e : Entry). P e.payload) (edited l.entries (accepting l prev es))
+    edit =
+        cond_both (eqb (same_terms (drop (l.base - prev) es) (drop (prev - l.base) l.entries)) (length (drop (l.base - prev) es)))
+        (record { keep = length l.entries; added = [] })
+        (record { keep = prev - l.base + same_terms (drop (l.base - prev) es) (drop (prev - l.base) l.entries); added = drop (same_terms (drop (l.base - prev) es) (drop (prev - l.base) l.entries)) (drop (l.base - prev) es) })
+        (λ edit. All (λ (e : Entry). P e.payload) (edited l.entries edit))
+        (λ _. All-append (λ (e : Entry). P e.payload) (take (length l.entries) l.entries) [] (All-take (λ (e : Entry). P e.payload) (length l.entries) l.entries h.entries) (All-nil (λ (e : Entry). P e.payload)))
+        (λ _. All-append (λ (e : Entry). P e.payload) (take (prev - l.base + same_terms (drop (l.base - prev) es) (drop (prev - l.base) l.entries)) l.entries) (drop (same_terms (drop (l.base - prev) es) (drop (prev - l.base) l.entries)) (drop (l.base - prev) es))
         (All-take (λ (e : Entry). P e.payload) (prev - l.base + same_terms (drop (l.base - prev) es) (drop (prev - l.base) l.entries)) l.entries h.entries)
         (All-drop (λ (e : Entry). P e.payload) (same_terms (drop (l.base - prev) es) (drop (prev - l.base) l.entries)) (drop (l.base - prev) es) (All-drop (λ (e : Entry). P e.payload) (l.base - prev) es all)))
 
@@ -178,15 +178,16 @@ then_proposed_has : {S : Type 0} (P : List ℕ → Type 0) (n : ℕ) (d : Draft 
 then_proposed_has {S} P n d payloads all h = record {
   log = cond_both (is_leader d.state.head.role) (with_payloads d.state payloads) d.state (λ z. LogHas P n z.log) (λ _. with_payloads_has P n d.state payloads h.log all) (λ _. h.log);
   replies = every_append (SentHas P n) d.replies (forwards d.state payloads) h.replies
-    (cond_both (is_leader d.state.head.role) [] (option_map_or (λ leader. map (λ payload. (leader, Forward payload)) payloads) d.state.head.leader []) (λ z. Every (SentHas P n) z) (λ _. tt) (λ _. to_leader d.state.head.leader));
+      (cond_both (is_leader d.state.head.role) [] (option_map_or (λ leader. map (λ payload. (leader, Forward payload)) payloads) d.state.head.leader []) (λ z. Every (SentHas P n) z) (λ _. tt) (λ _. to_leader d.state.head.leader));
 }
   where
-  each : (l : ℕ) (ps : List (List ℕ)) → All P ps → Every (SentHas {S = S} P n) (map (λ payload. (l, Forward payload)) ps)
-  each l [] a = tt
-  each l (x ∷ xs) a = (record { carries = a 0 x (omega arith); snap = tt }, each l xs (λ k e lt. a (suc k) e (omega arith)))
-  to_leader : (l : Option ℕ) → Every (SentHas {S = S} P n) (option_map_or (λ leader. map (λ payload. (leader, Forward payload)) payloads) l [])
-  to_leader None = tt
-  to_leader (Some l) = each l payloads all
+    each : (l : ℕ) (ps : List (List ℕ)) → All P ps → Every (SentHas {S = S} P n) (map (λ payload. (l, Forward payload)) ps)
+    each l [] a = tt
+    each l (x ∷ xs) a = (record { carries = a 0 x (omega arith); snap = tt }, each l xs (λ k e lt. a (suc k) e (omega arith)))
+
+    to_leader : (l : Option ℕ) → Every (SentHas {S = S} P n) (option_map_or (λ leader. map (λ payload. (leader, Forward payload)) payloads) l [])
+    to_leader None = tt
+    to_leader (Some l) = each l payloads all
 
 to_peer_has : {S : Type 0} (P : List ℕ → Type 0) (n applied : ℕ) (s : S) (st : RaftState) (q : ℕ) → LogHas P n st.log → applied ≤ n → SentHas P n (q, to_peer applied s st q)
 to_peer_has P n applied s st q h le =
@@ -219,9 +220,9 @@ by_raft_has {S} P n r event again le all h =
     record {
       status = after;
       sends = every_append (SentHas P n) (then_proposed (drafted r.raft event) again).replies (last_sends r.applied r.state (advanced (then_proposed (drafted r.raft event) again).state) (then_proposed (drafted r.raft event) again).due) more.replies
-        (every_map (SentHas P n) (λ peer. (peer, to_peer r.applied r.state (advanced (then_proposed (drafted r.raft event) again).state) peer)) (due_peers (advanced (then_proposed (drafted r.raft event) again).state).head (then_proposed (drafted r.raft event) again).due)
+          (every_map (SentHas P n) (λ peer. (peer, to_peer r.applied r.state (advanced (then_proposed (drafted r.raft event) again).state) peer)) (due_peers (advanced (then_proposed (drafted r.raft event) again).state).head (then_proposed (drafted r.raft event) again).due)
           (every_all (λ peer. SentHas {S = S} P n (peer, to_peer r.applied r.state (advanced (then_proposed (drafted r.raft event) again).state) peer)) (λ peer. to_peer_has P n r.applied r.state (advanced (then_proposed (drafted r.raft event) again).state) peer after le)
-            (due_peers (advanced (then_proposed (drafted r.raft event) again).state).head (then_proposed (drafted r.raft event) again).due)));
+          (due_peers (advanced (then_proposed (drafted r.raft event) again).state).head (then_proposed (drafted r.raft event) again).due)));
     }
 
 stays_has : {S : Type 0} (P : List ℕ → Type 0) (n : ℕ) (s : Status S) → StatusHas P n s → TurnHas P n (stays s)
@@ -239,9 +240,9 @@ applies_has P n g r h =
     (λ _. one (entry_at r.raft.log (r.applied + 1)))
     (λ _. stays_has P n (Live r) h)
   where
-  one : (o : Option Entry) → TurnHas P n (option_map_or (applied_one g r) o (stays (Live r)))
-  one None = stays_has P n (Live r) h
-  one (Some e) = stays_has P n (Live (record r { applied = r.applied + 1; state = g.act r.state e })) h
+    one : (o : Option Entry) → TurnHas P n (option_map_or (applied_one g r) o (stays (Live r)))
+    one None = stays_has P n (Live r) h
+    one (Some e) = stays_has P n (Live (record r { applied = r.applied + 1; state = g.act r.state e })) h
 
 acts_has : {S : Type 0} (P : List ℕ → Type 0) (n : ℕ) (g : Range S) (p : ℕ) (action : Action) (status : Status S) → P nothing → g.base ≤ n → AppliedUpTo n status → StatusHas P n status → All P (action_payloads action) → TurnHas P n (acts g p action status)
 acts_has P n g p Begin Absent empty le up h all = stays_has P n (Live (first g p)) (record { entries = All-nil (λ (e : Entry). P e.payload); base = le })
@@ -265,13 +266,13 @@ acts_has P n g p action Removed empty le up h all = stays_has P n Removed tt
 gets_has : {S : Type 0} (P : List ℕ → Type 0) (n : ℕ) (g : Range S) (p from : ℕ) (m : Message S) (again : List (List ℕ)) (status : Status S) → P nothing → AppliedUpTo n status → StatusHas P n status → MessageCarries P m → SnapUpTo n m → All P again → TurnHas P n (gets g p from m again status)
 gets_has {S} P n g p from m again Absent empty up h c s all = absent m s
   where
-  absent : (m : Message S) → SnapUpTo n m → TurnHas P n (record { status = absent_after g p from m; sends = absent_answer from m })
-  absent (Vote t i it) s = record { status = tt; sends = tt }
-  absent (VoteReply t granted) s = record { status = tt; sends = tt }
-  absent (Append t prev pt es commit) s = record { status = tt; sends = (record { carries = tt; snap = tt }, tt) }
-  absent (AppendReply t said i) s = record { status = tt; sends = tt }
-  absent (Forward payload) s = record { status = tt; sends = tt }
-  absent (Snap t i it x) s = record { status = record { entries = All-nil (λ (e : Entry). P e.payload); base = s }; sends = (record { carries = tt; snap = tt }, tt) }
+    absent : (m : Message S) → SnapUpTo n m → TurnHas P n (record { status = absent_after g p from m; sends = absent_answer from m })
+    absent (Vote t i it) s = record { status = tt; sends = tt }
+    absent (VoteReply t granted) s = record { status = tt; sends = tt }
+    absent (Append t prev pt es commit) s = record { status = tt; sends = (record { carries = tt; snap = tt }, tt) }
+    absent (AppendReply t said i) s = record { status = tt; sends = tt }
+    absent (Forward payload) s = record { status = tt; sends = tt }
+    absent (Snap t i it x) s = record { status = record { entries = All-nil (λ (e : Entry). P e.payload); base = s }; sends = (record { carries = tt; snap = tt }, tt) }
 gets_has P n g p from m again (Live r) empty up h c s all = by_raft_has P n r (Receive from m) again up all (received_has P n r.raft from m empty h c s)
 gets_has P n g p from m again Removed empty up h c s all = stays_has P n Removed tt
 
@@ -295,14 +296,16 @@ pub happens_has : {S : Type 0} (P : List ℕ → Type 0) (n : ℕ) (g : Range S)
 happens_has P n g w (Acts node action) empty le up h all = with_turn_has P n w node (acts g node action (site w node).status) h (acts_has P n g node action (site w node).status empty le (up node) (h node).status all)
 happens_has {S} P n g w (Comes from number again) empty le up h all = found (message_of (site w from) number) refl
   where
-  none_some : (x : ℕ × Message S) → ◌≡◌ {A = Option (ℕ × Message S)} None (Some x) → ⊥
-  none_some x e = cc
-  at : (number : ℕ) (x : ℕ × Message S) → message_of (site w from) number ≡ Some x → SentHas P n x
-  at zero x e = absurd (none_some x e)
-  at (suc i) x e = every_get (SentHas P n) (site w from).sent i x (h from).sent e
-  found : (o : Option (ℕ × Message S)) → message_of (site w from) number ≡ o → WorldHas P n (option_map_or (comes g w from again) o w)
-  found None e = h
-  found (Some x) e = with_turn_has P n w x.0 (gets g x.0 from x.1 again (site w x.0).status) h (gets_has P n g x.0 from x.1 again (site w x.0).status empty (up x.0) (h x.0).status (at number x e).carries (at number x e).snap all)
+    none_some : (x : ℕ × Message S) → ◌≡◌ {A = Option (ℕ × Message S)} None (Some x) → ⊥
+    none_some x e = cc
+
+    at : (number : ℕ) (x : ℕ × Message S) → message_of (site w from) number ≡ Some x → SentHas P n x
+    at zero x e = absurd (none_some x e)
+    at (suc i) x e = every_get (SentHas P n) (site w from).sent i x (h from).sent e
+
+    found : (o : Option (ℕ × Message S)) → message_of (site w from) number ≡ o → WorldHas P n (option_map_or (comes g w from again) o w)
+    found None e = h
+    found (Some x) e = with_turn_has P n w x.0 (gets g x.0 from x.1 again (site w x.0).status) h (gets_has P n g x.0 from x.1 again (site w x.0).status empty (up x.0) (h x.0).status (at number x e).carries (at number x e).snap all)
 
 -- a later index will do
 log_has_more : (P : List ℕ → Type 0) (n m : ℕ) (l : LogState) → n ≤ m → LogHas P n l → LogHas P m l
@@ -334,5 +337,5 @@ entry_has P n l k e h =
     (λ _ at. subst (λ (z : Entry). P z.payload) (get_or_from_slice_get l.entries (k - l.base - 1) e e at) (h.entries (k - l.base - 1) e (slice_get_within l.entries (k - l.base - 1) e at)))
     (λ _ none. absurd (none_some none))
   where
-  none_some : ◌≡◌ {A = Option Entry} None (Some e) → ⊥
-  none_some x = cc
+    none_some : ◌≡◌ {A = Option Entry} None (Some e) → ⊥
+    none_some x = cc

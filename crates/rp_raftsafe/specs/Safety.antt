@@ -1,11 +1,12 @@
 -- What Raft keeps of the world of one range, after each schedule and at two times of one run.
-use Rattle.std.specs.Prelude.{◌≡◌, ℕ, ◌-◌, ◌<◌, ◌≤◌, Some, List, ◌++◌, take, slice_get, fold}
+use Rattle.std.specs.Prelude.{◌≡◌, ℕ, ◌-◌, ◌<◌, ◌≤◌, Some, List, ◌++◌, take, slice_get, fold, All}
 use Rattle.rp_raftlog.specs.declared.entries.Entry.{Entry}
 use Rattle.rp_raftlog.specs.LogState.{LogState, last_index, entry_at, term_at}
 use Rattle.rp_raft.specs.declared.heads.Role.TheVariants.{Leader}
 use Rattle.rp_raft.specs.declared.messages.Message.{Message}
 use Rattle.rp_raft.specs.declared.messages.Message.TheVariants.{Append}
 use Rattle.rp_raft.specs.Conditions.{FitsCommitted}
+use Rattle.rp_raftsafe.specs.Proposed.{WasProposed, MessageCarries}
 use Rattle.rp_raftsafe.specs.World.{Range, IsRange, start_term, Replica, Live, World, site, Event, world_after}
 
 -- the node has this replica
@@ -67,6 +68,8 @@ pub record OneListOf {S : Type 0} (g : Range S) : Type 0 where
   pub committed : List Event → List Entry
   pub grows : (early late : List Event) → IsPrefixOf (committed early) (committed (early ++ late))
   pub shown : (events : List Event) (p : ℕ) (r : Replica S) → IsLive (world_after g events) p r → IsShown g (committed events) r
+  -- each entry of it is Nothing, or was proposed
+  pub proposed : (events : List Event) → All (λ (entry : Entry). WasProposed events entry.payload) (committed events)
 
 -- there is one committed list (Raft 2014, section 5.4: state machine safety)
 abbrev pub OneList : Type 0 → Type 0
@@ -82,3 +85,11 @@ AppendsFit S =
 -- each message goes to another node
 abbrev pub SentToOthers : Type 0 → Type 0
 SentToOthers S = (g : Range S) → IsRange g → (events : List Event) (from to : ℕ) (message : Message S) → HasSent (world_after g events) from to message → to ≡ from → ⊥
+
+-- each entry and each payload in a message is Nothing, or was proposed
+pub record OnlyProposedOf {S : Type 0} (g : Range S) (events : List Event) : Type 0 where
+  pub logs : (p : ℕ) (r : Replica S) → IsLive (world_after g events) p r → All (λ (entry : Entry). WasProposed events entry.payload) r.raft.log.entries
+  pub messages : (from to : ℕ) (message : Message S) → HasSent (world_after g events) from to message → MessageCarries (WasProposed events) message
+
+abbrev pub OnlyProposed : Type 0 → Type 0
+OnlyProposed S = (g : Range S) → IsRange g → (events : List Event) → OnlyProposedOf g events

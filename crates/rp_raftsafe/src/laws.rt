@@ -1,7 +1,7 @@
 //! Laws of the world of one range, for every schedule of deliveries, ticks, proposals, cuts, removals and
 //! restarts. `S` is the type of a range's state, of which snapshots are made. No program calls these.
 
-ghost use Rattle.rp_raftsafe.specs.Safety.{OneLeader, LogsMatch, CommitsAgree, OneList, AppendsFit, SentToOthers};
+ghost use Rattle.rp_raftsafe.specs.Safety.{OneLeader, LogsMatch, CommitsAgree, OneList, AppendsFit, SentToOthers, OnlyProposed};
 ghost use Rattle.rp_raftsafe.specs.Bounds.{Bounded};
 ghost use Rattle.rp_raftsafe.specs.Many.{SeesOwn, StartsNowhere};
 
@@ -23,9 +23,14 @@ pub fn commits_agree<S>()
 
 /// There is a committed list, which the schedule determines and which only grows, and each replica shows it:
 /// its base, its entries up to the commit index, and its state, which is the fold of the list up to the
-/// applied index (Raft 2014, section 5.4, state machine safety).
+/// applied index. Each entry of it is Nothing or was proposed (Raft 2014, section 5.4, state machine safety).
 pub fn one_list<S>()
     ensures { OneList S }
+{}
+
+/// Each entry of a log and each payload in a message is Nothing, or was proposed by an event of the schedule.
+pub fn only_proposed<S>()
+    ensures { OnlyProposed S }
 {}
 
 /// An `Append` whose term is not below the receiver's has, above the receiver's base and up to its commit
