@@ -15,7 +15,7 @@ IsLive w node r = (site w node).status ≡ Live r
 
 -- the node has sent this message to that one
 abbrev pub HasSent : {S : Type 0} → World S → ℕ → ℕ → Message S → Type 0
-HasSent w from to message = (number : ℕ) × (slice_get (site w from).sent number ≡ Some (to, message))
+HasSent w from to message = (place : ℕ) × (slice_get (site w from).sent place ≡ Some (to, message))
 
 -- the node leads the term
 pub record Leads {S : Type 0} (w : World S) (node term : ℕ) : Type 0 where
@@ -45,6 +45,7 @@ CommitsAgree S =
     (g : Range S) → IsRange g → (early late : List Event) (p q : ℕ) (r s : Replica S) → IsLive (world_after g early) p r → IsLive (world_after g (early ++ late)) q s
     → (index : ℕ) → index ≤ r.raft.head.commit → index ≤ s.raft.head.commit → SameUpTo r.raft.log s.raft.log index
 
+-- a list is the beginning of another
 abbrev pub IsPrefixOf : List Entry → List Entry → Type 0
 IsPrefixOf xs ys = (rest : List Entry) × (xs ++ rest ≡ ys)
 
