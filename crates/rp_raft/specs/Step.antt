@@ -44,7 +44,7 @@ abbrev pub with_payloads : RaftState → List (List ℕ) → RaftState
 with_payloads st payloads =
     record st { log = appended st.log (map (λ payload. record { term = st.head.term; payload = payload }) payloads) }
 
--- a majority has voted: the candidate leads, and appends an entry Nothing (Raft 2014, section 5.2; Raft dissertation, 6.4)
+-- a majority has voted: the candidate leads, and appends an entry Nothing (Raft 2014, sections 5.2 and 8)
 abbrev pub leading : RaftState → RaftState
 leading st = with_payloads
     (record st {
