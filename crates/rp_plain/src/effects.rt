@@ -55,7 +55,13 @@ fn add(table: PlainTable, desc: Desc, key: Key, by: u64) -> Result<Answer, NoMem
     Ok(writes(table.insert(key, sum)?, desc, Reply::Now(sum)))
 }
 
-fn put_if(table: PlainTable, desc: Desc, key: Key, expect: Option<u64>, value: u64) -> Result<Answer, NoMemory>
+fn put_if(
+    table: PlainTable,
+    desc: Desc,
+    key: Key,
+    expect: Option<u64>,
+    value: u64,
+) -> Result<Answer, NoMemory>
     ensures { IfOk result (λ a. a ≡ put_if table desc key expect value) }
 {
     let actual = table.get(key);
@@ -91,10 +97,20 @@ fn pass_on(table: PlainTable, desc: Desc, from: Key, to: Key, by: u64) -> Result
         return Ok(Err(Refusal::Overflow { actual }));
     };
     let rest = table.value(from) - by;
-    Ok(writes(table.insert(from, rest)?.insert(to, sum)?, desc, Reply::Now(rest)))
+    Ok(writes(
+        table.insert(from, rest)?.insert(to, sum)?,
+        desc,
+        Reply::Now(rest),
+    ))
 }
 
-fn move_value(table: PlainTable, desc: Desc, from: Key, to: Key, by: u64) -> Result<Answer, NoMemory>
+fn move_value(
+    table: PlainTable,
+    desc: Desc,
+    from: Key,
+    to: Key,
+    by: u64,
+) -> Result<Answer, NoMemory>
     ensures { IfOk result (λ a. a ≡ move table desc from to by) }
 {
     let actual = table.value(from);

@@ -105,5 +105,8 @@ fn names(client: u16, seq: u32, item: Place) -> bool
 pub fn places_of(client: u16, seq: u32, items: &[Place]) -> usize
     ensures { result ≡ places_of client seq items.now }
 {
-    items.iter().filter(|item| names(client, seq, **item)).count()
+    items
+        .iter()
+        .filter(|item| names(client, seq, **item))
+        .count()
 }

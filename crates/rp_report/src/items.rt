@@ -89,7 +89,12 @@ pub fn push_item(out: &mut Text, item: &Place) -> Result<(), NoMemory>
     ensures { OnOk result (out.new ≡ out.old ++ item_text item.now) }
 {
     match item {
-        Place::Write { id, request, seq, reply } => {
+        Place::Write {
+            id,
+            request,
+            seq,
+            reply,
+        } => {
             push_word(out, "write ")?;
             push_did(out, *id, request)?;
             push_word(out, " under")?;
@@ -97,7 +102,12 @@ pub fn push_item(out: &mut Text, item: &Place) -> Result<(), NoMemory>
             push_word(out, " ok ")?;
             push_reply(out, *reply)
         }
-        Place::Split { id, key, right, seq } => {
+        Place::Split {
+            id,
+            key,
+            right,
+            seq,
+        } => {
             push_word(out, "split ")?;
             push_attempt(out, *id)?;
             push_spaced_key(out, *key)?;

@@ -3,7 +3,9 @@ ghost use Rattle.rp_report.specs.Outcomes.{holder_text, mismatch_text, actual_te
 ghost use Rattle.rp_report.specs.Shown.{IsShownDesc, IsShownRefusal, IsShownOutcome, IsShownEnd};
 
 use crate::items::push_reply;
-use crate::words::{push_attempt, push_number_word, push_numbers, push_spaced, push_spaced_bound, push_value};
+use crate::words::{
+    push_attempt, push_number_word, push_numbers, push_spaced, push_spaced_bound, push_value,
+};
 use rp_base::{Desc, LeaseSeq, NoMemory, NodeId, Text, push_word};
 use rp_request::{Ambiguity, End, Outcome, Refusal};
 
@@ -61,7 +63,12 @@ fn push_ambiguity(out: &mut Text, ambiguity: Ambiguity) -> Result<(), NoMemory>
     ensures { OnOk result (out.new ≡ out.old ++ ambiguity_text ambiguity) }
 {
     match ambiguity {
-        Ambiguity::Snapshot { own, passed } => push_numbers(out, "snapshot", own.get(), passed.get()),
+        Ambiguity::Snapshot { own, passed } => push_numbers(
+            out,
+            "snapshot",
+            own.get(),
+            passed.get(),
+        ),
         Ambiguity::Removed { own } => push_number_word(out, "removed", own.get()),
     }
 }

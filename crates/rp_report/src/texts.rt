@@ -6,7 +6,9 @@ ghost use Rattle.rp_report.specs.Shown.{IsShownDesc, IsShownEnd, IsShownAnswer, 
 use crate::items::push_record;
 use crate::outcomes::push_end;
 use crate::views::{RangeView, ReplicaView, Row, View};
-use crate::words::{push_attempt, push_lease, push_number_line, push_number_word, push_spaced, push_spaced_bound};
+use crate::words::{
+    push_attempt, push_lease, push_number_line, push_number_word, push_spaced, push_spaced_bound,
+};
 use rp_base::{CmdId, Desc, Lease, LeaseIndex, NoMemory, Text, push_key, push_word};
 use rp_request::{Answer, Note, Record};
 
@@ -122,7 +124,12 @@ fn push_state(out: &mut Text, replica: &ReplicaView) -> Result<(), NoMemory>
     ensures { OnOk result (out.new ≡ out.old ++ state_text replica.now) }
 {
     match replica {
-        ReplicaView::Live { term, applied, lai, rows } => {
+        ReplicaView::Live {
+            term,
+            applied,
+            lai,
+            rows,
+        } => {
             push_live(out, *term, *applied, *lai)?;
             push_word(out, "\n")?;
             push_rows(out, rows.as_slice())

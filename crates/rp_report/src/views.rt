@@ -20,7 +20,9 @@ pub enum ReplicaView {
         rows: Seq<Row>,
     },
     /// The replica was removed, after it had applied up to this index.
-    Removed { applied: u64 },
+    Removed {
+        applied: u64,
+    },
     /// The node never had one.
     Absent,
 }
