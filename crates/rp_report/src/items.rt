@@ -136,10 +136,10 @@ fn why_word(why: Why) -> &'static str
 }
 
 /// The line of the record at an index.
-pub fn push_record(out: &mut Text, index: u64, record: &Record) -> Result<(), NoMemory>
-    ensures { OnOk result (out.new ≡ out.old ++ record_line index record.now) }
+pub fn push_record(out: &mut Text, index: u64, kept: &Record) -> Result<(), NoMemory>
+    ensures { OnOk result (out.new ≡ out.old ++ record_line index kept.now) }
 {
-    match record {
+    match kept {
         Record::Took(item) => {
             push_word(out, "place")?;
             push_spaced(out, index)?;

@@ -1,6 +1,6 @@
 ghost use Rattle.std.specs.Prelude.{◌≤◌};
 
-use crate::top_call;
+use crate::{Form, Status, run_call, top_call};
 use rp_base::{Bytes, Seq};
 use rp_outside::{MemorySink, MemorySource, SoundSink, SoundSource};
 use std::alloc::Global;
@@ -154,9 +154,9 @@ fn a_source_whose_third_call_fails(rt: HostRuntime) -> Result<(), Fail> {
     let mut source = MemorySource::new(bytes(rt.alloc(), ONE_PUT)?, 4, fails);
     let mut sink = SoundSink::new(rt.alloc(), 64);
     sink.make_room(4096)?;
-    let words = words(rt.alloc(), &["run"])?;
-    let code = top_call(rt.alloc(), &words, &mut source, &mut sink);
-    assert!(rt; code == 5);
+    let status = run_call(rt.alloc(), &mut source, &mut sink, Form::Text);
+    assert!(rt; status == Status::ReadFault);
+    assert!(rt; status.code() == 5);
     assert!(rt; is_held(&sink, b"".as_slice()));
     Ok(())
 }
@@ -174,9 +174,9 @@ fn a_sink_whose_second_call_fails(rt: HostRuntime) -> Result<(), Fail> {
     let mut source = SoundSource::new(bytes(rt.alloc(), ONE_PUT)?, 4096);
     let mut sink = MemorySink::new(rt.alloc(), 40, fails);
     sink.make_room(4096)?;
-    let words = words(rt.alloc(), &["run"])?;
-    let code = top_call(rt.alloc(), &words, &mut source, &mut sink);
-    assert!(rt; code == 6);
+    let status = run_call(rt.alloc(), &mut source, &mut sink, Form::Text);
+    assert!(rt; status == Status::WriteFault);
+    assert!(rt; status.code() == 6);
     assert!(rt; sink.bytes() == b"nodes 1\nreply 1.1 1 ok none\nrange 0 ^ ~ ".as_slice());
     Ok(())
 }
