@@ -45,7 +45,7 @@ kept_row e es p = ap len (sym (kept (e ∷ es) p)) ∙ go (p e.0) refl ∙ ap (�
   go true h =
       let ws = where_key nat_cmp p es in
       let there : is_some (get (from_entries {R = nat_cmp} ws) e.0) ≡ is_some (find nat_cmp e.0 es) =
-          ap is_some (get-from_entries nat_cmp_total ws e.0 ∙ find-where_key nat_cmp p e.0 (alike p e.0) es ∙ ap (λ b. cond b (find nat_cmp e.0 es) None) h) in
+      ap is_some (get-from_entries nat_cmp_total ws e.0 ∙ find-where_key nat_cmp p e.0 (alike p e.0) es ∙ ap (λ b. cond b (find nat_cmp e.0 es) None) h) in
       ap (λ b. len (from_entries {R = nat_cmp} (cond b (e ∷ ws) ws))) h
       ∙ len-insert nat_cmp_total (from_entries ws) e.0 e.1
       ∙ ap (λ b. cond b (len (from_entries {R = nat_cmp} ws)) (len (from_entries {R = nat_cmp} ws) + 1)) there
@@ -78,8 +78,8 @@ count_first [] a b row inside count total l r i t = absurd (omega arith)
 count_first (e ∷ es) a b row inside count total l r i t =
     let more = ap (λ ys. count_in (from_entries ys) a b) (tail_of e es) in
     let test : inside ≡ (is_between a b e.0 && is_none (find nat_cmp e.0 es)) =
-        i ∙ ap (λ (x : ℕ × ℕ). is_between a b x.0 && is_none (find nat_cmp x.0 (take (length (e ∷ es) - 1) (drop 1 (e ∷ es))))) r
-        ∙ ap (λ ys. is_between a b e.0 && is_none (find nat_cmp e.0 ys)) (tail_of e es) in
+    i ∙ ap (λ (x : ℕ × ℕ). is_between a b x.0 && is_none (find nat_cmp x.0 (take (length (e ∷ es) - 1) (drop 1 (e ∷ es))))) r
+    ∙ ap (λ ys. is_between a b e.0 && is_none (find nat_cmp e.0 ys)) (tail_of e es) in
     joined inside _ count total _ _ _ test more (count_row e es a b) t
 
 pub fewer : (xs : List (ℕ × ℕ)) → 1 ≤ length xs → length (take (length xs - 1) (drop 1 xs)) + 1 ≡ length xs

@@ -55,7 +55,13 @@ fn add(table: PlainTable, desc: Desc, key: Key, by: u64) -> Result<Answer, NoMem
     Ok(writes(table.insert(key, sum)?, desc, Reply::Now(sum)))
 }
 
-fn put_if(table: PlainTable, desc: Desc, key: Key, expect: Option<u64>, value: u64) -> Result<Answer, NoMemory>
+fn put_if(
+    table: PlainTable,
+    desc: Desc,
+    key: Key,
+    expect: Option<u64>,
+    value: u64,
+) -> Result<Answer, NoMemory>
     ensures { IfOk result (λ a. a ≡ put_if table desc key expect value) }
 {
     let actual = table.get(key);
@@ -87,14 +93,24 @@ fn pass_on(table: PlainTable, desc: Desc, from: Key, to: Key, by: u64) -> Result
     ensures { IfOk result (λ a. a ≡ pass_on table desc from to by) }
 {
     let actual = table.value(to);
-    let Some(sum) = actual.checked_add(by) else {
+    let Some(total) = actual.checked_add(by) else {
         return Ok(Err(Refusal::Overflow { actual }));
     };
     let rest = table.value(from) - by;
-    Ok(writes(table.insert(from, rest)?.insert(to, sum)?, desc, Reply::Now(rest)))
+    Ok(writes(
+        table.insert(from, rest)?.insert(to, total)?,
+        desc,
+        Reply::Now(rest),
+    ))
 }
 
-fn move_value(table: PlainTable, desc: Desc, from: Key, to: Key, by: u64) -> Result<Answer, NoMemory>
+fn move_value(
+    table: PlainTable,
+    desc: Desc,
+    from: Key,
+    to: Key,
+    by: u64,
+) -> Result<Answer, NoMemory>
     ensures { IfOk result (λ a. a ≡ move table desc from to by) }
 {
     let actual = table.value(from);

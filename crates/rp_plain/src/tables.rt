@@ -48,7 +48,11 @@ fn is_between(start: u128, end: u128, key: Key) -> bool
 fn rows_below(alloc: Global, rows: &[(Key, u64)], key: u128) -> Result<Vec<(Key, u64)>, NoMemory>
     ensures { IfOk result (λ v. v.items ≡ where_key nat_cmp (λ k. nat_lt k key) rows.now) }
 {
-    let kept = rows.iter().copied().filter(|row| row.0.bound() < key).collect(alloc)?;
+    let kept = rows
+        .iter()
+        .copied()
+        .filter(|row| row.0.bound() < key)
+        .collect(alloc)?;
     Ok(kept)
 }
 
@@ -56,15 +60,28 @@ fn rows_below(alloc: Global, rows: &[(Key, u64)], key: u128) -> Result<Vec<(Key,
 fn rows_from(alloc: Global, rows: &[(Key, u64)], key: u128) -> Result<Vec<(Key, u64)>, NoMemory>
     ensures { IfOk result (λ v. v.items ≡ where_key nat_cmp (λ k. nat_le key k) rows.now) }
 {
-    let kept = rows.iter().copied().filter(|row| key <= row.0.bound()).collect(alloc)?;
+    let kept = rows
+        .iter()
+        .copied()
+        .filter(|row| key <= row.0.bound())
+        .collect(alloc)?;
     Ok(kept)
 }
 
 /// The rows below the start and those from the end on.
-fn rows_outside(alloc: Global, rows: &[(Key, u64)], start: u128, end: u128) -> Result<Vec<(Key, u64)>, NoMemory>
+fn rows_outside(
+    alloc: Global,
+    rows: &[(Key, u64)],
+    start: u128,
+    end: u128,
+) -> Result<Vec<(Key, u64)>, NoMemory>
     ensures { IfOk result (λ v. v.items ≡ where_key nat_cmp (λ k. not (is_between start end k)) rows.now) }
 {
-    let kept = rows.iter().copied().filter(|row| !is_between(start, end, row.0)).collect(alloc)?;
+    let kept = rows
+        .iter()
+        .copied()
+        .filter(|row| !is_between(start, end, row.0))
+        .collect(alloc)?;
     Ok(kept)
 }
 
@@ -104,7 +121,12 @@ impl PlainTable {
     pub fn remove(&self, key: Key) -> Result<PlainTable, NoMemory>
         ensures { IfOk result (λ t. t ≡ map.remove self.now key) }
     {
-        let rows = rows_outside(*self.rows.allocator(), &self.rows, key.bound(), key.bound() + 1)?;
+        let rows = rows_outside(
+            *self.rows.allocator(),
+            &self.rows,
+            key.bound(),
+            key.bound() + 1,
+        )?;
         Ok(PlainTable { rows })
     }
 

@@ -123,5 +123,5 @@ apart q r h k a key c = go (covers r key) refl where
   go true d =
       let low : key < 2 ^ 128 - 1 = shared q r key h k c d a in
       let both : IsTrue (any_meet (spans_of q) (spans_of r)) =
-          meet_some (span_list (spans_of q)) (span_list (spans_of r)) key (sym (by_spans q key low) ∙ c) (sym (by_spans r key low) ∙ d) in
+      meet_some (span_list (spans_of q)) (span_list (spans_of r)) key (sym (by_spans q key low) ∙ c) (sym (by_spans r key low) ∙ d) in
       absurd cc

@@ -24,7 +24,6 @@ get_inserted t k v q = get-insert nat_cmp_total t k v q
 pub get_removed : (t : Table) (k q : ℕ) → get (remove t k) q ≡ cond (eq_by_cmp nat_cmp q k) None (get t q)
 get_removed t k q = get-remove nat_cmp_total t k q
 
-
 -- a value stands in the part below a key, or else in the part from it on
 either : (key q : ℕ) (o : Option ℕ) → o ≡ cond (nat_lt q key) (cond (nat_lt q key) o None) (cond (nat_le key q) o None)
 either key q o = grind (arith, nat_tests)

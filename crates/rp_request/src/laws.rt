@@ -18,67 +18,58 @@ ghost use Rattle.rp_request.specs.Places.{places_of, IsPlaceOf, IsOnce};
 pub fn effect_reads_what_it_covers()
     ensures { (s : Table) (t : Table) (d : Desc) (r : Request) → retain_keys s (covers r) ≡ retain_keys t (covers r)
         → seen (covers r) (effect s d r) ≡ seen (covers r) (effect t d r) }
-{
-}
+{}
 
 /// What a request does not cover stays.
 #[tactic(auto, using(crate::proofs::Locality::leaves))]
 pub fn effect_leaves_the_rest()
     ensures { (s : Table) (d : Desc) (r : Request) (p : ℕ → Bool) → Apart p (covers r)
         → IfOk (effect s d r) (λ e. retain_keys e.table p ≡ retain_keys s p) }
-{
-}
+{}
 
 /// The fold of two lists one after the other.
 #[tactic(auto, using(crate::proofs::Folds::fold_further))]
 pub fn fold_goes_on()
     ensures { (s : State) (xs : List Place) (ys : List Place) → fold s (xs ++ ys) ≡ option_and_then (λ t. fold t ys) (fold s xs) }
-{
-}
+{}
 
 /// Only a split changes the description.
 #[tactic(auto, using(crate::proofs::Locality::keeps_desc))]
 pub fn only_a_split_changes_the_description()
     ensures { (s : Table) (d : Desc) (r : Request) → IsFalse (is_split r) → IfOk (effect s d r) (λ e. e.desc ≡ d) }
-{
-}
+{}
 
 /// The values of a table are those of its part below a key and those of its part from the key on.
 #[tactic(auto, using(crate::proofs::Tables::in_parts))]
 pub fn parts_have_the_values()
     ensures { (t : Table) (key : ℕ) (q : ℕ) → get t q ≡ (if nat_lt q key then get (below t key) q else get (from_on t key) q) }
-{
-}
+{}
 
 /// Each request covers a key.
 #[tactic(auto, using(crate::proofs::Covering::some_key))]
 pub fn each_request_covers_a_key()
     ensures { (r : Request) → (q : ℕ) × IsTrue (covers r q) }
-{
-}
+{}
 
 /// In the key space a request covers the keys of its spans.
 #[tactic(auto, using(crate::proofs::Covering::by_spans))]
 pub fn a_request_covers_its_spans()
     ensures { (r : Request) (q : ℕ) → q < 2 ^ 128 - 1
         → covers r q ≡ list_any (λ s. is_between s.start s.end q) (span_list (spans_of r)) }
-{
-}
+{}
 
 /// Two requests whose spans do not meet cover no key together.
 #[tactic(auto, using(crate::proofs::Covering::apart))]
 pub fn spans_apart_cover_apart()
     ensures { (q : Request) (r : Request) → HasKeys q → HasKeys r → IsFalse (any_meet (spans_of q) (spans_of r)) → Apart (covers q) (covers r) }
-{
-}
+{}
 
 /// The places of a command in two lists one after the other.
 #[tactic(auto, using(crate::proofs::Once::places_further))]
 pub fn places_add_up()
     ensures { (client : ℕ) (seq : ℕ) (xs : List Place) (ys : List Place)
         → places_of client seq (xs ++ ys) ≡ places_of client seq xs + places_of client seq ys }
-{
-}
+{}
 
 /// A command has at most one place in a list where any two of its places are one.
 #[tactic(auto, using(crate::proofs::Once::once_by_index))]
@@ -86,13 +77,11 @@ pub fn one_place_is_at_most_once()
     ensures { (items : List Place)
         → ((client : ℕ) (seq : ℕ) (i : ℕ) (j : ℕ) → IsPlaceOf (λ _. items) client seq 0 i → IsPlaceOf (λ _. items) client seq 0 j → i ≡ j)
         → IsOnce items }
-{
-}
+{}
 
 /// Where each command has at most one place in a list, any two of its places are one.
 #[tactic(auto, using(crate::proofs::Once::index_by_once))]
 pub fn at_most_once_is_one_place()
     ensures { (items : List Place) → IsOnce items → (client : ℕ) (seq : ℕ) (i : ℕ) (j : ℕ)
         → IsPlaceOf (λ _. items) client seq 0 i → IsPlaceOf (λ _. items) client seq 0 j → i ≡ j }
-{
-}
+{}
