@@ -1,7 +1,7 @@
 -- Bytes in places: the numbers that they write, and the bytes that those have.
 use Rattle.std.proofs.Common.{◌≡◌, ℕ, zero, suc, ◌+◌, ◌-◌, ◌*◌, ◌/◌, ◌%◌, ◌^◌, ◌<◌, ◌≤◌, Bool, true, false, not, cond, eqb, List, [], ◌∷◌, ◌++◌, length, replicate, get_or, refl, ap, sym, ◌∙◌, arith, add_assoc, lit<, add-zero, inl, inr, ◌⊎◌}
 use Rattle.std.specs.Int.{byte_at, byte_worth, bytes_high_first, sum_through}
-use Rattle.std.specs.List.{prefix_len, before_first}
+use Rattle.std.specs.List.{prefix_len, position_or_len, before_first}
 use Rattle.std.specs.declared.cmp.Ordering.TheVariants.{Less, Equal, Greater}
 use Rattle.std.specs.Ordering.{nat_cmp, ordering_then}
 use Rattle.std.specs.Cmp.Lexicographic.{slice_cmp}
@@ -165,3 +165,29 @@ AreLetters-whole p letter (b ∷ bs) h =
     let parts : (p b ≡ true) × (prefix_len p bs ≡ length bs) = passes_whole p b bs (p b) refl h in
     let here : (0 < b) × (b < 256) = letter b parts.0 in
     (here.0, here.1, AreLetters-whole p letter bs parts.1)
+
+-- zero has zero bytes
+pub bytes_high_first-zero : (k : ℕ) → bytes_high_first k 0 ≡ replicate k 0
+bytes_high_first-zero zero = refl
+bytes_high_first-zero (suc k) = rw (byte_at-zero, bytes_high_first-zero k)
+
+-- the bytes of the letters' number are the letters in front of zero bytes
+pub bytes_high_first-worth : (k : ℕ) (bs : List ℕ) → AreLetters bs → length bs ≤ k → bytes_high_first k (worth k bs) ≡ bs ++ replicate (k - length bs) 0
+bytes_high_first-worth zero [] h short = refl
+bytes_high_first-worth zero (b ∷ bs) h short = absurd (omega arith)
+bytes_high_first-worth (suc k) [] h short = rw sub-zero (bytes_high_first-zero (suc k))
+bytes_high_first-worth (suc k) (b ∷ bs) h short =
+    let rest : worth k bs < 256 ^ k = worth-lt k bs h.2 in
+    let low : bytes_high_first k (b * 256 ^ k + worth k bs) ≡ bytes_high_first k (worth k bs) =
+    rw add-zero at (bytes_high_first-low k 0 b (worth k bs)) in
+    let fits : length bs ≤ k = omega arith in
+    let room : suc k - suc (length bs) ≡ k - length bs = omega arith in
+    rw (byte_at-high k b (worth k bs) h.1 rest, low, room) (ap (λ cs. b ∷ cs) (bytes_high_first-worth k bs h.2 fits))
+
+-- the letters are counted up to the zero bytes behind
+pub letters_len : (m : ℕ) (bs : List ℕ) → AreLetters bs → position_or_len (λ b. eqb b 0) (bs ++ replicate m 0) ≡ length bs
+letters_len zero [] h = refl
+letters_len (suc m) [] h = refl
+letters_len m (b ∷ bs) h =
+    let other : eqb b 0 ≡ false = let some : 0 < b = h.0 in grind (arith, nat_tests) in
+    rw other (omega (arith, letters_len m bs h.2))

@@ -2,5 +2,7 @@ pub mod KeyBytes
 pub mod KeyLaws
 pub mod LeaseLaws
 pub mod NumberLaws
+pub mod Powers
+mod Rows
 pub mod SpanLaws
 pub mod SplitLaws

@@ -84,3 +84,6 @@ Writes-from_ok bs n h = elim (cases_lt 0 (digits_len bs)) [
   ]
   | inr none ↦ absurd (let zero : digits_len bs ≡ 0 = omega arith in let e = u64_of_stops bs (inl zero) in cc)
 ]
+
+pub value_as_read : (bs : List ℕ) (n : ℕ) → u64_of bs ≡ Ok n → (n ≡ number_of bs) × (n < 2 ^ 64)
+value_as_read bs n h = let w = Writes-from_ok bs n h in (w.value, w.fits)

@@ -1,5 +1,5 @@
 -- How keys are spelled, and the numbers that stand for them.
-use Rattle.std.specs.Prelude.{◌≡◌, ℕ, ◌-◌, ◌^◌, min, Bool, ◌&&◌, ◌||◌, ◌==◌, nat_lt, if◌then◌else◌, ◌⊎◌, List, [], ◌∷◌, ◌++◌, length, replicate, Option, None, Some, Result, Ok, Err}
+use Rattle.std.specs.Prelude.{◌≡◌, ℕ, ◌-◌, ◌^◌, ◌<◌, ◌≤◌, min, Bool, false, slice_index, ◌&&◌, ◌||◌, ◌==◌, nat_lt, if◌then◌else◌, ◌⊎◌, List, [], ◌∷◌, ◌++◌, length, replicate, Option, None, Some, Result, Ok, Err}
 use Rattle.std.specs.Char.{is_ascii_lowercase, is_ascii_digit}
 use Rattle.std.specs.Int.{w128, to_be_bytes, from_be_bytes}
 use Rattle.std.specs.List.{prefix_len, before_first}
@@ -12,6 +12,10 @@ is_key_byte b = is_ascii_lowercase b || is_ascii_digit b || (b == 47 || b == 95 
 -- how many bytes from the front on may stand in one key, of which there are at most 16
 abbrev pub key_len : List ℕ → ℕ
 key_len bs = min (prefix_len is_key_byte bs) 16
+
+-- the place keeps the text from being a key: the empty text's first, a byte outside the alphabet, a byte past the 16th
+abbrev pub IsBadPlace : List ℕ → ℕ → Type 0
+IsBadPlace bs place = ((length bs ≡ 0) × (place ≡ 0)) ⊎ ((place < length bs) × ((is_key_byte (slice_index bs place) ≡ false) ⊎ (16 ≤ place)))
 
 -- the number of a key: its bytes in front of zero bytes, 16 together, the first byte highest
 unfoldable pub key_number : List ℕ → ℕ

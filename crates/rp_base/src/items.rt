@@ -1,5 +1,6 @@
 use crate::ids::CmdId;
 use crate::leases::LeaseAsk;
+use crate::lists::Grown;
 
 /// What waits in a proposal buffer: a command's attempt, or a lease ask.
 #[derive(Clone, Copy, Debug, PartialEq, Eq, Hash)]
@@ -7,3 +8,6 @@ pub enum Item {
     Write(CmdId),
     Lease(LeaseAsk),
 }
+
+/// Items in order, with spare room.
+pub type Items = Grown<Item>;

@@ -4,6 +4,8 @@ ghost use Rattle.rp_base.specs.Keys.{is_key_byte, key_of, key_text, IsKey, IsSho
 
 use crate::memory::NoMemory;
 use crate::texts::{Text, push_word};
+use std::error::Error;
+use std::fmt;
 use std::marker::Model;
 
 /// A key: 1 to 16 bytes out of `a` to `z`, `0` to `9`, `/`, `_` and `-` (this project's alphabet).
@@ -54,6 +56,14 @@ fn in_front(text: &[u8]) -> [u8; 16]
     bytes
 }
 
+impl fmt::Display for BadKey {
+    fn fmt<W: fmt::Write>(&self, f: &mut fmt::Formatter<W>) -> fmt::Result {
+        f.write_str("not a key")
+    }
+}
+
+impl Error for BadKey {}
+
 impl Key {
     /// Reads the spelling of a key.
     pub fn read(text: &[u8]) -> Result<Key, BadKey>
@@ -74,6 +84,24 @@ impl Key {
         ensures below { result < 2 ^ 128 - 1 }
     {
         self.0
+    }
+
+    /// The key's bytes in front of zero bytes.
+    pub fn to_bytes(self) -> [u8; 16]
+        ensures bytes { result ≡ key_text self ++ replicate (16 - length (key_text self)) 0 }
+        ensures some { 1 ≤ length (key_text self) }
+        ensures short { length (key_text self) ≤ 16 }
+    {
+        self.bound().to_be_bytes()
+    }
+
+    /// How many bytes the key's spelling has, 1 to 16.
+    pub fn text_len(self) -> usize
+        ensures len { result ≡ length (key_text self) }
+        ensures some { 1 ≤ result }
+        ensures short { result ≤ 16 }
+    {
+        spelled_len(&self.bound().to_be_bytes())
     }
 }
 

@@ -1,13 +1,15 @@
 //! Laws of the definitions, for the proofs above. No program calls these functions.
-ghost use Rattle.std.specs.Prelude.{◌≡◌, ◌≢◌, ℕ, ◌+◌, ◌^◌, ◌<◌, ◌≤◌, ◌↔◌, ◌⊎◌, IsTrue, List, Some, Ok};
+ghost use Rattle.std.specs.Prelude.{◌≡◌, ◌≢◌, ℕ, ◌+◌, ◌^◌, ◌<◌, ◌≤◌, ◌↔◌, ◌⊎◌, IsTrue, List, length, Some, Ok, Err};
+ghost use Rattle.std.specs.List.{prefix_len};
 ghost use Rattle.std.specs.Fmt.{decimal};
 ghost use Rattle.std.specs.Ordering.{nat_cmp};
 ghost use Rattle.std.specs.Cmp.Lexicographic.{slice_cmp};
-ghost use Rattle.rp_base.specs.Keys.{key_of, key_text, IsKey};
-ghost use Rattle.rp_base.specs.Numbers.{u64_of};
+ghost use Rattle.rp_base.specs.Keys.{is_key_byte, key_of, key_text, IsKey, IsBadPlace, IsShown, bound_text};
+ghost use Rattle.rp_base.specs.Numbers.{number_of, u64_of};
 ghost use Rattle.rp_base.specs.Spans.{Holds, Overlaps, meets, LiesWithin, within, one_key};
 ghost use Rattle.rp_base.specs.Splits.{InBounds, split_of, ComesFrom};
 ghost use Rattle.rp_base.specs.Leases.{lease_after};
+ghost use Rattle.rp_base.specs.declared.keys.BadKey.{BadKey};
 ghost use Rattle.rp_base.specs.declared.spans.Span.{Span};
 ghost use Rattle.rp_base.specs.declared.ranges.Desc.{Desc};
 ghost use Rattle.rp_base.specs.declared.leases.Lease.{Lease};
@@ -25,6 +27,22 @@ pub fn key_read_as_spelled()
     ensures { (n : ℕ) → IsKey n → key_of (key_text n) ≡ Ok n }
 {}
 
+/// A text that is no key is refused at a place that keeps it from being one, and no lesser place does.
+pub fn key_refused_at_least_place()
+    ensures { (bs : List ℕ) (e : BadKey) → key_of bs ≡ Err e → IsBadPlace bs e.place × ((k : ℕ) → k < e.place → ¬ (IsBadPlace bs k)) }
+{}
+
+/// A text that is a key has no such place.
+pub fn key_read_where_no_place_is_bad()
+    ensures { (bs : List ℕ) (n : ℕ) → key_of bs ≡ Ok n → (k : ℕ) → ¬ (IsBadPlace bs k) }
+{}
+
+/// A key's spelling has 1 to 16 bytes, all of a key.
+#[tactic(auto, using(crate::proofs::KeyLaws::key_spelling))]
+pub fn key_spelling_in_alphabet()
+    ensures { (n : ℕ) → IsKey n → (1 ≤ length (key_text n)) × (length (key_text n) ≤ 16) × (prefix_len is_key_byte (key_text n) ≡ length (key_text n)) }
+{}
+
 /// Two keys with one number are one key.
 #[tactic(auto, using(crate::proofs::KeyLaws::one_spelling))]
 pub fn key_spelled_once()
@@ -35,6 +53,18 @@ pub fn key_spelled_once()
 #[tactic(auto, using(crate::proofs::KeyLaws::order_of_bytes))]
 pub fn keys_in_order_of_bytes()
     ensures { (m : ℕ) (n : ℕ) → IsKey m → IsKey n → nat_cmp m n ≡ slice_cmp nat_cmp (key_text m) (key_text n) }
+{}
+
+/// Bounds that are shown alike are the same.
+#[tactic(auto, using(crate::proofs::KeyLaws::one_bound))]
+pub fn bounds_shown_apart()
+    ensures { (m : ℕ) (n : ℕ) → IsShown m → IsShown n → bound_text m ≡ bound_text n → m ≡ n }
+{}
+
+/// A number that is read is the value of its digits.
+#[tactic(auto, using(crate::proofs::NumberLaws::value_as_read))]
+pub fn number_is_value_of_digits()
+    ensures { (bs : List ℕ) (n : ℕ) → u64_of bs ≡ Ok n → (n ≡ number_of bs) × (n < 2 ^ 64) }
 {}
 
 /// A number that is written is read.

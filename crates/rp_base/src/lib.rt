@@ -12,10 +12,12 @@ mod memory;
 mod numbers;
 mod ranges;
 mod spans;
+#[cfg(test)]
+mod tests;
 mod texts;
 
 pub use ids::{CmdId, NodeId, RangeId};
-pub use items::Item;
+pub use items::{Item, Items};
 pub use keys::{BadKey, Key, push_bound, push_key};
 pub use leases::{Lease, LeaseAsk, LeaseIndex, LeaseSeq, Tick};
 pub use limits::Which;

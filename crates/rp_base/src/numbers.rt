@@ -2,6 +2,9 @@ ghost use Rattle.std.specs.Prelude.{◌≡◌, ◌<◌, ◌^◌, length};
 ghost use Rattle.std.specs.Option.{SomeIff};
 ghost use Rattle.rp_base.specs.Numbers.{number_of, digits_len, u64_of};
 
+use std::error::Error;
+use std::fmt;
+
 /// Why a text is no number of 64 bits.
 #[derive(Clone, Copy, Debug, PartialEq, Eq)]
 pub enum NumberFault {
@@ -10,6 +13,17 @@ pub enum NumberFault {
     /// The digits' value passes 2^64 - 1.
     TooLarge,
 }
+
+impl fmt::Display for NumberFault {
+    fn fmt<W: fmt::Write>(&self, f: &mut fmt::Formatter<W>) -> fmt::Result {
+        match self {
+            NumberFault::NotNumber { .. } => f.write_str("not a number"),
+            NumberFault::TooLarge => f.write_str("too large a number"),
+        }
+    }
+}
+
+impl Error for NumberFault {}
 
 fn digits_len(text: &[u8]) -> usize
     ensures { result ≡ digits_len text.now }

@@ -46,6 +46,24 @@ impl Text {
     {
         self.text.len()
     }
+
+    /// Where its memory comes from.
+    pub fn alloc(&self) -> Global {
+        *self.text.allocator()
+    }
+
+    /// Puts a text at the end. Behind the empty text it takes no memory.
+    pub fn append(&mut self, more: Text) -> Result<(), NoMemory>
+        ensures ok { OnOk result (self.new ≡ self.old ++ more) }
+        ensures err { OnErr result (self.new ≡ self.old) }
+    {
+        if self.text.is_empty() {
+            *self = more;
+            return Ok(());
+        }
+        self.text.push_str(more.as_str())?;
+        Ok(())
+    }
 }
 
 /// Appends the word.

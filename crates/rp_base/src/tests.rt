@@ -1,0 +1,106 @@
+use crate::{
+    BadKey, Calls, Grown, Item, Items, Key, KeySpan, LeaseAsk, LeaseSeq, NodeId, NumberFault, Seq,
+    Text, Tick, push_bound, push_key, push_number, push_word, read_u64,
+};
+use std::test::Fail;
+
+#[test]
+fn reads_keys(rt: HostRuntime) {
+    let cases = [
+        ("", Err(0)),
+        ("A", Err(0)),
+        ("a b", Err(1)),
+        ("ab.c", Err(2)),
+        ("k\u{e9}y", Err(1)),
+        ("0123456789abcde~", Err(15)),
+        ("0123456789abcdefg", Err(16)),
+        ("0123456789abcdef~", Err(16)),
+        ("0123456789~bcdef~", Err(10)),
+        ("a", Ok(0x61 << 120)),
+        ("/_-", Ok(0x2f5f2d << 104)),
+        ("az09", Ok(0x617a3039 << 96)),
+        ("0123456789abcdef", Ok(0x30313233343536373839616263646566)),
+    ];
+    for (text, want) in cases {
+        let read = match Key::read(text.as_bytes()) {
+            Ok(key) => Ok(key.bound()),
+            Err(BadKey { place }) => Err(place),
+        };
+        assert_eq!(rt; read, want, "of {text}");
+    }
+}
+
+#[test]
+fn reads_numbers(rt: HostRuntime) {
+    let cases = [
+        ("0", Ok(0)),
+        ("007", Ok(7)),
+        ("18446744073709551615", Ok(18446744073709551615)),
+        ("00018446744073709551615", Ok(18446744073709551615)),
+        ("18446744073709551616", Err(NumberFault::TooLarge)),
+        ("99999999999999999999999", Err(NumberFault::TooLarge)),
+        ("", Err(NumberFault::NotNumber { place: 0 })),
+        ("+1", Err(NumberFault::NotNumber { place: 0 })),
+        ("12a", Err(NumberFault::NotNumber { place: 2 })),
+        (
+            "99999999999999999999999 ",
+            Err(NumberFault::NotNumber { place: 23 }),
+        ),
+    ];
+    for (text, want) in cases {
+        assert_eq!(rt; read_u64(text.as_bytes()), want, "of {text}");
+    }
+}
+
+#[test]
+fn writes_numbers(rt: HostRuntime) -> Result<(), Fail> {
+    let mut out = Text::new(rt.alloc());
+    push_word(&mut out, "applied ")?;
+    push_number(&mut out, 0)?;
+    push_number(&mut out, u64::MAX)?;
+    assert_eq!(rt; out.as_str(), "applied 018446744073709551615");
+    Ok(())
+}
+
+#[test]
+fn shows_bounds(rt: HostRuntime) -> Result<(), Fail> {
+    let key = Key::read(b"0123456789abcdef")?;
+    let mut out = Text::new(rt.alloc());
+    push_bound(&mut out, 0)?;
+    push_bound(&mut out, u128::MAX)?;
+    push_bound(&mut out, Key::read(b"m")?.bound())?;
+    push_key(&mut out, key)?;
+    assert_eq!(rt; out.as_str(), "^~m0123456789abcdef");
+    assert_eq!(rt; key.text_len(), 16);
+    Ok(())
+}
+
+#[test]
+fn spans_keys(rt: HostRuntime) -> Result<(), Fail> {
+    let key = Key::read(b"b")?;
+    let span = KeySpan::new(key, None).ok_or("no span")?.span();
+    assert_eq!(rt; (span.start, span.end), (0x62 << 120, u128::MAX));
+    Ok(())
+}
+
+#[test]
+fn keeps_calls(rt: HostRuntime) -> Result<(), Fail> {
+    let mut calls: Calls = Seq::new(rt.alloc());
+    calls.push(3)?;
+    assert_eq!(rt; calls.copy()?.as_slice(), [3].as_slice());
+    Ok(())
+}
+
+#[test]
+fn keeps_items(rt: HostRuntime) -> Result<(), Fail> {
+    let mut items: Items = Grown::new(rt.alloc());
+    items.make_room(16)?;
+    let ask = Item::Lease(LeaseAsk {
+        holder: NodeId::new(2).ok_or("no node")?,
+        prev: LeaseSeq::new(1),
+        expires: Tick::new(56),
+    });
+    items.push(ask);
+    assert_eq!(rt; items.as_slice(), [ask].as_slice());
+    Ok(())
+}

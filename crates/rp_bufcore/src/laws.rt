@@ -1,0 +1,24 @@
+//! Laws of the buffer machine over any list of events. No program calls these functions.
+ghost use Rattle.rp_bufcore.specs.Events.{EachGivenOnce, GivenByTheNext, NothingLeft, StaysSound};
+
+/// A published item is given once or still waits: it is never given twice.
+#[tactic(auto, using(crate::proofs::Running::each_given_once))]
+pub fn each_item_is_given_once()
+    ensures { EachGivenOnce }
+{}
+
+/// An item that was published is given by the next collect.
+pub fn published_items_are_given_by_the_next_collect()
+    ensures { GivenByTheNext }
+{}
+
+/// A collect leaves no published item.
+#[tactic(auto, using(crate::proofs::Running::nothing_left))]
+pub fn a_collect_leaves_nothing()
+    ensures { NothingLeft }
+{}
+
+/// A buffer has sixteen places, and those that are not drawn are free.
+pub fn places_that_are_not_drawn_are_free()
+    ensures { StaysSound }
+{}

@@ -1,0 +1,89 @@
+use crate::{BufferEnd, PlainBuf, PlainEnd};
+use rp_base::{CmdId, Grown, Item, RangeId};
+use std::alloc::Global;
+use std::test::Fail;
+
+fn item(client: u16) -> Item {
+    Item::Write(CmdId {
+        client,
+        seq: 1,
+        attempt: 1,
+    })
+}
+
+/// A collect gives just these items, in this order.
+fn gives(alloc: Global, buffer: &mut PlainBuf, want: &[Item]) -> Result<bool, Fail> {
+    let mut out = Grown::new(alloc);
+    out.make_room(16)?;
+    buffer.collect(&mut out);
+    Ok(out.as_slice() == want)
+}
+
+/// A collect from a range's buffer gives just these items, in this order.
+fn end_gives<B: BufferEnd>(
+    alloc: Global,
+    end: &mut B,
+    range: RangeId,
+    want: &[Item],
+) -> Result<bool, Fail> {
+    let mut out = Grown::new(alloc);
+    out.make_room(16)?;
+    end.collect(range, &mut out);
+    Ok(out.as_slice() == want)
+}
+
+#[test]
+fn a_drawn_place_keeps_the_buffer_closed(rt: HostRuntime) -> Result<(), Fail> {
+    let mut buffer = PlainBuf::new();
+    assert!(rt; buffer.draw().is_ok_and(|place| place == 0));
+    assert!(rt; buffer.draw().is_ok_and(|place| place == 1));
+    assert!(rt; buffer.publish(1, item(7)).is_ok());
+    assert!(rt; gives(rt.alloc(), &mut buffer, &[item(7)])?);
+    assert!(rt; buffer.draw().is_err());
+    assert!(rt; buffer.publish(0, item(8)).is_ok());
+    assert!(rt; gives(rt.alloc(), &mut buffer, &[item(8)])?);
+    assert!(rt; buffer.draw().is_ok_and(|place| place == 0));
+    Ok(())
+}
+
+#[test]
+fn items_are_given_in_the_order_of_places(rt: HostRuntime) -> Result<(), Fail> {
+    let mut buffer = PlainBuf::new();
+    assert!(rt; buffer.draw().is_ok());
+    assert!(rt; buffer.draw().is_ok());
+    assert!(rt; buffer.publish(1, item(1)).is_ok());
+    assert!(rt; buffer.publish(0, item(2)).is_ok());
+    assert!(rt; gives(rt.alloc(), &mut buffer, &[item(2), item(1)])?);
+    assert!(rt; gives(rt.alloc(), &mut buffer, &[])?);
+    Ok(())
+}
+
+#[test]
+fn sixteen_places(rt: HostRuntime) {
+    let mut buffer = PlainBuf::new();
+    for place in 0..16 {
+        assert!(rt;
+            buffer
+                .publish(place, item(1))
+                .is_err_and(|fault| fault.place == place)
+        );
+        assert!(rt; buffer.draw().is_ok_and(|drawn| drawn == place));
+        assert!(rt; buffer.publish(place, item(1)).is_ok());
+        assert!(rt; buffer.publish(place, item(2)).is_err());
+    }
+    assert!(rt; buffer.draw().is_err_and(|fault| fault.count == 16));
+    assert!(rt; buffer.publish(16, item(1)).is_err());
+}
+
+#[test]
+fn each_range_has_its_buffer(rt: HostRuntime) -> Result<(), Fail> {
+    let first = RangeId::new(0).ok_or("range 0")?;
+    let last = RangeId::new(7).ok_or("range 7")?;
+    let mut end = PlainEnd::new();
+    assert!(rt; end.draw(last).is_ok_and(|place| place == 0));
+    assert!(rt; end.publish(first, 0, item(3)).is_err());
+    assert!(rt; end.publish(last, 0, item(3)).is_ok());
+    assert!(rt; end_gives(rt.alloc(), &mut end, first, &[])?);
+    assert!(rt; end_gives(rt.alloc(), &mut end, last, &[item(3)])?);
+    Ok(())
+}

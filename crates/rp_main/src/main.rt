@@ -1,0 +1,24 @@
+//! The program `rp`.
+#![tactic(auto)]
+
+use rp_outside::{StdSink, StdSource};
+use rp_top::top_call;
+use std::alloc::Global;
+use std::process::ExitCode;
+use std::rt::Env;
+use std::{env, io};
+
+/// The words behind the program's name.
+fn words<R: Env + AllocGlobal>(rt: &R, alloc: Global) -> io::Result<Vec<String>> {
+    let words = env::args(rt)?.skip(1).collect(alloc)?;
+    Ok(words)
+}
+
+fn main(rt: HostRuntime) -> ExitCode {
+    let Ok(words) = words(&rt, rt.alloc()) else {
+        return ExitCode::from(7);
+    };
+    let mut source = StdSource::new(rt.reader());
+    let mut sink = StdSink::new(io::writer(&rt));
+    ExitCode::from(top_call(rt.alloc(), &words, &mut source, &mut sink))
+}

@@ -1,0 +1,6 @@
+//! The log of a replica: entries behind a base. What stands at or below the base was cut away.
+#![tactic(auto)]
+
+mod entries;
+
+pub use entries::{Entries, Entry};

@@ -1,0 +1,9 @@
+pub mod World
+pub mod Safety
+pub mod Bounds
+pub mod Many
+pub mod Proposed
+pub use Rattle.rp_raftlog.specs.LogState
+pub use Rattle.rp_raft.specs.RaftState
+pub use Rattle.rp_raft.specs.Step
+pub use Rattle.rp_raft.specs.Conditions

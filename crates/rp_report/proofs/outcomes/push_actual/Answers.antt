@@ -1,0 +1,5 @@
+use Rattle.rp_report.proofs.Joined.{joined}
+use Rattle.rp_report.proofs.outcomes.push_actual.Goals as goal
+
+pub returns : goal.returns
+returns c = joined _ _ _ _ _ _ c.in_ok-push_word.ensures.ok c.push_value.ensures

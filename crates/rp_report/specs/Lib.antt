@@ -1,0 +1,5 @@
+pub mod Words
+pub mod Items
+pub mod Outcomes
+pub mod Shown
+pub mod Report

@@ -1,0 +1,158 @@
+ghost use Rattle.std.specs.Prelude.{◌≡◌, ◌++◌, OnOk};
+ghost use Rattle.rp_report.specs.Items.{span_end_text, request_text, reply_text, did_text, item_text, why_text, record_line};
+
+use crate::words::{push_attempt, push_lease, push_spaced, push_spaced_key, push_value};
+use rp_base::{CmdId, Key, NoMemory, Text, push_key, push_number, push_word};
+use rp_request::{Place, Record, Reply, Request, Why};
+
+/// Where a span of keys ends.
+fn push_span_end(out: &mut Text, end: Option<Key>) -> Result<(), NoMemory>
+    ensures { OnOk result (out.new ≡ out.old ++ span_end_text end) }
+{
+    match end {
+        Some(key) => push_spaced_key(out, key),
+        None => push_word(out, " ~"),
+    }
+}
+
+/// A request, as a script spells it.
+pub fn push_request(out: &mut Text, request: &Request) -> Result<(), NoMemory>
+    ensures { OnOk result (out.new ≡ out.old ++ request_text request.now) }
+{
+    match request {
+        Request::Put { key, value } => {
+            push_word(out, "put ")?;
+            push_key(out, *key)?;
+            push_spaced(out, *value)
+        }
+        Request::Add { key, by } => {
+            push_word(out, "add ")?;
+            push_key(out, *key)?;
+            push_spaced(out, *by)
+        }
+        Request::CPut { key, expect, value } => {
+            push_word(out, "cput ")?;
+            push_key(out, *key)?;
+            push_word(out, " ")?;
+            push_value(out, *expect)?;
+            push_spaced(out, *value)
+        }
+        Request::Del { key } => {
+            push_word(out, "del ")?;
+            push_key(out, *key)
+        }
+        Request::Wipe { span } => {
+            push_word(out, "wipe ")?;
+            push_key(out, span.start)?;
+            push_span_end(out, span.end)
+        }
+        Request::Move { from, to, by } => {
+            push_word(out, "move ")?;
+            push_key(out, *from)?;
+            push_spaced_key(out, *to)?;
+            push_spaced(out, *by)
+        }
+        Request::Split { key } => {
+            push_word(out, "split ")?;
+            push_key(out, *key)
+        }
+    }
+}
+
+/// A reply.
+pub fn push_reply(out: &mut Text, reply: Reply) -> Result<(), NoMemory>
+    ensures { OnOk result (out.new ≡ out.old ++ reply_text reply) }
+{
+    match reply {
+        Reply::Old(value) => push_value(out, value),
+        Reply::Now(value) => push_number(out, value),
+        Reply::Set => push_word(out, "set"),
+        Reply::Count(count) => push_number(out, count),
+        Reply::Range(right) => {
+            push_word(out, "range")?;
+            push_spaced(out, u64::from(right.get()))
+        }
+    }
+}
+
+/// What took effect: the attempt and the request.
+fn push_did(out: &mut Text, id: CmdId, request: &Request) -> Result<(), NoMemory>
+    ensures { OnOk result (out.new ≡ out.old ++ did_text id request.now) }
+{
+    push_attempt(out, id)?;
+    push_word(out, " ")?;
+    push_request(out, request)
+}
+
+/// An applied item.
+pub fn push_item(out: &mut Text, item: &Place) -> Result<(), NoMemory>
+    ensures { OnOk result (out.new ≡ out.old ++ item_text item.now) }
+{
+    match item {
+        Place::Write {
+            id,
+            request,
+            seq,
+            reply,
+        } => {
+            push_word(out, "write ")?;
+            push_did(out, *id, request)?;
+            push_word(out, " under")?;
+            push_spaced(out, seq.get())?;
+            push_word(out, " ok ")?;
+            push_reply(out, *reply)
+        }
+        Place::Split {
+            id,
+            key,
+            right,
+            seq,
+        } => {
+            push_word(out, "split ")?;
+            push_attempt(out, *id)?;
+            push_spaced_key(out, *key)?;
+            push_word(out, " right")?;
+            push_spaced(out, u64::from(right.get()))?;
+            push_word(out, " under")?;
+            push_spaced(out, seq.get())
+        }
+        Place::Lease(lease) => {
+            push_word(out, "lease ")?;
+            push_lease(out, *lease)
+        }
+    }
+}
+
+/// Why an entry was passed over.
+fn why_word(why: Why) -> &'static str
+    ensures { result.now ≡ why_text why }
+{
+    match why {
+        Why::Nothing => "nothing",
+        Why::OldLease => "old-lease",
+        Why::OldIndex => "old-index",
+        Why::LeaseMoved => "lease-moved",
+    }
+}
+
+/// The line of the record at an index.
+pub fn push_record(out: &mut Text, index: u64, record: &Record) -> Result<(), NoMemory>
+    ensures { OnOk result (out.new ≡ out.old ++ record_line index record.now) }
+{
+    match record {
+        Record::Took(item) => {
+            push_word(out, "place")?;
+            push_spaced(out, index)?;
+            push_word(out, " ")?;
+            push_item(out, item)?;
+            push_word(out, "\n")
+        }
+        Record::Passed(why) => {
+            push_word(out, "pass")?;
+            push_spaced(out, index)?;
+            push_word(out, " ")?;
+            push_word(out, why_word(*why))?;
+            push_word(out, "\n")
+        }
+    }
+}

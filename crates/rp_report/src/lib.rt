@@ -1,0 +1,11 @@
+//! What a run shows: the view of a world, and its text.
+#![tactic(auto)]
+
+mod items;
+mod outcomes;
+mod texts;
+mod views;
+mod words;
+
+pub use texts::write_text;
+pub use views::{RangeView, ReplicaView, Row, View};

@@ -1,0 +1,182 @@
+ghost use Rattle.std.specs.Prelude.{◌≤◌};
+
+use crate::top_call;
+use rp_base::{Bytes, Seq};
+use rp_outside::{MemorySink, MemorySource, SoundSink, SoundSource};
+use std::alloc::Global;
+use std::test::Fail;
+
+const ONE_PUT: &[u8] = b"cluster 1\nsend 1 0 1 put a 5\nflush 1 0\napply 1 0\nend\n";
+
+const ONE_PUT_SHOWN: &[u8] =
+    b"nodes 1\nreply 1.1 1 ok none\nrange 0 ^ ~ level 0 lease 1 1 40\nplace 1 write 1.1 1 put a 5 under 1 ok none\nnode 1 live term 1 applied 1 lai 1\nrow a 5\nend\n";
+
+const USAGE: &[u8] =
+    b"usage: rp run [--form F] | rp race [--workers W] [--loss P] [--salt S] [--form F] | rp gen NUMBER SIZE\n";
+
+fn bytes(alloc: Global, text: &[u8]) -> Result<Bytes, Fail> {
+    Ok(Seq::from_vec(text.to_vec(alloc)?))
+}
+
+fn words(alloc: Global, texts: &[&str]) -> Result<Vec<String>, Fail> {
+    let mut words = Vec::new(alloc);
+    for text in texts {
+        words.push(String::from_str(alloc, text)?)?;
+    }
+    Ok(words)
+}
+
+/// Whether the words and the script give this status and this output, with ample memory and no fault.
+fn gives(
+    alloc: Global,
+    texts: &[&str],
+    script: &[u8],
+    status: u8,
+    output: &[u8],
+) -> Result<bool, Fail> {
+    let words = words(alloc, texts)?;
+    let mut source = SoundSource::new(bytes(alloc, script)?, 7);
+    let mut sink = SoundSink::new(alloc, 64);
+    sink.make_room(4096)?;
+    let code = top_call(alloc, &words, &mut source, &mut sink);
+    let Some(held) = sink.bytes() else {
+        return Ok(false);
+    };
+    Ok(code == status && held == output)
+}
+
+#[test]
+fn one_put(rt: HostRuntime) -> Result<(), Fail> {
+    assert!(rt; gives(rt.alloc(), &["run"], ONE_PUT, 0, ONE_PUT_SHOWN)?);
+    Ok(())
+}
+
+#[test]
+fn replies_by_client_and_rows_by_key(rt: HostRuntime) -> Result<(), Fail> {
+    let script =
+        b"# two clients\n\ncluster 1\nsend 1 0 9 put b 1\nflush 1 0\napply 1 0\nsend 1 0 2 put b 2\nflush 1 0\napply 1 0\nsend 1 0 9 put a 3\nflush 1 0\napply 1 0\nend";
+    let output =
+        b"nodes 1\nreply 2.1 1 ok 1\nreply 9.1 1 ok none\nreply 9.2 1 ok none\nrange 0 ^ ~ level 0 lease 1 1 40\nplace 1 write 9.1 1 put b 1 under 1 ok none\nplace 2 write 2.1 1 put b 2 under 1 ok 1\nplace 3 write 9.2 1 put a 3 under 1 ok none\nnode 1 live term 1 applied 3 lai 3\nrow a 3\nrow b 2\nend\n";
+    assert!(rt;
+        gives(
+            rt.alloc(),
+            &["run"],
+            script.as_slice(),
+            0,
+            output.as_slice()
+        )?
+    );
+    Ok(())
+}
+
+#[test]
+fn no_group(rt: HostRuntime) -> Result<(), Fail> {
+    let output =
+        b"nodes 1\nrange 0 ^ ~ level 0 lease 1 1 40\nnode 1 live term 1 applied 0 lai 0\nend\n";
+    assert!(rt;
+        gives(
+            rt.alloc(),
+            &["run"],
+            b"cluster 1\nend\n".as_slice(),
+            0,
+            output.as_slice()
+        )?
+    );
+    Ok(())
+}
+
+#[test]
+fn refusals(rt: HostRuntime) -> Result<(), Fail> {
+    assert!(rt;
+        gives(
+            rt.alloc(),
+            &["run"],
+            b"".as_slice(),
+            3,
+            b"refused 1 0 no-cluster\n".as_slice()
+        )?
+    );
+    assert!(rt;
+        gives(
+            rt.alloc(),
+            &["run"],
+            b"\nend\n".as_slice(),
+            3,
+            b"refused 2 1 no-cluster\n".as_slice()
+        )?
+    );
+    assert!(rt;
+        gives(
+            rt.alloc(),
+            &["run"],
+            b"cluster 1\n".as_slice(),
+            3,
+            b"refused 2 0 no-end\n".as_slice()
+        )?
+    );
+    assert!(rt;
+        gives(
+            rt.alloc(),
+            &["run"],
+            b"cluster 2\n".as_slice(),
+            3,
+            b"refused 1 1 not-built\n".as_slice()
+        )?
+    );
+    Ok(())
+}
+
+#[test]
+fn a_comment_of_257_bytes(rt: HostRuntime) -> Result<(), Fail> {
+    let script = [b'#'; 257];
+    assert!(rt;
+        gives(
+            rt.alloc(),
+            &["run"],
+            &script,
+            4,
+            b"limit line-bytes 257\n".as_slice()
+        )?
+    );
+    Ok(())
+}
+
+#[test]
+fn other_words(rt: HostRuntime) -> Result<(), Fail> {
+    assert!(rt; gives(rt.alloc(), &[], ONE_PUT, 2, USAGE)?);
+    assert!(rt; gives(rt.alloc(), &["run", "run"], ONE_PUT, 2, USAGE)?);
+    Ok(())
+}
+
+#[test]
+fn a_source_whose_third_call_fails(rt: HostRuntime) -> Result<(), Fail> {
+    let fails = Seq::from_vec([3].to_vec(rt.alloc())?);
+    let mut source = MemorySource::new(bytes(rt.alloc(), ONE_PUT)?, 4, fails);
+    let mut sink = SoundSink::new(rt.alloc(), 64);
+    sink.make_room(4096)?;
+    let words = words(rt.alloc(), &["run"])?;
+    let code = top_call(rt.alloc(), &words, &mut source, &mut sink);
+    assert!(rt; code == 5);
+    assert!(rt; is_held(&sink, b"".as_slice()));
+    Ok(())
+}
+
+fn is_held(sink: &SoundSink, text: &[u8]) -> bool {
+    match sink.bytes() {
+        Some(held) => held == text,
+        None => false,
+    }
+}
+
+#[test]
+fn a_sink_whose_second_call_fails(rt: HostRuntime) -> Result<(), Fail> {
+    let fails = Seq::from_vec([2].to_vec(rt.alloc())?);
+    let mut source = SoundSource::new(bytes(rt.alloc(), ONE_PUT)?, 4096);
+    let mut sink = MemorySink::new(rt.alloc(), 40, fails);
+    sink.make_room(4096)?;
+    let words = words(rt.alloc(), &["run"])?;
+    let code = top_call(rt.alloc(), &words, &mut source, &mut sink);
+    assert!(rt; code == 6);
+    assert!(rt; sink.bytes() == b"nodes 1\nreply 1.1 1 ok none\nrange 0 ^ ~ ".as_slice());
+    Ok(())
+}
