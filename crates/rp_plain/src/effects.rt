@@ -93,12 +93,12 @@ fn pass_on(table: PlainTable, desc: Desc, from: Key, to: Key, by: u64) -> Result
     ensures { IfOk result (λ a. a ≡ pass_on table desc from to by) }
 {
     let actual = table.value(to);
-    let Some(sum) = actual.checked_add(by) else {
+    let Some(total) = actual.checked_add(by) else {
         return Ok(Err(Refusal::Overflow { actual }));
     };
     let rest = table.value(from) - by;
     Ok(writes(
-        table.insert(from, rest)?.insert(to, sum)?,
+        table.insert(from, rest)?.insert(to, total)?,
         desc,
         Reply::Now(rest),
     ))

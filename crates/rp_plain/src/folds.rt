@@ -2,11 +2,12 @@ ghost use Rattle.std.specs.Prelude.{◌≡◌, IfOk};
 ghost use Rattle.rp_request.specs.Items.{after_request, after_item, fold};
 ghost use Rattle.rp_request.specs.Places.{is_of, names, places_of};
 ghost use Rattle.rp_request.specs.Starts.{first_state};
+ghost use Rattle.rp_plain.specs.Search.{right_start, first_split};
 
 use crate::effects::effect;
 use crate::tables::PlainTable;
-use rp_base::{CmdId, Desc, Lease, NoMemory};
-use rp_range::{first_desc, first_lease};
+use rp_base::{CmdId, Desc, Key, Lease, NoMemory, RangeId};
+use rp_range::{first_desc, first_lease, split_at};
 use rp_request::{Place, Request};
 use std::alloc::Global;
 use std::marker::Model;
@@ -109,4 +110,41 @@ pub fn places_of(client: u16, seq: u32, items: &[Place]) -> usize
         .iter()
         .filter(|item| names(client, seq, **item))
         .count()
+}
+
+/// The state of the range from the key on. None where the range may not split there.
+pub fn right_start(state: &PlainState, key: Key) -> Result<Option<PlainState>, NoMemory>
+    ensures { IfOk result (λ s. s ≡ right_start state.now key) }
+{
+    match split_at(state.desc, key) {
+        Ok((_left, right)) => Ok(Some(PlainState {
+            table: state.table.from_on(key)?,
+            desc: right,
+            lease: state.lease,
+        })),
+        Err(_) => Ok(None),
+    }
+}
+
+/// The start of a range, by the first item of a list that splits it off.
+pub fn first_split(
+    range: RangeId,
+    mut state: PlainState,
+    items: &[Place],
+) -> Result<Option<PlainState>, NoMemory>
+    ensures { IfOk result (λ s. s ≡ first_split range state items.now) }
+{
+    for item in items {
+        if let Place::Split { key, right, .. } = *item {
+            if right == range {
+                let start = right_start(&state, key)?;
+                return Ok(start);
+            }
+        }
+        match after_item(state, *item)? {
+            Some(next) => state = next,
+            None => return Ok(None),
+        }
+    }
+    Ok(None)
 }

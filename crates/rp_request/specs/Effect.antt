@@ -65,6 +65,7 @@ split t key (Ok parts) = Ok (record { table = below t key; desc = parts.0; reply
 split t key (Err faults.NotInside) = Err NotInside
 split t key (Err (faults.SplitLimit level)) = Err (SplitLimit level)
 
+-- the effect of a request
 abbrev pub effect : Table → Desc → Request → Result Effect Refusal
 effect t d (Put key value) = writes (insert t key value) d (Old (get t key))
 effect t d (Add key by) = add t d key by

@@ -67,7 +67,8 @@ impl Batch {
     }
 }
 
-/// A request that was evaluated: the writes that replicas are to make, and the reply.
+/// A request that was evaluated: the writes that replicas are to make, and the reply (CockroachDB's
+/// replicated commands).
 #[derive(Drop)]
 pub struct Command {
     pub id: CmdId,

@@ -23,7 +23,8 @@ pub enum Place {
     Lease(Lease),
 }
 
-/// Why an entry of a range's log did nothing.
+/// Why an entry of a range's log did nothing (after CockroachDB's checks at application: the lease
+/// sequence, then the lease applied index).
 #[derive(Clone, Copy, Debug, PartialEq, Eq)]
 pub enum Why {
     /// It carries nothing.

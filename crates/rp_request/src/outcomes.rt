@@ -40,7 +40,7 @@ pub enum Refusal {
     SplitLimit { level: u8 },
 }
 
-/// Why nobody can tell whether a command took effect.
+/// Why nobody can tell whether a command took effect (after CockroachDB's ambiguous results).
 #[derive(Clone, Copy, Debug, PartialEq, Eq)]
 pub enum Ambiguity {
     /// A snapshot whose lease applied index is `passed` overtook the command, whose own index is `own`.

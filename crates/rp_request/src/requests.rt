@@ -3,7 +3,8 @@ ghost use Rattle.rp_request.specs.Covers.{alone, both};
 
 use rp_base::{Key, KeySpan, Seq, Span, Spans};
 
-/// What a client asks of a range. An absent key counts as 0 for `Add` and `Move`.
+/// What a client asks of a range (this project's requests). An absent key counts as 0 for `Add` and
+/// `Move`.
 #[derive(Clone, Copy, Debug, PartialEq, Eq)]
 pub enum Request {
     /// The key gets the value.
