@@ -15,8 +15,11 @@ fn words<R: Env + AllocGlobal>(rt: &R, alloc: Global) -> io::Result<Vec<String>>
 }
 
 fn main(rt: HostRuntime) -> ExitCode {
-    let Ok(words) = words(&rt, rt.alloc()) else {
-        return ExitCode::from(7);
+    let words = match words(&rt, rt.alloc()) {
+        Ok(words) => words,
+        Err(e) if e.kind() == io::ErrorKind::OutOfMemory => return ExitCode::from(7),
+        // Words that are no text are none of the program's.
+        Err(_) => Vec::new(rt.alloc()),
     };
     let mut source = StdSource::new(rt.reader());
     let mut sink = StdSink::new(io::writer(&rt));

@@ -43,6 +43,7 @@ abbrev pub ambiguity_text : Ambiguity → List ℕ
 ambiguity_text (Snapshot own passed) = codes "snapshot" ++ spaced own ++ spaced passed
 ambiguity_text (Removed own) = codes "removed" ++ spaced own
 
+-- how an attempt ended
 abbrev pub outcome_text : Outcome → List ℕ
 outcome_text (Success reply) = codes "ok " ++ reply_text reply
 outcome_text (Refused refusal) = codes "refused " ++ refusal_text refusal

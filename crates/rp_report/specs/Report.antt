@@ -17,6 +17,7 @@ use Rattle.rp_report.specs.Words.{newline, spaced, spaced_bound, attempt_text, l
 use Rattle.rp_report.specs.Items.{record_line}
 use Rattle.rp_report.specs.Outcomes.{end_text}
 
+-- what a line of the script has to tell
 abbrev pub note_line : Note → List ℕ
 note_line note = codes "note" ++ spaced note.line ++ codes " " ++ note.text ++ newline
 
@@ -24,6 +25,7 @@ note_line note = codes "note" ++ spaced note.line ++ codes " " ++ note.text ++ n
 abbrev pub attempt_of : Answer → CmdId
 attempt_of answer = record { client = answer.client; seq = answer.seq; attempt = answer.attempt }
 
+-- how an attempt ended
 abbrev pub answer_line : Answer → List ℕ
 answer_line answer = codes "reply " ++ attempt_text (attempt_of answer) ++ codes " " ++ end_text answer.end ++ newline
 
@@ -40,6 +42,7 @@ abbrev pub record_lines : ℕ → List Record → List ℕ
 record_lines index [] = []
 record_lines index (r ∷ records) = record_line index r ++ record_lines (index + 1) records
 
+-- a key that has a value
 abbrev pub row_line : Row → List ℕ
 row_line row = codes "row " ++ key_text row.key ++ spaced row.value ++ newline
 

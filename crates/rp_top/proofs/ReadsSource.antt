@@ -1,10 +1,10 @@
 -- A script read from a source piece after piece.
 use Rattle.std.proofs.Common.{◌≡◌, ℕ, List, [], ◌∷◌, ◌++◌, Option, Some, None, Result, Ok, Err, refl, ap, ◌∙◌, sym, subst, append_assoc}
-use Rattle.rp_outside.specs.Devices.{Comes, IsAtEnd}
+use Rattle.rp_outside.specs.Devices.{Comes, IsAtEnd, IsAll}
 use Rattle.rp_outside.proofs.Told.{comes_more}
 use Rattle.rp_top.specs.Script.{◌>>=◌, meaning}
 use Rattle.rp_top.specs.Reading.{Reading, unread, fed, fed_all, finished}
-use Rattle.rp_top.specs.Gives.{Stops, Gives, Reads, IsScript, HasCome}
+use Rattle.rp_top.specs.Gives.{Stops, Gives, Reads, HasCome}
 use Rattle.rp_top.specs.declared.script.faults.Fault.{Fault}
 use Rattle.rp_top.specs.declared.script.lines.Group.{Group}
 use Rattle.rp_top.specs.declared.script.stops.Stop.{Stop}
@@ -17,7 +17,7 @@ fed_all-append r (x ∷ xs) ys =
     same_bind (fed r x) _ _ (λ s. fed_all-append s xs ys) ∙ sym (bind_assoc (fed r x) (λ s. fed_all s xs) (λ s. fed_all s ys))
 
 -- a fault of the source says nothing of the script
-pub any_script : (a : Option (List ℕ)) → (x : List ℕ) × IsScript a x × Unit {0}
+pub any_script : (a : Option (List ℕ)) → (x : List ℕ) × IsAll a x × Unit {0}
 any_script (Some left) = (left, refl, tt)
 any_script None = ([], tt, tt)
 
@@ -40,7 +40,7 @@ stopped_here : (bytes piece : List ℕ) (r : Reading) (fault : Fault) → fed_al
 stopped_here bytes piece r fault leads stops = ap meaning (sym (append-nil (bytes ++ piece))) ∙ stopped bytes piece [] r fault leads stops
 
 judged_piece : (a b c : Option (List ℕ)) (r : Reading) (piece : List ℕ) (fault : Fault) → HasCome a b r → Comes b piece c → fed_all r piece ≡ Err fault
-    → (x : List ℕ) × IsScript a x × (meaning x ≡ Err fault)
+    → (x : List ℕ) × IsAll a x × (meaning x ≡ Err fault)
 judged_piece (Some all) (Some left) (Some rest) r piece fault h came stops =
     (all, refl, ap meaning (h.comes ∙ ap (λ l. h.bytes ++ l) came ∙ sym (append_assoc h.bytes piece rest)) ∙ stopped h.bytes piece rest r fault h.leads stops)
 judged_piece (Some all) (Some left) None r piece fault h came stops = absurd came
@@ -49,7 +49,7 @@ judged_piece None b c r piece fault h came stops = (h.bytes ++ piece, tt, stoppe
 
 -- the piece in which the reading stops
 pub came_stopped : (a b c : Option (List ℕ)) (r : Reading) (piece : List ℕ) (stop : Stop) → HasCome a b r → Comes b piece c → Stops stop (fed_all r piece)
-    → (x : List ℕ) × IsScript a x × Reads {Y = List Group} (Err stop) (meaning x)
+    → (x : List ℕ) × IsAll a x × Reads {Y = List Group} (Err stop) (meaning x)
 came_stopped a b c r piece (stops.Judged fault) h came stops = judged_piece a b c r piece fault h came stops
 came_stopped a b c r piece stops.NoMemory h came stops = any_script a
 came_stopped a b c r piece stops.ReadFault h came stops = absurd stops
@@ -60,14 +60,14 @@ gives_reads (Err (stops.Judged fault)) v h = h
 gives_reads (Err stops.NoMemory) v h = tt
 gives_reads (Err stops.ReadFault) v h = absurd h
 
-whole : (a b : Option (List ℕ)) (bytes : List ℕ) → Comes a bytes b → IsAtEnd b → IsScript a bytes
+whole : (a b : Option (List ℕ)) (bytes : List ℕ) → Comes a bytes b → IsAtEnd b → IsAll a bytes
 whole (Some all) (Some left) bytes came end = sym (append-nil bytes) ∙ ap (λ l. bytes ++ l) (sym end) ∙ sym came
 whole (Some all) None bytes came end = absurd came
 whole None b bytes came end = tt
 
 -- the end of the source
 pub came_whole : (a b c : Option (List ℕ)) (r : Reading) (res : Result (List Group) Stop) → HasCome a b r → Comes b [] c → IsAtEnd c
-    → Gives (λ groups. groups) res (finished r r.line) → (x : List ℕ) × IsScript a x × Reads res (meaning x)
+    → Gives (λ groups. groups) res (finished r r.line) → (x : List ℕ) × IsAll a x × Reads res (meaning x)
 came_whole a b c r res h came end gives =
     let all = came_further a b c r r [] h came refl in (
       all.bytes,

@@ -1,7 +1,7 @@
 -- What a run answers, by the script that it read.
 use Rattle.std.proofs.Common.{◌≡◌, ℕ, Bool, false, cond, ◌⊎◌, inl, inr, List, Option, Result, Ok, Err, refl, ap, ◌∙◌, sym, subst}
+use Rattle.rp_outside.specs.Devices.{IsAll}
 use Rattle.rp_top.specs.Answers.{Answers, Writes, output, status_of, status_due, text_due, is_run, usage_line}
-use Rattle.rp_top.specs.Gives.{IsScript}
 use Rattle.rp_top.specs.Runs.{IsShownRun}
 use Rattle.rp_top.specs.Script.{meaning}
 use Rattle.rp_top.specs.declared.script.faults.Fault.{Fault}
@@ -15,8 +15,8 @@ use Rattle.rp_top.proofs.ReadsSource.{any_script}
 
 -- a script of these groups was read, and they were shown
 pub answered : (left : Option (List ℕ)) (status : Status) (old new : Option (List ℕ)) (groups shown : List Group)
-    → ((x : List ℕ) × IsScript left x × (meaning x ≡ Ok groups)) → shown ≡ groups → Answers status (Ok shown) old new
-    → (x : List ℕ) × IsScript left x × Answers status (meaning x) old new
+    → ((x : List ℕ) × IsAll left x × (meaning x ≡ Ok groups)) → shown ≡ groups → Answers status (Ok shown) old new
+    → (x : List ℕ) × IsAll left x × Answers status (meaning x) old new
 answered left status old new groups shown read same answers =
     let P : Result (List Group) Fault → Type 0 = λ m. Answers status m old new in
     (read.0, read.1, subst P (ap (λ g. Ok g) same ∙ sym read.2) answers)
@@ -28,19 +28,19 @@ shown_at x (Err (faults.Limit which count)) old new is answers = let other : sta
 
 -- a run that ended well
 pub shown_run : (left : Option (List ℕ)) (status : Status) (old new : Option (List ℕ))
-    → ((x : List ℕ) × IsScript left x × Answers status (meaning x) old new) → status ≡ statuses.Ok
-    → (x : List ℕ) × IsScript left x × IsShownRun x old new
+    → ((x : List ℕ) × IsAll left x × Answers status (meaning x) old new) → status ≡ statuses.Ok
+    → (x : List ℕ) × IsAll left x × IsShownRun x old new
 shown_run left status old new run ok =
     let P : Status → Type 0 = λ s. Answers s (meaning run.0) old new in
     (run.0, run.1, shown_at run.0 (meaning run.0) old new refl (subst P ok run.2))
 
-some_script : (left : Option (List ℕ)) → (x : List ℕ) × IsScript left x
+some_script : (left : Option (List ℕ)) → (x : List ℕ) × IsAll left x
 some_script left = let any = any_script left in (any.0, any.1)
 
 -- the words ask for nothing
 pub usage_answers : (left : Option (List ℕ)) (words : List (List ℕ)) (status : Status) (code : ℕ) (old new : Option (List ℕ))
     → is_run words ≡ false → code ≡ code_of status → Writes status statuses.Usage usage_line old new
-    → (x : List ℕ) × (s : Status) × IsScript left x × (code ≡ code_of s) × Writes s (status_due words x) (text_due words x) old new
+    → (x : List ℕ) × (s : Status) × IsAll left x × (code ≡ code_of s) × Writes s (status_due words x) (text_due words x) old new
 usage_answers left words status code old new none coded writes =
     let script = some_script left in
     let m = meaning script.0 in
@@ -49,7 +49,7 @@ usage_answers left words status code old new none coded writes =
 
 pub usage_complete : (left : Option (List ℕ)) (words : List (List ℕ)) (status : Status) (code : ℕ) (B : Type 0)
     → is_run words ≡ false → code ≡ code_of status → (status ≡ statuses.Usage) ⊎ (status ≡ statuses.WriteFault) → (status ≡ statuses.WriteFault → B) → ¬ B
-    → (x : List ℕ) × IsScript left x × ((code ≡ 7) ⊎ (code ≡ code_of (status_due words x)))
+    → (x : List ℕ) × IsAll left x × ((code ≡ 7) ⊎ (code ≡ code_of (status_due words x)))
 usage_complete left words status code B none coded (inl usage) cause never =
     let script = some_script left in
     let m = meaning script.0 in

@@ -16,12 +16,13 @@ use Rattle.rp_top.specs.declared.script.faults.Fault.TheVariants as faults
 use Rattle.rp_top.specs.declared.statuses.Status.{Status}
 use Rattle.rp_top.specs.declared.statuses.Status.TheVariants as statuses
 
--- why a line is refused, and which limit is passed, as they are written
+-- why a line is refused, as it is written
 abbrev pub kind_text : LineKind → List ℕ
 kind_text NoCluster = codes "no-cluster"
 kind_text NoEnd = codes "no-end"
 kind_text NotBuilt = codes "not-built"
 
+-- which limit is passed, as it is written
 abbrev pub which_text : Which → List ℕ
 which_text Lines = codes "lines"
 which_text LineBytes = codes "line-bytes"
@@ -72,6 +73,7 @@ usage_line = codes "usage: rp run [--form F] | rp race [--workers W] [--loss P] 
 abbrev pub status_due : List (List ℕ) → List ℕ → Status
 status_due words bytes = if is_run words then status_of (meaning bytes) else statuses.Usage
 
+-- the text that is due for them
 abbrev pub text_due : List (List ℕ) → List ℕ → List ℕ
 text_due words bytes = if is_run words then output (meaning bytes) else usage_line
 

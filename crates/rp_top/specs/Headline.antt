@@ -47,5 +47,6 @@ pub record IsHeadline (groups : List Group) : Type 0 where
   -- the table is the fold of the list
   pub folded : fold first_state items ≡ Some state
 
+-- the headline holds of all groups
 abbrev pub Headline : Type 0
 Headline = (groups : List Group) → IsHeadline groups

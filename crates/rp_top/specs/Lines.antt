@@ -11,11 +11,12 @@ use Rattle.rp_top.specs.declared.script.lines.Keyword.TheVariants as keywords
 use Rattle.rp_top.specs.declared.script.lines.Line.{Line}
 use Rattle.rp_top.specs.declared.script.lines.Line.TheVariants as forms
 
--- what the first word of a line says
+-- the word begins a comment
 abbrev pub begins_comment : List ℕ → Bool
 begins_comment [] = false
 begins_comment (b ∷ bytes) = b == 35
 
+-- what the first word of a line says
 abbrev pub keyword_of : List ℕ → Keyword
 keyword_of word =
     if begins_comment word then keywords.Comment
@@ -26,11 +27,12 @@ keyword_of word =
     else (if bytes_eq word (codes "end") then keywords.End
     else keywords.Unknown)))))
 
--- the word is this number
+-- what was read is this number
 abbrev pub reads : ℕ → Result ℕ NumberFault → Bool
 reads n (Ok m) = m == n
 reads n (Err fault) = false
 
+-- the word is this number
 abbrev pub is_number : ℕ → List ℕ → Bool
 is_number n word = reads n (u64_of word)
 
@@ -58,6 +60,7 @@ group_of (node ∷ range ∷ client ∷ request ∷ key ∷ value ∷ []) =
     else None
 group_of _ = None
 
+-- the line of a send, where its form is built
 abbrev pub sends : Option Group → Line
 sends (Some group) = forms.Send group
 sends None = forms.Unbuilt

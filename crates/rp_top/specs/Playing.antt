@@ -16,6 +16,7 @@ use Rattle.rp_top.specs.Book.{cmd_cmp}
 use Rattle.rp_top.specs.World.{shown, view_of}
 use Rattle.rp_top.specs.declared.script.lines.Group.{Group}
 
+-- how a table is stored
 abbrev pub table_code : Coded Table
 table_code = code coded_ℕ coded_ℕ
 
@@ -34,6 +35,7 @@ pub record Played : Type 0 where
   pub replies : List (CmdId × Reply)
   pub records : List Record
 
+-- nothing was played yet
 abbrev pub unplayed : Played
 unplayed = record { table = empty; replies = []; records = [] }
 
@@ -49,6 +51,7 @@ with_group p g = record {
   records = p.records ++ Took (Write (next_command p.records g.client) (Put g.key g.value) 1 (Old (get p.table g.key))) ∷ [];
 }
 
+-- the groups one after another
 abbrev pub with_groups : Played → List Group → Played
 with_groups p [] = p
 with_groups p (g ∷ groups) = with_groups (with_group p g) groups

@@ -15,6 +15,7 @@ pub record Reading : Type 0 where
   pub line : List ℕ
   pub progress : Progress
 
+-- nothing was read yet
 abbrev pub unread : Reading
 unread = record { lines = 0; line = []; progress = beginning }
 
@@ -31,6 +32,7 @@ fed r b =
     else (if length r.line == 256 then Err (Limit LineBytes 257)
     else Ok (record { lines = r.lines; line = r.line ++ b ∷ []; progress = r.progress })))
 
+-- the bytes one after another
 abbrev pub fed_all : Reading → List ℕ → Result Reading Fault
 fed_all r [] = Ok r
 fed_all r (b ∷ bytes) = fed r b >>= λ s. fed_all s bytes
@@ -39,10 +41,12 @@ fed_all r (b ∷ bytes) = fed r b >>= λ s. fed_all s bytes
 abbrev pub closed : Reading → Result (List Group) Fault
 closed r = ended (r.lines + 1) r.progress.next r.progress.groups
 
+-- the end of the source, with the bytes of a line that has begun
 abbrev pub finished : Reading → List ℕ → Result (List Group) Fault
 finished r [] = closed r
 finished r (b ∷ line) = line_ended r >>= closed
 
+-- what a reading that has come so far makes of the bytes that are left
 abbrev pub verdict : Reading → List ℕ → Result (List Group) Fault
 verdict r bytes = fed_all r bytes >>= λ s. finished s s.line
 

@@ -23,6 +23,7 @@ pub record Progress : Type 0 where
   pub next : Next
   pub groups : List Group
 
+-- nothing has come yet
 abbrev pub beginning : Progress
 beginning = record { next = nexts.Cluster; groups = [] }
 

@@ -3,6 +3,7 @@ use Rattle.std.specs.Prelude.{ℕ}
 use Rattle.rp_top.specs.declared.statuses.Status.{Status}
 use Rattle.rp_top.specs.declared.statuses.Status.TheVariants.{Ok, Usage, Refused, Limit, ReadFault, WriteFault, NoMemory}
 
+-- the exit status of an answer
 abbrev pub code_of : Status → ℕ
 code_of Ok = 0
 code_of Usage = 2

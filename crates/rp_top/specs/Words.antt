@@ -16,6 +16,7 @@ abbrev pub pieces : List ℕ → List (List ℕ)
 pieces [] = [] ∷ []
 pieces (b ∷ bytes) = if b == 32 then [] ∷ pieces bytes else begun_with b (pieces bytes)
 
+-- a piece that is not empty
 abbrev pub has_bytes : List ℕ → Bool
 has_bytes [] = false
 has_bytes (b ∷ bytes) = true

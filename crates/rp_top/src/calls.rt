@@ -1,8 +1,7 @@
 ghost use Rattle.std.specs.Prelude.{◌≡◌, ◌≢◌, ℕ, ◌≤◌, ◌⊎◌, List, length, map, string_bytes, IfOk, Ok, Err, false};
-ghost use Rattle.rp_outside.specs.Devices.{Rose, IsAtEnd};
+ghost use Rattle.rp_outside.specs.Devices.{Rose, IsAtEnd, IsAll};
 ghost use Rattle.rp_report.specs.Report.{report};
 ghost use Rattle.rp_top.specs.Answers.{Answers, Writes, status_of, status_due, text_due, fault_line, is_run, usage_line, IsRefused, IsLimited};
-ghost use Rattle.rp_top.specs.Gives.{IsScript};
 ghost use Rattle.rp_base.specs.declared.Which.{Which};
 ghost use Rattle.rp_top.specs.Runs.{IsShownRun};
 ghost use Rattle.rp_top.specs.Script.{meaning};
@@ -89,7 +88,7 @@ fn put_fault<K: Sink>(alloc: Global, sink: &mut K, fault: Fault) -> Status
 
 /// Reads a script to its end, plays it, and writes its report, each with the causes of its answers.
 fn call<S: Source, K: Sink>(alloc: Global, source: &mut S, sink: &mut K) -> Status
-    ensures answers { (bytes : List ℕ) × IsScript (S.left source.old) bytes
+    ensures answers { (bytes : List ℕ) × IsAll (S.left source.old) bytes
         × Answers result (meaning bytes) (K.held sink.old) (K.held sink.new) }
     ensures end { result ≡ Status.Ok → IsAtEnd (S.left source.new) }
     ensures source { S.faults source.old ≤ S.faults source.new }
@@ -113,20 +112,20 @@ pub fn run_call<S: Source, K: Sink>(
     form: Form,
 ) -> Status
     // The status and what was written are those of the script, but for a fault or want of memory.
-    ensures answers { (bytes : List ℕ) × IsScript (S.left source.old) bytes
+    ensures answers { (bytes : List ℕ) × IsAll (S.left source.old) bytes
         × Answers result (meaning bytes) (K.held sink.old) (K.held sink.new) }
 
     // The headline holds of what is shown, and the source was read to its end.
-    ensures headline { result ≡ Status.Ok → (bytes : List ℕ) × IsScript (S.left source.old) bytes
+    ensures headline { result ≡ Status.Ok → (bytes : List ℕ) × IsAll (S.left source.old) bytes
         × IsShownRun bytes (K.held sink.old) (K.held sink.new) }
     ensures end { result ≡ Status.Ok → IsAtEnd (S.left source.new) }
 
     // Each other answer has its cause.
     ensures usage { result ≢ Status.Usage }
     ensures refused { (line word : ℕ) (kind : LineKind) → result ≡ Status.Refused line word kind
-        → (bytes : List ℕ) × IsScript (S.left source.old) bytes × (meaning bytes ≡ Err (Fault.Refused line word kind)) }
+        → (bytes : List ℕ) × IsAll (S.left source.old) bytes × (meaning bytes ≡ Err (Fault.Refused line word kind)) }
     ensures limit { (which : Which) (count : ℕ) → result ≡ Status.Limit which count
-        → (bytes : List ℕ) × IsScript (S.left source.old) bytes × (meaning bytes ≡ Err (Fault.Limit which count)) }
+        → (bytes : List ℕ) × IsAll (S.left source.old) bytes × (meaning bytes ≡ Err (Fault.Limit which count)) }
     ensures source { S.faults source.old ≤ S.faults source.new }
     ensures sink { K.faults sink.old ≤ K.faults sink.new }
     ensures read_fault { result ≡ Status.ReadFault → Rose (S.faults source.old) (S.faults source.new) }
@@ -134,7 +133,7 @@ pub fn run_call<S: Source, K: Sink>(
 
     // With no fault the answer is the script's, or want of memory.
     ensures complete { ¬ (Rose (S.faults source.old) (S.faults source.new)) → ¬ (Rose (K.faults sink.old) (K.faults sink.new))
-        → (bytes : List ℕ) × IsScript (S.left source.old) bytes
+        → (bytes : List ℕ) × IsAll (S.left source.old) bytes
         × ((result ≡ Status.NoMemory) ⊎ (result ≡ status_of (meaning bytes))) }
 {
     let Form::Text = form;
@@ -173,19 +172,19 @@ pub fn top_call<S: Source, K: Sink>(
     sink: &mut K,
 ) -> u8
     // The status and what was written are those that are due, but for a fault or want of memory.
-    ensures answers { (bytes : List ℕ) × (status : Status) × IsScript (S.left source.old) bytes × (result ≡ code_of status)
+    ensures answers { (bytes : List ℕ) × (status : Status) × IsAll (S.left source.old) bytes × (result ≡ code_of status)
         × Writes status (status_due (map string_bytes words.now) bytes) (text_due (map string_bytes words.now) bytes) (K.held sink.old) (K.held sink.new) }
 
     // The headline holds of what is shown, and the source was read to its end.
-    ensures headline { result ≡ 0 → (bytes : List ℕ) × IsScript (S.left source.old) bytes
+    ensures headline { result ≡ 0 → (bytes : List ℕ) × IsAll (S.left source.old) bytes
         × IsShownRun bytes (K.held sink.old) (K.held sink.new) }
     ensures end { result ≡ 0 → IsAtEnd (S.left source.new) }
 
     // Each other answer has its cause.
     ensures usage { result ≡ 2 → is_run (map string_bytes words.now) ≡ false }
     ensures unread { is_run (map string_bytes words.now) ≡ false → S.left source.new ≡ S.left source.old }
-    ensures refused { result ≡ 3 → (bytes : List ℕ) × IsScript (S.left source.old) bytes × IsRefused (meaning bytes) }
-    ensures limit { result ≡ 4 → (bytes : List ℕ) × IsScript (S.left source.old) bytes × IsLimited (meaning bytes) }
+    ensures refused { result ≡ 3 → (bytes : List ℕ) × IsAll (S.left source.old) bytes × IsRefused (meaning bytes) }
+    ensures limit { result ≡ 4 → (bytes : List ℕ) × IsAll (S.left source.old) bytes × IsLimited (meaning bytes) }
     ensures source { S.faults source.old ≤ S.faults source.new }
     ensures sink { K.faults sink.old ≤ K.faults sink.new }
     ensures read_fault { result ≡ 5 → Rose (S.faults source.old) (S.faults source.new) }
@@ -193,7 +192,7 @@ pub fn top_call<S: Source, K: Sink>(
 
     // With no fault the answer is the one that is due, or want of memory.
     ensures complete { ¬ (Rose (S.faults source.old) (S.faults source.new)) → ¬ (Rose (K.faults sink.old) (K.faults sink.new))
-        → (bytes : List ℕ) × IsScript (S.left source.old) bytes
+        → (bytes : List ℕ) × IsAll (S.left source.old) bytes
         × ((result ≡ 7) ⊎ (result ≡ code_of (status_due (map string_bytes words.now) bytes))) }
 {
     if !is_run(words) {

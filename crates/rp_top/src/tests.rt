@@ -142,6 +142,21 @@ fn a_comment_of_257_bytes(rt: HostRuntime) -> Result<(), Fail> {
 }
 
 #[test]
+fn a_byte_behind_the_last_line(rt: HostRuntime) -> Result<(), Fail> {
+    let script = vec![in rt.alloc(); b'\n'; 65537]?;
+    assert!(rt;
+        gives(
+            rt.alloc(),
+            &["run"],
+            &script,
+            4,
+            b"limit lines 65537\n".as_slice()
+        )?
+    );
+    Ok(())
+}
+
+#[test]
 fn other_words(rt: HostRuntime) -> Result<(), Fail> {
     assert!(rt; gives(rt.alloc(), &[], ONE_PUT, 2, USAGE)?);
     assert!(rt; gives(rt.alloc(), &["run", "run"], ONE_PUT, 2, USAGE)?);
