@@ -1,0 +1,3 @@
+pub mod Does
+pub mod ReadParts
+pub mod Inside
