@@ -1,5 +1,5 @@
 -- The words of each form of line, behind the first one.
-use Rattle.std.specs.Prelude.{ℕ, ◌^◌, ◌-◌, List, Result, Ok, Err}
+use Rattle.std.specs.Prelude.{ℕ, ◌^◌, ◌-◌, List, Ok}
 use Rattle.rp_script.specs.Readers.{Reader, bad, ◌>>=◌, whole, number_at, value_at, key_at, seq_at, sent}
 use Rattle.rp_script.specs.Requests.{request}
 use Rattle.rp_script.specs.declared.faults.LineKind.TheVariants as kinds

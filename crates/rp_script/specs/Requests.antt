@@ -1,9 +1,9 @@
 -- The words of a request, from word 5 of a line on.
-use Rattle.std.specs.Prelude.{ℕ, List, [], ◌∷◌, Result, Ok, Err}
+use Rattle.std.specs.Prelude.{[], ◌∷◌}
 use Rattle.rp_request.specs.declared.Request.{Request}
 use Rattle.rp_request.specs.declared.Request.TheVariants as forms
 use Rattle.rp_script.specs.Keywords.{request_word_of}
-use Rattle.rp_script.specs.Readers.{Reader, bad, ◌>>=◌, whole, number_at, value_at, key_at, expect_at, span_at}
+use Rattle.rp_script.specs.Readers.{Reader, bad, ◌>>=◌, whole, value_at, key_at, expect_at, span_at}
 use Rattle.rp_script.specs.declared.faults.LineKind.TheVariants as kinds
 use Rattle.rp_script.specs.declared.keywords.RequestWord.{RequestWord}
 use Rattle.rp_script.specs.declared.keywords.RequestWord.TheVariants as words

@@ -1,10 +1,10 @@
 -- What is known of a script between two lines, and what a line says then.
-use Rattle.std.specs.Prelude.{ℕ, ◌+◌, ◌-◌, ◌&&◌, ◌||◌, ◌==◌, not, nat_lt, nat_le, Bool, true, false, List, [], ◌∷◌, length, replicate, Option, Some, None, Result, Ok, Err, slice_index, slice_set, codes, if◌then◌else◌}
+use Rattle.std.specs.Prelude.{ℕ, ◌+◌, ◌-◌, ◌&&◌, ◌==◌, not, nat_lt, nat_le, Bool, true, false, List, [], ◌∷◌, length, replicate, Option, Some, None, Result, Ok, Err, slice_index, slice_set, codes, if◌then◌else◌}
 use Rattle.std.specs.List.{list_any, position_from}
 use Rattle.std.specs.Str.{bytes_eq}
 use Rattle.rp_script.specs.Words.{words_of}
 use Rattle.rp_script.specs.Keywords.{keyword_of, is_barred_in_race}
-use Rattle.rp_script.specs.Readers.{bad, bad_word}
+use Rattle.rp_script.specs.Readers.{bad}
 use Rattle.rp_script.specs.Forms.{cluster, form}
 use Rattle.rp_script.specs.declared.faults.BadWord.{BadWord}
 use Rattle.rp_script.specs.declared.faults.LineFault.{LineFault}
