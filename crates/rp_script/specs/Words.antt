@@ -1,0 +1,20 @@
+-- The words of a line.
+use Rattle.std.specs.Prelude.{ℕ, ◌==◌, Bool, true, false, List, [], ◌∷◌, filter, if◌then◌else◌}
+
+-- a byte is put in front of the first of these texts, or makes one of its own
+abbrev pub begun_with : ℕ → List (List ℕ) → List (List ℕ)
+begun_with b [] = (b ∷ []) ∷ []
+begun_with b (text ∷ texts) = (b ∷ text) ∷ texts
+
+-- the pieces of a line between its spaces
+abbrev pub pieces : List ℕ → List (List ℕ)
+pieces [] = [] ∷ []
+pieces (b ∷ bytes) = if b == 32 then [] ∷ pieces bytes else begun_with b (pieces bytes)
+
+abbrev pub has_bytes : List ℕ → Bool
+has_bytes [] = false
+has_bytes (b ∷ bytes) = true
+
+-- the words of a line: its longest runs of bytes other than the space
+abbrev pub words_of : List ℕ → List (List ℕ)
+words_of line = filter has_bytes (pieces line)
