@@ -1,5 +1,6 @@
 ghost use Rattle.std.specs.Prelude.{◌≡◌};
-ghost use Rattle.rp_eval.specs.Bounds.{all_within, in_bounds};
+ghost use Rattle.rp_request.specs.Covers.{in_bounds};
+ghost use Rattle.rp_eval.specs.Bounds.{all_within};
 
 use rp_base::{Desc, Spans};
 use rp_request::Request;
