@@ -4,7 +4,7 @@ use crate::folds::{PlainState, first_split, first_state, fold, places_of};
 use crate::tables::PlainTable;
 use rp_base::{CmdId, Desc, Key, KeySpan, LeaseSeq, RangeId, Span};
 use rp_range::{first_desc, split_at};
-use rp_request::{Place, Refusal, Reply, Request};
+use rp_request::{Batch, Op, Place, Refusal, Reply, Request};
 use std::alloc::Global;
 use std::process::Abort;
 use std::test::Fail;
@@ -373,5 +373,32 @@ fn the_right_range(rt: HostRuntime) -> Result<(), Fail> {
     )?;
     has_rows(&rt, &table, &[("z", 9)])?;
     assert_eq!(rt; (desc.id, desc.start), (one, key("m")?.bound()));
+    Ok(())
+}
+
+#[test]
+fn batches_and_spans(rt: HostRuntime) -> Result<(), Fail> {
+    let (a, b) = (key("a")?, key("b")?);
+    let set = Op::Set { key: a, value: 1 };
+    let remove = Op::Remove { key: b };
+    let mut batch = Batch::new(rt.alloc());
+    batch.push(set)?;
+    batch.push(remove)?;
+    assert_eq!(rt; batch.copy()?.as_slice(), [set, remove].as_slice());
+    let (from, to) = (Span::one(b), Span::one(a));
+    let moved = Request::Move {
+        from: b,
+        to: a,
+        by: 1,
+    }
+    .spans();
+    assert_eq!(rt; (moved.first, moved.second), (from, Some(to)));
+    let same = Request::Move {
+        from: a,
+        to: a,
+        by: 1,
+    }
+    .spans();
+    assert_eq!(rt; (same.first, same.second), (to, None));
     Ok(())
 }
