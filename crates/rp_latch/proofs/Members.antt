@@ -1,5 +1,5 @@
 -- The latches of holds, first and second spans apart, say whether a hold stands in the way.
-use Rattle.std.proofs.Common.{◌≡◌, ℕ, Bool, true, false, cond, ◌||◌, ◌&&◌, List, [], ◌∷◌, ◌++◌, Option, None, Some, is_some, refl, sym, ap, ◌∙◌}
+use Rattle.std.proofs.Common.{◌≡◌, Bool, true, false, cond, ◌||◌, ◌&&◌, List, [], ◌∷◌, ◌++◌, Option, None, Some, is_some, refl, sym, ap, ◌∙◌}
 use Rattle.std.proofs.lemmas.List.Folds.{list_any-append}
 use Rattle.std.specs.List.{list_any, find, filter}
 use Rattle.rp_base.specs.Spans.{meets, span_list}
@@ -7,7 +7,6 @@ use Rattle.rp_base.specs.declared.ids.CmdId.{CmdId}
 use Rattle.rp_base.specs.declared.spans.Span.{Span}
 use Rattle.rp_base.specs.declared.spans.Spans.{Spans}
 use Rattle.rp_latch.specs.declared.holds.Hold.{Hold}
-use Rattle.rp_latch.specs.declared.holds.Held.{Held}
 use Rattle.rp_latch.specs.declared.index.Latch.{Latch}
 use Rattle.rp_latch.specs.Holds.{meets_one, any_meet, met_in, conflict, is_of_other, is_latch_of_other, latch_meets, some_meet, first_of, second_of, latches_of, SameLatches, held_meets, latch_passes, second_met, IsClear}
 

@@ -1,5 +1,5 @@
 -- What latches hold, and which held span stands in the way of spans that are asked.
-use Rattle.std.specs.Prelude.{false, ◌≤◌, ℕ, ◌≡◌, Bool, ◌&&◌, ◌==◌, not, List, [], ◌∷◌, Option, None, Some, Result, Ok, Err, IsFalse}
+use Rattle.std.specs.Prelude.{false, ◌≤◌, ◌≡◌, Bool, ◌&&◌, ◌==◌, not, List, [], ◌∷◌, Option, None, Some, Result, Ok, Err, IsFalse}
 use Rattle.std.specs.List.{AllPairs, list_any, find}
 use Rattle.rp_base.specs.Spans.{meets, span_list}
 use Rattle.rp_base.specs.declared.ids.CmdId.{CmdId}

@@ -1,4 +1,4 @@
-use Rattle.std.proofs.Common.{◌≡◌, ◌-◌, ◌<◌, nat_lt, get_or, ap, ◌∙◌, subst, arith}
+use Rattle.std.proofs.Common.{◌-◌, nat_lt, get_or, ap, ◌∙◌, subst, arith}
 use Rattle.rp_latch.specs.Holds.{InOrder}
 use Rattle.rp_latch.specs.declared.index.Latch.{Latch}
 use Rattle.rp_latch.proofs.Places.{meet_none, meet_last}

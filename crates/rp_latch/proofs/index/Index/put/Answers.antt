@@ -1,4 +1,4 @@
-use Rattle.std.proofs.Common.{◌≡◌, ap, ◌∙◌, subst, sym, rules, refl}
+use Rattle.std.proofs.Common.{◌≡◌, ap, ◌∙◌, subst, sym, refl}
 use Rattle.std.specs.List.{insert, list_any}
 use Rattle.rp_latch.specs.Holds.{InOrder}
 use Rattle.rp_latch.proofs.Places.{put_in_order, any_insert}

@@ -1,6 +1,5 @@
-use Rattle.std.proofs.Common.{◌≡◌, List, [], ◌∷◌, ◌++◌, None, ap, ◌∙◌, rules, subst, sym}
+use Rattle.std.proofs.Common.{◌≡◌, List, [], ◌∷◌, ◌++◌, None, rules, subst, sym}
 use Rattle.rp_latch.specs.declared.holds.Hold.{Hold}
-use Rattle.rp_latch.specs.declared.index.Latch.{Latch}
 use Rattle.rp_latch.specs.Holds.{conflict, AllApart, SameLatches, latches_of, first_of, second_of}
 use Rattle.rp_latch.proofs.Conflicts.{one_more}
 use Rattle.rp_latch.proofs.Members.{same_more, first_clear, second_clear}

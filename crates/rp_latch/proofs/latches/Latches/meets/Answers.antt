@@ -1,4 +1,4 @@
-use Rattle.std.proofs.Common.{◌≡◌, ◌||◌, ap, ◌∙◌}
+use Rattle.std.proofs.Common.{◌||◌, ap, ◌∙◌}
 use Rattle.std.specs.List.{list_any}
 use Rattle.rp_latch.specs.Holds.{some_meet, held_meets}
 use Rattle.rp_latch.proofs.Members.{both_say, when_true, when_false}

@@ -1,4 +1,4 @@
-use Rattle.std.proofs.Common.{◌≡◌, ◌||◌, ap, ◌∙◌}
+use Rattle.std.proofs.Common.{◌||◌, ap, ◌∙◌}
 use Rattle.std.specs.List.{list_any}
 use Rattle.rp_latch.specs.Holds.{held_meets}
 use Rattle.rp_latch.proofs.Members.{says_none, says_some, when_true, when_false}
