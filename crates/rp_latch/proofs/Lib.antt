@@ -1,2 +1,4 @@
 pub mod Conflicts
 pub mod Apart
+pub mod Places
+pub mod Members

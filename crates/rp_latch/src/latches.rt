@@ -1,31 +1,40 @@
-ghost use Rattle.std.specs.Prelude.{◌≡◌, ◌≢◌, ◌≤◌, ◌+◌, [], ◌∷◌, ◌++◌, ℕ, Some, slice_get, IsFalse, OnOk, OnErr};
-ghost use Rattle.std.specs.List.{filter};
+ghost use Rattle.std.specs.Prelude.{◌≡◌, ◌≢◌, ◌≤◌, ◌+◌, [], ◌∷◌, ◌++◌, ◌||◌, Bool, is_some, ℕ, Some, slice_get, IsFalse, OnOk, OnErr};
+ghost use Rattle.std.specs.List.{filter, list_any};
 ghost use Rattle.rp_latch.specs.declared.holds.Hold.{Hold};
-ghost use Rattle.rp_latch.specs.Holds.{any_meet, answer, is_of_other};
+ghost use Rattle.rp_latch.specs.declared.index.Latch.{Latch};
+ghost use Rattle.rp_latch.specs.Holds.{any_meet, answer, conflict, is_of_other, held_meets, latch_passes, IsClear};
 
 use crate::holds::{Held, Hold, conflict};
-use rp_base::{CmdId, NoMemory, Spans};
+use crate::index::{Index, Latch};
+use rp_base::{CmdId, NoMemory, Span, Spans};
 use std::alloc::Global;
 use std::marker::Model;
 
 /// The latches of a replica. Contracts see the holds, the oldest first, and apart from them the
-/// spare room: how many holds can be added without memory. No two holds meet.
+/// spare room: how many holds can be added without memory. No two holds meet, so the first spans of
+/// all holds stand in order, and so do the second ones.
 #[derive(Drop)]
 pub struct Latches {
     holds: Vec<Hold>,
+    firsts: Index,
+    seconds: Index,
 }
 
 impl Model for Latches {
-    ghost use Rattle.std.specs.Prelude.{◌-◌, vec_len, vec_capacity};
+    ghost use Rattle.std.specs.Prelude.{◌-◌, min, vec_len, vec_capacity};
     ghost use Rattle.rp_base.specs.Kept.{Kept};
     ghost use Rattle.rp_latch.specs.declared.holds.Hold.{Hold};
-    ghost use Rattle.rp_latch.specs.Holds.{AllApart};
+    ghost use Rattle.rp_latch.specs.Holds.{AllApart, SameLatches, latches_of, first_of, second_of};
 
     ghost Value = { Kept Hold };
 
-    ghost view = { λ l. record { list = l.holds.items; spare = vec_capacity l.holds - vec_len l.holds } };
+    ghost view = { λ l. record { list = l.holds.items; spare = min (vec_capacity l.holds - vec_len l.holds) (min l.firsts.spare l.seconds.spare) } };
 
-    ghost invariant = { λ l. AllApart l.holds.items };
+    ghost invariant = { λ l. record {
+      apart : AllApart l.holds.items;
+      firsts : SameLatches l.firsts.list (latches_of first_of l.holds.items);
+      seconds : SameLatches l.seconds.list (latches_of second_of l.holds.items);
+    } };
 }
 
 /// Whether the hold is another attempt's.
@@ -35,6 +44,18 @@ fn is_of_other(id: CmdId, hold: &Hold) -> bool
     hold.id != id
 }
 
+/// Puts the latch of a second span in, where there is one.
+fn put_second(index: &mut Index, id: CmdId, second: Option<Span>)
+    requires room { 1 ≤ index.old.spare }
+    requires clear { IsClear index.old.list second }
+    ensures list { (p : Latch → Bool) → list_any p index.new.list ≡ (latch_passes p id second || list_any p index.old.list) }
+    ensures spare { index.old.spare ≤ index.new.spare + 1 }
+{
+    if let Some(span) = second {
+        index.put(Latch { span, id });
+    }
+}
+
 impl Latches {
     /// Nothing is held. It takes no memory.
     pub fn new(alloc: Global) -> Latches
@@ -42,6 +63,8 @@ impl Latches {
     {
         Latches {
             holds: Vec::new(alloc),
+            firsts: Index::new(alloc),
+            seconds: Index::new(alloc),
         }
     }
 
@@ -51,8 +74,43 @@ impl Latches {
         ensures room { OnOk result (n ≤ self.new.spare) }
         ensures kept { self.old.spare ≤ self.new.spare }
     {
+        self.firsts.make_room(n)?;
+        self.seconds.make_room(n)?;
         self.holds.reserve(n)?;
         Ok(())
+    }
+
+    /// Whether a hold meets the span, by binary search.
+    fn meets(&self, span: Span) -> bool
+        ensures { result ≡ list_any (held_meets span) self.now.list }
+    {
+        let first = self.firsts.meets(span);
+        let second = self.seconds.meets(span);
+        first || second
+    }
+
+    /// Whether a hold meets one of the spans asked.
+    fn meets_one(&self, asked: Spans) -> bool
+        ensures { result ≡ is_some (conflict self.now.list asked) }
+    {
+        let first = self.meets(asked.first);
+        match asked.second {
+            None => first,
+            Some(span) => {
+                let second = self.meets(span);
+                first || second
+            }
+        }
+    }
+
+    /// The oldest hold that meets the spans asked. The holds are gone through only where one does.
+    fn conflict(&self, asked: Spans) -> Option<Held>
+        ensures { result ≡ conflict self.now.list asked }
+    {
+        if !self.meets_one(asked) {
+            return None;
+        }
+        conflict(&self.holds, asked)
     }
 
     /// Holds the spans for the attempt, without memory. `Held` exactly where a held span meets one of
@@ -65,9 +123,12 @@ impl Latches {
         ensures spare { self.old.spare ≤ self.new.spare + 1 }
         ensures refused { OnErr result (self.old.spare ≤ self.new.spare) }
     {
-        match conflict(&self.holds, spans) {
+        match self.conflict(spans) {
             Some(held) => Err(held),
             None => {
+                let span = spans.first;
+                self.firsts.put(Latch { span, id });
+                put_second(&mut self.seconds, id, spans.second);
                 self.holds.push_reserved(Hold { id, spans });
                 Ok(())
             }
@@ -79,6 +140,8 @@ impl Latches {
         ensures list { self.new.list ≡ filter (is_of_other id) self.old.list }
         ensures spare { self.old.spare ≤ self.new.spare }
     {
+        self.firsts.remove(id);
+        self.seconds.remove(id);
         self.holds.retain(|hold| is_of_other(id, hold));
     }
 
@@ -97,7 +160,7 @@ impl Latches {
 #[cfg(test)]
 mod tests {
     use super::*;
-    use rp_base::{Key, Span};
+    use rp_base::Key;
     use std::test::Fail;
 
     fn attempt(client: u16) -> CmdId {
@@ -148,6 +211,26 @@ mod tests {
         };
         assert_eq!(rt; latches.hold(attempt(3), whole), Err(by_b));
         assert_eq!(rt; latches.hold(attempt(3), a), Ok(()));
+        Ok(())
+    }
+
+    #[test]
+    fn many_holds(rt: HostRuntime) -> Result<(), Fail> {
+        let mut latches = Latches::new(rt.alloc());
+        for n in 0..65000u32 {
+            let start = u128::from(n);
+            let spans = Spans {
+                first: Span::new(start, start + 1).ok_or("a span")?,
+                second: None,
+            };
+            let id = CmdId {
+                client: 1,
+                seq: n,
+                attempt: 1,
+            };
+            latches.make_room(1)?;
+            assert_eq!(rt; latches.hold(id, spans), Ok(()));
+        }
         Ok(())
     }
 }

@@ -2,6 +2,7 @@
 #![tactic(auto)]
 
 mod holds;
+mod index;
 mod latches;
 
 pub use holds::{Held, Hold};
