@@ -147,7 +147,7 @@ settle = do
 abbrev pub ending : Reader ScriptLine
 ending = whole 2 lines.End
 
--- what a line of a client says that begins so, and all others
+-- the words behind the first one of a line, given the number of nodes and how many commands each client has
 unfoldable pub form : Keyword → ℕ → List ℕ → Reader ScriptLine
 form keywords.Cluster nodes commands = cluster
 form keywords.Send nodes commands = send nodes

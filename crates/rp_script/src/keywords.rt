@@ -38,7 +38,7 @@ pub enum RequestWord {
     Unknown,
 }
 
-/// The words that begin a line of a client, of the lease or of the whole script.
+/// What the first word of a line says.
 #[tactic(auto, unfolding(crate::specs::Keywords::keyword_of))]
 pub fn keyword_of(word: &[u8]) -> Keyword
     ensures { result ≡ keyword_of word.now }
@@ -66,7 +66,7 @@ pub fn keyword_of(word: &[u8]) -> Keyword
     }
 }
 
-/// The words that begin a line of a node or of the network.
+/// The same for the lines of a replica or of the network.
 #[tactic(auto, unfolding(crate::specs::Keywords::world_keyword_of))]
 fn world_keyword_of(word: &[u8]) -> Keyword
     ensures { result ≡ world_keyword_of word.now }
