@@ -6,5 +6,7 @@ mod commands;
 mod cursors;
 mod faults;
 mod fields;
+mod reading;
+mod writing;
 
 pub use faults::DecodeFault;
