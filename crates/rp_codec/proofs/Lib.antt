@@ -1,2 +1,4 @@
 pub mod Spans
 pub mod Writes
+pub mod Readers
+pub mod FieldLaws
