@@ -2,3 +2,4 @@ pub mod Spans
 pub mod Writes
 pub mod Readers
 pub mod FieldLaws
+pub mod PayloadLaws
