@@ -3,3 +3,4 @@ pub mod Writes
 pub mod Readers
 pub mod FieldLaws
 pub mod PayloadLaws
+pub mod SpellingLaws

@@ -317,3 +317,108 @@ command_again c fits =
     again_then id_at behind_id (id_bytes c.id) (to_be_bytes w64 c.seq ++ (to_be_bytes w64 c.max ++ (request_bytes c.request ++ (reply_bytes c.reply ++ batch_bytes c.batch)))) c.id c (id_again c.id fits.id) e in
     let P : List ℕ → Type 0 = λ text. Again command_at text c in
     subst P (regroup (id_bytes c.id) (to_be_bytes w64 c.seq) (to_be_bytes w64 c.max) (request_bytes c.request) (reply_bytes c.reply) (batch_bytes c.batch)) f
+
+abbrev SaysId : CmdId → List ℕ → Type 0
+SaysId i text = (text ≡ id_bytes i) × FitsId i
+
+abbrev SaysNumber : ℕ → List ℕ → Type 0
+SaysNumber n text = (text ≡ to_be_bytes w64 n) × (n < 2 ^ 64)
+
+abbrev SaysRequestWhole : Request → List ℕ → Type 0
+SaysRequestWhole r text = (text ≡ request_bytes r) × FitsRequest r
+
+abbrev SaysReplyWhole : Reply → List ℕ → Type 0
+SaysReplyWhole r text = (text ≡ reply_bytes r) × FitsReply r
+
+abbrev SaysBatch : List Op → List ℕ → Type 0
+SaysBatch writes text = (text ≡ batch_bytes writes) × FitsBatch writes
+
+-- what is known of a command and its bytes once the fields up to one are
+abbrev AfterReply : CmdId → ℕ → ℕ → Request → Reply → Command → List ℕ → Type 0
+AfterReply id seq max request reply = Made (made id seq max request reply) SaysBatch
+
+abbrev AfterRequest : CmdId → ℕ → ℕ → Request → Command → List ℕ → Type 0
+AfterRequest id seq max request = Then SaysReplyWhole (AfterReply id seq max request)
+
+abbrev AfterMax : CmdId → ℕ → ℕ → Command → List ℕ → Type 0
+AfterMax id seq max = Then SaysRequestWhole (AfterRequest id seq max)
+
+abbrev AfterSeq : CmdId → ℕ → Command → List ℕ → Type 0
+AfterSeq id seq = Then SaysNumber (AfterMax id seq)
+
+abbrev AfterId : CmdId → Command → List ℕ → Type 0
+AfterId id = Then SaysNumber (AfterSeq id)
+
+command_parts : Takes command_at (Then SaysId AfterId)
+unfolding command_at
+command_parts =
+    takes_then id_at behind_id SaysId AfterId id_takes (λ id text is.
+    takes_then (number_at w64) (behind_seq id) SaysNumber (AfterSeq id) n64_takes (λ seq text is.
+    takes_then (number_at w64) (behind_max id seq) SaysNumber (AfterMax id seq) n64_takes (λ max text is.
+    takes_then request_at (behind_request id seq max) SaysRequestWhole (AfterRequest id seq max) request_takes (λ request text is.
+    takes_then reply_at (behind_reply id seq max request) SaysReplyWhole (AfterReply id seq max request) reply_takes (λ reply text is.
+    takes_last batch_at (made id seq max request reply) SaysBatch batch_takes)))))
+
+command_says : (c : Command) (text : List ℕ) → Then SaysId AfterId c text → (text ≡ command_bytes c) × FitsCommand c
+unfolding command_bytes
+command_says c text t =
+    let s = t.second in
+    let m = s.second in
+    let r = m.second in
+    let p = r.second in
+    let b = p.second in
+    let line : text ≡ id_bytes t.value ++ (to_be_bytes w64 s.value ++ (to_be_bytes w64 m.value ++ (request_bytes r.value ++ (reply_bytes p.value ++ batch_bytes b.value)))) =
+    rw (t.joined, s.joined, m.joined, r.joined, p.joined, t.first.0, s.first.0, m.first.0, r.first.0, p.first.0, b.of.0) refl in
+    let P : Command → Type 0 = λ c. (text ≡ command_bytes c) × FitsCommand c in
+    subst P (sym b.is)
+    (line ∙ regroup (id_bytes t.value) (to_be_bytes w64 s.value) (to_be_bytes w64 m.value) (request_bytes r.value) (reply_bytes p.value) (batch_bytes b.value),
+    record { id = t.first.1; seq = s.first.1; max = m.first.1; request = r.first.1; reply = p.first.1; batch = b.of.1 })
+
+pub command_takes : Takes command_at (λ c text. (text ≡ command_bytes c) × FitsCommand c)
+command_takes = takes_so command_at (Then SaysId AfterId) _ command_parts command_says
+
+-- ---- payloads
+
+pub payload_again : (p : Payload) → FitsPayload p → Again payload_at (spelling p) p
+unfolding payload_at payload_of spelling
+payload_again payloads.Nothing fits =
+    tagged 1 1 1 (λ version. byte_in 0 2 >>= payload_of) (0 ∷ []) payloads.Nothing (omega arith) (omega arith)
+    (tagged 0 2 0 payload_of [] payloads.Nothing (omega arith) (omega arith) (again_given payloads.Nothing))
+payload_again (payloads.Write c) fits =
+    tagged 1 1 1 (λ version. byte_in 0 2 >>= payload_of) (1 ∷ command_bytes c) (payloads.Write c) (omega arith) (omega arith)
+    (tagged 0 2 1 payload_of (command_bytes c) (payloads.Write c) (omega arith) (omega arith) (again_last command_at payloads.Write (command_bytes c) c (command_again c fits)))
+payload_again (payloads.Lease a) fits =
+    tagged 1 1 1 (λ version. byte_in 0 2 >>= payload_of) (2 ∷ ask_bytes a) (payloads.Lease a) (omega arith) (omega arith)
+    (tagged 0 2 2 payload_of (ask_bytes a) (payloads.Lease a) (omega arith) (omega arith) (again_last ask_at payloads.Lease (ask_bytes a) a (ask_again a fits)))
+
+-- behind the version
+abbrev SaysPayload : ℕ → Payload → List ℕ → Type 0
+SaysPayload tag p text = (1 ∷ tag ∷ text ≡ spelling p) × FitsPayload p
+
+nothing_takes : Takes (given payloads.Nothing) (SaysPayload 0)
+unfolding spelling
+nothing_takes = takes_so _ _ _ (takes_given payloads.Nothing) (λ p text m. (rw (m.0, m.1) refl, rw m.0 tt))
+
+write_takes : Takes (command_at >>= λ c. given (payloads.Write c)) (SaysPayload 1)
+unfolding spelling
+write_takes = takes_so _ _ _ (takes_last command_at payloads.Write _ command_takes) (λ p text m. (rw (m.is, m.of.0) refl, rw m.is m.of.1))
+
+lease_takes : Takes (ask_at >>= λ a. given (payloads.Lease a)) (SaysPayload 2)
+unfolding spelling
+lease_takes = takes_so _ _ _ (takes_last ask_at payloads.Lease _ ask_takes) (λ p text m. (rw (m.is, m.of.0) refl, rw m.is m.of.1))
+
+payload_of_takes : (tag : ℕ) → tag ≤ 2 → Takes (payload_of tag) (SaysPayload tag)
+unfolding payload_of
+payload_of_takes tag to =
+    takes_if (tag == 0) _ _ _ (for_tag tag 0 _ SaysPayload nothing_takes) (λ n0.
+    takes_if (tag == 1) _ _ _ (for_tag tag 1 _ SaysPayload write_takes) (λ n1.
+    for_tag tag 2 _ SaysPayload lease_takes (grind (arith, nat_tests))))
+
+pub payload_takes : Takes payload_at (λ p text. (text ≡ spelling p) × FitsPayload p)
+unfolding payload_at
+payload_takes = takes_so _ _ _
+    (takes_then (byte_in 1 1) (λ version. byte_in 0 2 >>= payload_of) _ (λ version p text. (1 ∷ text ≡ spelling p) × FitsPayload p) (byte_in_takes 1 1)
+    (λ version text is. takes_so _ _ _ (takes_then (byte_in 0 2) payload_of _ SaysPayload (byte_in_takes 0 2) (λ tag text is. payload_of_takes tag is.2))
+    (λ p text t. (ap (λ (bytes : List ℕ). 1 ∷ bytes) t.joined ∙ rw t.first.0 t.second.0, t.second.1))))
+    (λ p text t. let one : t.value ≡ 1 = let from : 1 ≤ t.value = t.first.1 in let to : t.value ≤ 1 = t.first.2 in omega arith in
+    (t.joined ∙ rw (t.first.0, one) t.second.0, t.second.1))

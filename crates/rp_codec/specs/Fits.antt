@@ -1,5 +1,5 @@
 -- What payloads hold: numbers of their widths, keys, nodes 1 to 5, ranges 0 to 7, at most 16 writes.
-use Rattle.std.specs.Prelude.{ℕ, ◌^◌, ◌<◌, ◌≤◌, List, length, Option, None, Some}
+use Rattle.std.specs.Prelude.{ℕ, ◌^◌, ◌<◌, ◌≤◌, List, length, slice_index, Option, None, Some}
 use Rattle.std.specs.List.{AllByRecursion}
 use Rattle.rp_base.specs.Keys.{IsKey}
 use Rattle.rp_base.specs.declared.CmdId.{CmdId}
@@ -14,6 +14,10 @@ use Rattle.rp_request.specs.declared.Reply.{Reply}
 use Rattle.rp_request.specs.declared.Reply.TheVariants as replies
 use Rattle.rp_request.specs.declared.Request.{Request}
 use Rattle.rp_request.specs.declared.Request.TheVariants as requests
+
+-- each is a byte
+abbrev pub AreBytes : List ℕ → Type 0
+AreBytes bytes = (i : ℕ) → slice_index bytes i < 256
 
 -- a value: a number of 8 bytes
 abbrev pub FitsValue : ℕ → Type 0

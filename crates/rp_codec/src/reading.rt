@@ -1,5 +1,8 @@
-ghost use Rattle.std.specs.Prelude.{◌≡◌, ◌≤◌};
+ghost use Rattle.std.specs.Prelude.{◌≡◌, ◌≤◌, IfOk, Ok};
+ghost use Rattle.rp_request.specs.declared.Payload.{Payload};
+ghost use Rattle.rp_codec.specs.Fits.{FitsPayload};
 ghost use Rattle.rp_codec.specs.Reading.{Decodes, Gives, ops_at, batch_at, command_at, payload_of, payload_at, payload_in};
+ghost use Rattle.rp_codec.specs.Spelling.{spelling};
 
 use crate::commands::{ask, id, op, reply, request};
 use crate::cursors::Cursor;
@@ -71,7 +74,7 @@ fn payload(alloc: Global, cursor: &mut Cursor) -> Result<Payload, DecodeFault>
 }
 
 #[tactic(auto, unfolding(crate::specs::Reading::payload_in))]
-fn payload_in(alloc: Global, bytes: &[u8]) -> Result<Payload, DecodeFault>
+fn all_of(alloc: Global, bytes: &[u8]) -> Result<Payload, DecodeFault>
     ensures { Gives result (payload_in bytes.now) }
 {
     let mut cursor = Cursor::new(bytes);
@@ -80,4 +83,17 @@ fn payload_in(alloc: Global, bytes: &[u8]) -> Result<Payload, DecodeFault>
         return Err(DecodeFault::from(cursor.bad()));
     }
     Ok(payload)
+}
+
+/// The payload whose spelling the bytes are, all of them. Else `Bad`, with the place at which the
+/// first field begins that is cut short or outside its form; for a payload with bytes behind it,
+/// that place is the payload's length.
+pub fn decode(alloc: Global, bytes: &[u8]) -> Result<Payload, DecodeFault>
+    ensures read { Gives result (payload_in bytes.now) }
+    // What is read is so spelled.
+    ensures spelled { IfOk result (λ p. (bytes.now ≡ spelling p) × FitsPayload p) }
+    // What is so spelled is read.
+    ensures only { (p : Payload) → FitsPayload p → bytes.now ≡ spelling p → Gives result (Ok p) }
+{
+    all_of(alloc, bytes)
 }

@@ -1,7 +1,9 @@
 ghost use Rattle.std.specs.Prelude.{◌≡◌, ◌<◌, ◌^◌, ◌≤◌, ◌∷◌, ◌++◌, [], length, IfOk, OnOk};
-ghost use Rattle.std.specs.List.{flat_map};
+ghost use Rattle.std.specs.List.{flat_map, AllByRecursion};
 ghost use Rattle.std.specs.Int.{w64, to_be_bytes};
 ghost use Rattle.rp_base.specs.Keys.{IsKey};
+ghost use Rattle.rp_codec.specs.Fits.{FitsValue, FitsOption, FitsEnd, FitsSpan, FitsRequest, FitsReply, FitsOp, FitsBatch, FitsId, FitsCommand, FitsAsk, FitsPayload};
+ghost use Rattle.rp_codec.specs.Reading.{payload_in};
 ghost use Rattle.rp_codec.specs.Spelling.{value_bytes, key_bytes, option_bytes, end_bytes, span_bytes, request_bytes, reply_bytes, op_bytes, batch_bytes, id_bytes, command_bytes, ask_bytes, spelling};
 
 use rp_base::{Bytes, CmdId, Key, KeySpan, LeaseAsk, NoMemory, RangeId};
@@ -9,7 +11,8 @@ use rp_request::{Batch, Command, Op, Payload, Reply, Request};
 use std::alloc::Global;
 
 fn push_number(out: &mut Vec<u8>, number: u64) -> Result<(), NoMemory>
-    ensures { OnOk result (out.new.items ≡ out.old.items ++ to_be_bytes w64 number) }
+    ensures bytes { OnOk result (out.new.items ≡ out.old.items ++ to_be_bytes w64 number) }
+    ensures fits { OnOk result (number < 2 ^ 64) }
 {
     out.extend_from_slice(&number.to_be_bytes())?;
     Ok(())
@@ -17,7 +20,8 @@ fn push_number(out: &mut Vec<u8>, number: u64) -> Result<(), NoMemory>
 
 #[tactic(auto, unfolding(crate::specs::Spelling::value_bytes))]
 fn push_value(out: &mut Vec<u8>, value: u64) -> Result<(), NoMemory>
-    ensures { OnOk result (out.new.items ≡ out.old.items ++ value_bytes value) }
+    ensures bytes { OnOk result (out.new.items ≡ out.old.items ++ value_bytes value) }
+    ensures fits { OnOk result (FitsValue value) }
 {
     push_number(out, value)
 }
@@ -25,7 +29,7 @@ fn push_value(out: &mut Vec<u8>, value: u64) -> Result<(), NoMemory>
 #[tactic(auto, unfolding(crate::specs::Spelling::key_bytes))]
 fn push_key(out: &mut Vec<u8>, key: Key) -> Result<(), NoMemory>
     ensures bytes { OnOk result (out.new.items ≡ out.old.items ++ key_bytes key) }
-    ensures key { IsKey key }
+    ensures fits { OnOk result (IsKey key) }
 {
     let len = key.text_len();
     let bytes = key.to_bytes();
@@ -36,7 +40,8 @@ fn push_key(out: &mut Vec<u8>, key: Key) -> Result<(), NoMemory>
 
 #[tactic(auto, unfolding(crate::specs::Spelling::option_bytes))]
 fn push_option(out: &mut Vec<u8>, option: Option<u64>) -> Result<(), NoMemory>
-    ensures { OnOk result (out.new.items ≡ out.old.items ++ option_bytes option) }
+    ensures bytes { OnOk result (out.new.items ≡ out.old.items ++ option_bytes option) }
+    ensures fits { OnOk result (FitsOption option) }
 {
     match option {
         None => out.push(0)?,
@@ -50,7 +55,8 @@ fn push_option(out: &mut Vec<u8>, option: Option<u64>) -> Result<(), NoMemory>
 
 #[tactic(auto, unfolding(crate::specs::Spelling::id_bytes))]
 fn push_id(out: &mut Vec<u8>, id: CmdId) -> Result<(), NoMemory>
-    ensures { OnOk result (out.new.items ≡ out.old.items ++ id_bytes id) }
+    ensures bytes { OnOk result (out.new.items ≡ out.old.items ++ id_bytes id) }
+    ensures fits { OnOk result (FitsId id) }
 {
     out.extend_from_slice(&id.client.to_be_bytes())?;
     out.extend_from_slice(&id.seq.to_be_bytes())?;
@@ -60,7 +66,8 @@ fn push_id(out: &mut Vec<u8>, id: CmdId) -> Result<(), NoMemory>
 
 #[tactic(auto, unfolding(crate::specs::Spelling::end_bytes))]
 fn push_end(out: &mut Vec<u8>, end: Option<Key>) -> Result<(), NoMemory>
-    ensures { OnOk result (out.new.items ≡ out.old.items ++ end_bytes end) }
+    ensures bytes { OnOk result (out.new.items ≡ out.old.items ++ end_bytes end) }
+    ensures fits { OnOk result (FitsEnd end) }
 {
     match end {
         None => out.push(255)?,
@@ -71,7 +78,8 @@ fn push_end(out: &mut Vec<u8>, end: Option<Key>) -> Result<(), NoMemory>
 
 #[tactic(auto, unfolding(crate::specs::Spelling::span_bytes))]
 fn push_span(out: &mut Vec<u8>, span: KeySpan) -> Result<(), NoMemory>
-    ensures { OnOk result (out.new.items ≡ out.old.items ++ span_bytes span) }
+    ensures bytes { OnOk result (out.new.items ≡ out.old.items ++ span_bytes span) }
+    ensures fits { OnOk result (FitsSpan span) }
 {
     push_key(out, span.start)?;
     push_end(out, span.end)
@@ -79,7 +87,8 @@ fn push_span(out: &mut Vec<u8>, span: KeySpan) -> Result<(), NoMemory>
 
 /// Appends a tag, a key and a value.
 fn push_with_value(out: &mut Vec<u8>, tag: u8, key: Key, value: u64) -> Result<(), NoMemory>
-    ensures { OnOk result (out.new.items ≡ out.old.items ++ tag ∷ (key_bytes key ++ value_bytes value)) }
+    ensures bytes { OnOk result (out.new.items ≡ out.old.items ++ tag ∷ (key_bytes key ++ value_bytes value)) }
+    ensures fits { OnOk result (IsKey key × FitsValue value) }
 {
     out.push(tag)?;
     push_key(out, key)?;
@@ -88,7 +97,8 @@ fn push_with_value(out: &mut Vec<u8>, tag: u8, key: Key, value: u64) -> Result<(
 
 /// Appends a tag and a key.
 fn push_with_key(out: &mut Vec<u8>, tag: u8, key: Key) -> Result<(), NoMemory>
-    ensures { OnOk result (out.new.items ≡ out.old.items ++ tag ∷ key_bytes key) }
+    ensures bytes { OnOk result (out.new.items ≡ out.old.items ++ tag ∷ key_bytes key) }
+    ensures fits { OnOk result (IsKey key) }
 {
     out.push(tag)?;
     push_key(out, key)
@@ -96,7 +106,8 @@ fn push_with_key(out: &mut Vec<u8>, tag: u8, key: Key) -> Result<(), NoMemory>
 
 /// Appends a tag and a number.
 fn push_with_number(out: &mut Vec<u8>, tag: u8, number: u64) -> Result<(), NoMemory>
-    ensures { OnOk result (out.new.items ≡ out.old.items ++ tag ∷ to_be_bytes w64 number) }
+    ensures bytes { OnOk result (out.new.items ≡ out.old.items ++ tag ∷ to_be_bytes w64 number) }
+    ensures fits { OnOk result (number < 2 ^ 64) }
 {
     out.push(tag)?;
     push_number(out, number)
@@ -104,7 +115,8 @@ fn push_with_number(out: &mut Vec<u8>, tag: u8, number: u64) -> Result<(), NoMem
 
 #[tactic(auto, unfolding(crate::specs::Spelling::request_bytes))]
 fn push_add(out: &mut Vec<u8>, key: Key, by: u64) -> Result<(), NoMemory>
-    ensures { OnOk result (out.new.items ≡ out.old.items ++ request_bytes (Request.Add key by)) }
+    ensures bytes { OnOk result (out.new.items ≡ out.old.items ++ request_bytes (Request.Add key by)) }
+    ensures fits { OnOk result (FitsRequest (Request.Add key by)) }
 {
     push_with_key(out, 2, key)?;
     push_number(out, by)
@@ -112,7 +124,8 @@ fn push_add(out: &mut Vec<u8>, key: Key, by: u64) -> Result<(), NoMemory>
 
 #[tactic(auto, unfolding(crate::specs::Spelling::request_bytes))]
 fn push_cput(out: &mut Vec<u8>, key: Key, expect: Option<u64>, value: u64) -> Result<(), NoMemory>
-    ensures { OnOk result (out.new.items ≡ out.old.items ++ request_bytes (Request.CPut key expect value)) }
+    ensures bytes { OnOk result (out.new.items ≡ out.old.items ++ request_bytes (Request.CPut key expect value)) }
+    ensures fits { OnOk result (FitsRequest (Request.CPut key expect value)) }
 {
     push_with_key(out, 3, key)?;
     push_option(out, expect)?;
@@ -121,7 +134,8 @@ fn push_cput(out: &mut Vec<u8>, key: Key, expect: Option<u64>, value: u64) -> Re
 
 #[tactic(auto, unfolding(crate::specs::Spelling::request_bytes))]
 fn push_wipe(out: &mut Vec<u8>, span: KeySpan) -> Result<(), NoMemory>
-    ensures { OnOk result (out.new.items ≡ out.old.items ++ request_bytes (Request.Wipe span)) }
+    ensures bytes { OnOk result (out.new.items ≡ out.old.items ++ request_bytes (Request.Wipe span)) }
+    ensures fits { OnOk result (FitsRequest (Request.Wipe span)) }
 {
     out.push(5)?;
     push_span(out, span)
@@ -129,7 +143,8 @@ fn push_wipe(out: &mut Vec<u8>, span: KeySpan) -> Result<(), NoMemory>
 
 #[tactic(auto, unfolding(crate::specs::Spelling::request_bytes))]
 fn push_move(out: &mut Vec<u8>, from: Key, to: Key, by: u64) -> Result<(), NoMemory>
-    ensures { OnOk result (out.new.items ≡ out.old.items ++ request_bytes (Request.Move from to by)) }
+    ensures bytes { OnOk result (out.new.items ≡ out.old.items ++ request_bytes (Request.Move from to by)) }
+    ensures fits { OnOk result (FitsRequest (Request.Move from to by)) }
 {
     push_with_key(out, 6, from)?;
     push_key(out, to)?;
@@ -138,7 +153,8 @@ fn push_move(out: &mut Vec<u8>, from: Key, to: Key, by: u64) -> Result<(), NoMem
 
 #[tactic(auto, unfolding(crate::specs::Spelling::request_bytes))]
 fn push_request(out: &mut Vec<u8>, request: Request) -> Result<(), NoMemory>
-    ensures { OnOk result (out.new.items ≡ out.old.items ++ request_bytes request) }
+    ensures bytes { OnOk result (out.new.items ≡ out.old.items ++ request_bytes request) }
+    ensures fits { OnOk result (FitsRequest request) }
 {
     match request {
         Request::Put { key, value } => push_with_value(out, 1, key, value),
@@ -153,7 +169,8 @@ fn push_request(out: &mut Vec<u8>, request: Request) -> Result<(), NoMemory>
 
 #[tactic(auto, unfolding(crate::specs::Spelling::reply_bytes))]
 fn push_old(out: &mut Vec<u8>, value: Option<u64>) -> Result<(), NoMemory>
-    ensures { OnOk result (out.new.items ≡ out.old.items ++ reply_bytes (Reply.Old value)) }
+    ensures bytes { OnOk result (out.new.items ≡ out.old.items ++ reply_bytes (Reply.Old value)) }
+    ensures fits { OnOk result (FitsReply (Reply.Old value)) }
 {
     out.push(1)?;
     push_option(out, value)
@@ -161,7 +178,8 @@ fn push_old(out: &mut Vec<u8>, value: Option<u64>) -> Result<(), NoMemory>
 
 #[tactic(auto, unfolding(crate::specs::Spelling::reply_bytes))]
 fn push_range(out: &mut Vec<u8>, range: RangeId) -> Result<(), NoMemory>
-    ensures { OnOk result (out.new.items ≡ out.old.items ++ reply_bytes (Reply.Range range)) }
+    ensures bytes { OnOk result (out.new.items ≡ out.old.items ++ reply_bytes (Reply.Range range)) }
+    ensures fits { OnOk result (FitsReply (Reply.Range range)) }
 {
     out.push(5)?;
     out.push(range.get())?;
@@ -178,7 +196,8 @@ fn push_set(out: &mut Vec<u8>) -> Result<(), NoMemory>
 
 #[tactic(auto, unfolding(crate::specs::Spelling::reply_bytes))]
 fn push_reply(out: &mut Vec<u8>, reply: Reply) -> Result<(), NoMemory>
-    ensures { OnOk result (out.new.items ≡ out.old.items ++ reply_bytes reply) }
+    ensures bytes { OnOk result (out.new.items ≡ out.old.items ++ reply_bytes reply) }
+    ensures fits { OnOk result (FitsReply reply) }
 {
     match reply {
         Reply::Old(value) => push_old(out, value),
@@ -191,7 +210,8 @@ fn push_reply(out: &mut Vec<u8>, reply: Reply) -> Result<(), NoMemory>
 
 #[tactic(auto, unfolding(crate::specs::Spelling::op_bytes))]
 fn push_op(out: &mut Vec<u8>, op: Op) -> Result<(), NoMemory>
-    ensures { OnOk result (out.new.items ≡ out.old.items ++ op_bytes op) }
+    ensures bytes { OnOk result (out.new.items ≡ out.old.items ++ op_bytes op) }
+    ensures fits { OnOk result (FitsOp op) }
 {
     match op {
         Op::Set { key, value } => push_with_value(out, 1, key, value),
@@ -200,7 +220,8 @@ fn push_op(out: &mut Vec<u8>, op: Op) -> Result<(), NoMemory>
 }
 
 fn push_ops(out: &mut Vec<u8>, ops: &[Op]) -> Result<(), NoMemory>
-    ensures { OnOk result (out.new.items ≡ out.old.items ++ flat_map op_bytes ops.now) }
+    ensures bytes { OnOk result (out.new.items ≡ out.old.items ++ flat_map op_bytes ops.now) }
+    ensures fits { OnOk result (AllByRecursion FitsOp ops.now) }
 {
     for op in ops {
         push_op(out, *op)?;
@@ -210,7 +231,8 @@ fn push_ops(out: &mut Vec<u8>, ops: &[Op]) -> Result<(), NoMemory>
 
 #[tactic(auto, unfolding(crate::specs::Spelling::batch_bytes))]
 fn push_batch(out: &mut Vec<u8>, batch: &Batch) -> Result<(), NoMemory>
-    ensures { OnOk result (out.new.items ≡ out.old.items ++ batch_bytes batch.now) }
+    ensures bytes { OnOk result (out.new.items ≡ out.old.items ++ batch_bytes batch.now) }
+    ensures fits { OnOk result (FitsBatch batch.now) }
 {
     let ops = batch.as_slice();
     out.push(ops.len() as u8)?;
@@ -219,7 +241,8 @@ fn push_batch(out: &mut Vec<u8>, batch: &Batch) -> Result<(), NoMemory>
 
 /// Appends an attempt, a lease sequence and a maximum.
 fn push_head(out: &mut Vec<u8>, command: &Command) -> Result<(), NoMemory>
-    ensures { OnOk result (out.new.items ≡ out.old.items ++ (id_bytes command.now.id ++ to_be_bytes w64 command.now.seq ++ to_be_bytes w64 command.now.max)) }
+    ensures bytes { OnOk result (out.new.items ≡ out.old.items ++ (id_bytes command.now.id ++ to_be_bytes w64 command.now.seq ++ to_be_bytes w64 command.now.max)) }
+    ensures fits { OnOk result (FitsId command.now.id × (command.now.seq < 2 ^ 64) × (command.now.max < 2 ^ 64)) }
 {
     push_id(out, command.id)?;
     push_number(out, command.seq.get())?;
@@ -228,7 +251,8 @@ fn push_head(out: &mut Vec<u8>, command: &Command) -> Result<(), NoMemory>
 
 #[tactic(auto, unfolding(crate::specs::Spelling::command_bytes))]
 fn push_command(out: &mut Vec<u8>, command: &Command) -> Result<(), NoMemory>
-    ensures { OnOk result (out.new.items ≡ out.old.items ++ command_bytes command.now) }
+    ensures bytes { OnOk result (out.new.items ≡ out.old.items ++ command_bytes command.now) }
+    ensures fits { OnOk result (FitsCommand command.now) }
 {
     push_head(out, command)?;
     push_request(out, command.request)?;
@@ -238,7 +262,8 @@ fn push_command(out: &mut Vec<u8>, command: &Command) -> Result<(), NoMemory>
 
 #[tactic(auto, unfolding(crate::specs::Spelling::ask_bytes))]
 fn push_ask(out: &mut Vec<u8>, ask: LeaseAsk) -> Result<(), NoMemory>
-    ensures { OnOk result (out.new.items ≡ out.old.items ++ ask_bytes ask) }
+    ensures bytes { OnOk result (out.new.items ≡ out.old.items ++ ask_bytes ask) }
+    ensures fits { OnOk result (FitsAsk ask) }
 {
     out.push(ask.holder.get())?;
     push_number(out, ask.prev.get())?;
@@ -247,7 +272,8 @@ fn push_ask(out: &mut Vec<u8>, ask: LeaseAsk) -> Result<(), NoMemory>
 
 #[tactic(auto, unfolding(crate::specs::Spelling::spelling))]
 fn push_payload(out: &mut Vec<u8>, payload: &Payload) -> Result<(), NoMemory>
-    ensures { OnOk result (out.new.items ≡ out.old.items ++ spelling payload.now) }
+    ensures bytes { OnOk result (out.new.items ≡ out.old.items ++ spelling payload.now) }
+    ensures fits { OnOk result (FitsPayload payload.now) }
 {
     out.push(1)?;
     match payload {
@@ -264,9 +290,12 @@ fn push_payload(out: &mut Vec<u8>, payload: &Payload) -> Result<(), NoMemory>
     Ok(())
 }
 
-/// The spelling of a payload.
+/// The one spelling of a payload.
 pub fn encode(alloc: Global, payload: &Payload) -> Result<Bytes, NoMemory>
-    ensures { IfOk result (λ bytes. bytes ≡ spelling payload.now) }
+    ensures spelling { IfOk result (λ bytes. bytes ≡ spelling payload.now) }
+    ensures fits { OnOk result (FitsPayload payload.now) }
+    // It is read back.
+    ensures read { IfOk result (λ bytes. payload_in bytes ≡ Ok payload.now) }
 {
     let mut out = Vec::new(alloc);
     push_payload(&mut out, payload)?;
