@@ -1,0 +1,7 @@
+pub mod Spans
+pub mod Writes
+pub mod Readers
+pub mod FieldLaws
+pub mod PayloadLaws
+pub mod SpellingLaws
+pub mod WorkedBytes

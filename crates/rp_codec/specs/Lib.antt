@@ -1,0 +1,5 @@
+pub mod Cursors
+pub mod Fits
+pub mod Reading
+pub mod Spelling
+pub mod Worked
