@@ -2,6 +2,7 @@
 //! command's lease sequence and lease applied index before a replica applies it).
 #![tactic(auto)]
 
+pub mod laws;
 mod verdicts;
 
 pub use verdicts::Verdict;
