@@ -2,7 +2,13 @@
 //! command's lease sequence and lease applied index before a replica applies it).
 #![tactic(auto)]
 
+mod batches;
 pub mod laws;
+mod machines;
+mod pieces;
+mod states;
 mod verdicts;
 
+pub use pieces::Piece;
+pub use states::{ApplyState, check};
 pub use verdicts::Verdict;
