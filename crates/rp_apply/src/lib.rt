@@ -7,6 +7,8 @@ pub mod laws;
 mod machines;
 mod pieces;
 mod states;
+#[cfg(test)]
+mod tests;
 mod verdicts;
 
 pub use pieces::Piece;
