@@ -1,4 +1,4 @@
-ghost use Rattle.std.specs.Prelude.{◌≡◌, ◌+◌, ◌-◌, ◌^◌, ◌<◌, ◌≤◌, IfOk, OnOk};
+ghost use Rattle.std.specs.Prelude.{◌≡◌, ◌+◌, ◌-◌, ◌^◌, ◌<◌, ◌≤◌, length, IfOk, OnOk};
 ghost use Rattle.rp_apply.specs.Applied.{verdict};
 ghost use Rattle.rp_apply.specs.History.{started, applied, reset_to};
 ghost use Rattle.rp_apply.specs.Rooms.{IsWithin, needed, together, Fits};
@@ -116,9 +116,10 @@ impl ApplyState {
         self.before
     }
 
-    /// The records since the last snapshot, in the order of their indexes.
+    /// The records since the last snapshot, in the order of their indexes, the last one of the index.
     pub fn records(&self) -> &[Record]
-        ensures { result.now ≡ self.now.history.records.list }
+        ensures records { result.now ≡ self.now.history.records.list }
+        ensures last { self.now.history.records.first + length result.now ≡ self.now.history.index + 1 }
     {
         &self.records
     }
