@@ -4,7 +4,7 @@ use Rattle.std.specs.List.{filter, cons_option}
 use Rattle.std.specs.Map.{values_of}
 use Rattle.std.specs.Option.{option_and_then}
 use Rattle.rp_pending.specs.Refreshes.{put_by, by_key, ids_by_max}
-use Rattle.rp_pending.specs.Sorting.{due}
+use Rattle.rp_pending.specs.Dues.{due}
 use Rattle.rp_pending.specs.declared.proposals.Proposal.{Proposal}
 use Rattle.rp_pending.specs.Slots.{Slot, proposals_in}
 

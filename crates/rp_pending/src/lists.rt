@@ -1,7 +1,8 @@
-ghost use Rattle.std.specs.Prelude.{◌≡◌, ◌≤◌, ◌+◌, [], ◌∷◌, ◌++◌, OnOk, IfOk, IsSome};
+ghost use Rattle.std.specs.Prelude.{◌≡◌, ◌≤◌, ◌+◌, [], ◌∷◌, ◌++◌, map, OnOk, IfOk, IsSome};
+ghost use Rattle.std.specs.List.{IsDistinct};
 ghost use Rattle.std.specs.Option.{option_copied};
 ghost use Rattle.rp_pending.specs.Refreshes.{first_round, to_refresh, waiting_of};
-ghost use Rattle.rp_pending.specs.Proposals.{proposal_of, without, with_changed, proposed, waiting_again};
+ghost use Rattle.rp_pending.specs.Proposals.{proposal_of, same_id, without, with_changed, proposed, waiting_again};
 
 use crate::proposals::{Change, Proposal};
 use crate::refreshes::{self, Refresh};
@@ -133,5 +134,12 @@ impl Pending {
         ensures { IfOk result (λ r. r ≡ to_refresh lai now all self.now.list) }
     {
         refreshes::to_refresh(&self.slots, lai, now, all)
+    }
+
+    /// No two pending proposals have one id. A law, which no program calls.
+    pub fn ids_are_distinct(&self)
+        ensures { IsDistinct same_id (map (λ p. p.id) self.now.list) }
+    {
+        let _ = &self.slots;
     }
 }

@@ -4,7 +4,7 @@ ghost use Rattle.std.specs.Option.{option_and_then};
 ghost use Rattle.rp_pending.specs.Proposals.{is_proposed};
 ghost use Rattle.rp_pending.specs.Refreshes.{by_key, first_round, goes_again, goes_back, ids_by_max, to_refresh, waiting_of, waits};
 ghost use Rattle.rp_pending.specs.Slots.{proposals_in};
-ghost use Rattle.rp_pending.specs.Sorting.{again_due, back_due, due};
+ghost use Rattle.rp_pending.specs.Dues.{again_due, back_due, due};
 
 use crate::proposals::{Proposal, Stage};
 use crate::slots::Slots;

@@ -14,6 +14,9 @@ use rp_base::CmdId;
 /// A slot for each id, in order of admission, empty where the proposal has ended.
 pub(crate) type Slots = IndexMap<CmdId, Option<Proposal>>;
 
+/// So few empty slots are left as they are.
+const FEW_SLOTS: usize = 64;
+
 /// Changes the proposal of a slot.
 fn change_in(slot: &mut Option<Proposal>, change: Change)
     ensures { slot.new ≡ option_map (changed change) slot.old }
@@ -103,15 +106,16 @@ fn compact(slots: &mut Slots)
     );
 }
 
-/// Takes the empty slots out once they are more than the others. So all that is moved in the end is
-/// at most as much as was taken out.
+/// Takes the empty slots out once they are many, and more than the others. So over all calls a
+/// proposal is moved at most once for each that was taken out.
 pub(crate) fn tidy(slots: &mut Slots, count: usize)
     requires { AreSound slots.old.entries count }
     ensures sound { AreSound slots.new.entries count }
     ensures same { proposals_in slots.new.entries ≡ proposals_in slots.old.entries }
     ensures spare { spare slots.old ≤ spare slots.new }
 {
-    if slots.len() - count > count {
+    let empty = slots.len() - count;
+    if empty > count && empty > FEW_SLOTS {
         compact(slots);
     }
 }

@@ -1,4 +1,4 @@
--- Slots read for a refresh.
+-- What a refresh reads of a proposal that it concerns.
 use Rattle.std.specs.Prelude.{ℕ, Bool, if◌then◌else◌, Option, None, Some}
 use Rattle.rp_pending.specs.declared.proposals.Proposal.{Proposal}
 use Rattle.rp_pending.specs.declared.refreshes.Due.{Due}
