@@ -54,6 +54,13 @@ fn propose(pending: &mut Pending, number: u32, max: u64, since: u64, round: u64)
     }
 }
 
+fn wait_again(pending: &mut Pending, number: u32) {
+    let id = attempt(number);
+    if pending.find(id).is_some() {
+        pending.back_to_waiting(id);
+    }
+}
+
 fn has(pending: &Pending, number: u32) -> bool {
     match pending.find(attempt(number)) {
         None => false,
@@ -129,9 +136,7 @@ fn what_goes_back_waits_again(rt: HostRuntime) -> Result<(), Fail> {
     let mut pending = filled(rt.alloc(), 2)?;
     propose(&mut pending, 1, 7, 3, 9);
     assert!(rt; pending.waiting()?.as_slice() == [wait(2)].as_slice());
-    if pending.find(attempt(1)).is_some() {
-        pending.back_to_waiting(attempt(1));
-    }
+    wait_again(&mut pending, 1);
     assert!(rt; pending.waiting()?.as_slice() == [wait(1), wait(2)].as_slice());
     assert_eq!(rt; pending.first_round(), Some(9));
     Ok(())
