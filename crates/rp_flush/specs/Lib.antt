@@ -1,0 +1,3 @@
+pub mod Assigns
+pub mod Counts
+pub mod Steps

@@ -1,6 +1,11 @@
 //! The order of a flush: which proposals go to Raft, in which order, and the lease index of each.
 #![tactic(auto)]
 
+mod assigns;
+pub mod laws;
+#[cfg(test)]
+mod tests;
 mod waits;
 
+pub use assigns::{Assigned, assign};
 pub use waits::WaitList;
