@@ -6,7 +6,8 @@ use Rattle.std.specs.Option.{option_flatten, option_map}
 use Rattle.std.proofs.lemmas.Bool.{eqb-true}
 use Rattle.rp_base.specs.declared.ids.CmdId.{CmdId}
 use Rattle.rp_pending.specs.declared.proposals.Proposal.{Proposal}
-use Rattle.rp_pending.specs.Proposals.{same_id, has_id, proposal_of, without, with_changed}
+use Rattle.rp_flush.specs.Assigns.{same_id}
+use Rattle.rp_pending.specs.Proposals.{has_id, proposal_of, without, with_changed}
 use Rattle.rp_pending.specs.Slots.{Slot, proposals_in, IsNamed, AreNamed, slot_of, with_slot}
 
 and_true : (a b : Bool) → (a && b) ≡ true → (a ≡ true) × (b ≡ true)

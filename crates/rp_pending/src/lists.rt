@@ -2,10 +2,11 @@ ghost use Rattle.std.specs.Prelude.{◌≡◌, ◌≤◌, ◌+◌, [], ◌∷◌
 ghost use Rattle.std.specs.List.{IsDistinct};
 ghost use Rattle.std.specs.Option.{option_copied};
 ghost use Rattle.rp_pending.specs.Refreshes.{first_round, to_refresh, waiting_of};
-ghost use Rattle.rp_pending.specs.Proposals.{proposal_of, same_id, without, with_changed, proposed, waiting_again};
+ghost use Rattle.rp_flush.specs.Assigns.{same_id};
+ghost use Rattle.rp_pending.specs.Proposals.{proposal_of, without, with_changed, proposed, waiting_again};
 
 use crate::proposals::{Change, Proposal};
-use crate::refreshes::{self, Refresh};
+use crate::refreshes::{self, Ids, Refresh};
 use crate::slots::{Slots, change, clear, get, put, take, tidy};
 use rp_base::{CmdId, LeaseIndex, NoMemory, Tick};
 use rp_flush::WaitList;
@@ -117,6 +118,13 @@ impl Pending {
         ensures { result ≡ first_round self.now.list }
     {
         refreshes::first_round(&self.slots)
+    }
+
+    /// The ids of all pending proposals, in order of admission.
+    pub fn ids(&self) -> Result<Ids, NoMemory>
+        ensures { IfOk result (λ ids. ids ≡ map (λ p. p.id) self.now.list) }
+    {
+        refreshes::ids(&self.slots)
     }
 
     /// The proposals that wait for a lease index, in order of admission.

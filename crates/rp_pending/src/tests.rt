@@ -105,6 +105,7 @@ fn a_proposal_is_added_found_and_finished(rt: HostRuntime) -> Result<(), Fail> {
     assert!(rt; finishes(&mut pending, 2));
     assert!(rt; has(&pending, 3));
     assert!(rt; pending.waiting()?.as_slice() == [wait(3)].as_slice());
+    assert!(rt; are(pending.ids()?.as_slice(), &[3]));
     Ok(())
 }
 
