@@ -1,0 +1,4 @@
+pub mod Applied
+pub mod Attempts
+pub mod Along
+pub mod World
