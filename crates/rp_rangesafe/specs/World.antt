@@ -74,6 +74,11 @@ pub data Event : Type 0 where
   -- a node restarts
   Restart : (node : ℕ) → Event
 
+-- on this state the request lies in the bounds, and was evaluated so
+pub record IsEvaluated (s : Applied) (body : Body) : Type 0 where
+  pub bounded : IsTrue (in_bounds s.desc body.request)
+  pub evaluation : evaluated s.table s.desc body.request ≡ Ok (record { batch = body.batch; reply = body.reply })
+
 -- a node may admit: its replica is there and holds the lease, under a sequence that is past its barrier; the
 -- request lies in the bounds, was evaluated on its applied state, and covers no key that a pending one covers
 pub record MayAdmit (w : World) (id : CmdId) (node : ℕ) (body : Body) : Type 0 where
@@ -81,8 +86,7 @@ pub record MayAdmit (w : World) (id : CmdId) (node : ℕ) (body : Body) : Type 0
   pub live : w.alive node ≡ true
   pub holds : (here w node).lease.holder ≡ node
   pub passed : w.barrier node < (here w node).lease.seq
-  pub bounded : IsTrue (in_bounds (here w node).desc body.request)
-  pub evaluation : evaluated (here w node).table (here w node).desc body.request ≡ Ok (record { batch = body.batch; reply = body.reply })
+  pub evaluates : IsEvaluated (here w node) body
   pub latched : (q : CmdId) → IsPending (w.attempt q).stage → (w.attempt q).node ≡ node → Apart (covers body.request) (covers (w.attempt q).body.request)
 
 -- the list may grow by Nothing, by any lease ask, and by a command that was handed out, any number of times
