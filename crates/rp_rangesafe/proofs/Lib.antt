@@ -2,3 +2,4 @@ pub mod Steps
 pub mod Numbers
 pub mod Tables
 pub mod One
+pub mod Moves
