@@ -3,3 +3,4 @@ pub mod Numbers
 pub mod Tables
 pub mod One
 pub mod Moves
+pub mod Turns
