@@ -7,16 +7,19 @@ use Rattle.rp_request.specs.declared.commands.Payload.{Payload}
 use Rattle.rp_request.specs.declared.commands.Payload.TheVariants.{Nothing, Write, Lease}
 use Rattle.rp_request.specs.declared.commands.Command.{Command}
 use Rattle.rp_request.specs.declared.outcomes.Reply.{Reply}
-use Rattle.rp_rangesafe.specs.Applied.{Applied, Verdict, Took, OldLease, OldIndex, LeaseMoved, Void, verdict}
+use Rattle.rp_apply.specs.Applied.{AppliedState, verdict, IsBlocked}
+use Rattle.rp_apply.specs.declared.verdicts.Verdict.{Verdict}
+use Rattle.rp_apply.specs.declared.verdicts.Verdict.TheVariants.{Took, OldLease, OldIndex, LeaseMoved}
+use Rattle.rp_apply.specs.declared.verdicts.Verdict.TheVariants as verdicts
 use Rattle.rp_rangesafe.specs.Attempts.{Body, Stage, Unborn, Waiting, Proposed, Success, Refused, Overtaken, Removed, Restarted, Attempt, IsBorn, IsClosed, IsOpen, IsUntaken, IsAmong, IsOf, staged, proposed}
-use Rattle.rp_rangesafe.specs.Along.{state, Takes, IsBlocked}
+use Rattle.rp_rangesafe.specs.Along.{state, Takes}
 use Rattle.rp_rangesafe.specs.World.{IsEvaluated, told, by_verdict, overtaken, removed, restarted}
 use Rattle.rp_rangesafe.proofs.Steps.{Onward, onward_same, old_lease, old_index, no_lease_moved, no_void}
 use Rattle.rp_rangesafe.proofs.Numbers.{onward, max_once, lai_from, lai_after, blocked_later, blocked_never}
 use Rattle.rp_rangesafe.proofs.One.{PlaceOf, Placed, Made, Good, one_open, place_open, one_place, no_maximum}
 
 -- what is owed where an attempt goes to a stage while its node goes from an index to a later one
-pub record Move (b : Applied) (f : ℕ → Payload) (n p q : ℕ) (alive' : Bool) (bar' : ℕ) (id : CmdId) (a : Attempt) (g : Stage) : Type 0 where
+pub record Move (b : AppliedState) (f : ℕ → Payload) (n p q : ℕ) (alive' : Bool) (bar' : ℕ) (id : CmdId) (a : Attempt) (g : Stage) : Type 0 where
   pub forth : p ≤ q
   pub within : q ≤ n
   pub born : IsBorn g → IsBorn a.stage
@@ -30,7 +33,7 @@ pub record Move (b : Applied) (f : ℕ → Payload) (n p q : ℕ) (alive' : Bool
   pub restarted : (own : ℕ) → g ≡ Restarted own → a.seq ≤ bar'
   pub overtaken : (own passed : ℕ) → g ≡ Overtaken own passed → (0 < own) × (own ≤ passed)
 
-module _ {b : Applied} {f : ℕ → Payload} {n p : ℕ} {alive : Bool} {bar : ℕ} {id : CmdId} {a : Attempt} (x : Good b f n p alive bar id a) where
+module _ {b : AppliedState} {f : ℕ → Payload} {n p : ℕ} {alive : Bool} {bar : ℕ} {id : CmdId} {a : Attempt} (x : Good b f n p alive bar id a) where
   module _ {q : ℕ} {alive' : Bool} {bar' : ℕ} {g : Stage} (m : Move b f n p q alive' bar' id a g) where
     moved_blocked : (o : ℕ) → IsOpen a.stage o ⊎ IsBlocked (state b f p) a.seq o → IsOpen g o ⊎ IsBlocked (state b f q) a.seq o
     moved_blocked o (inl h) = m.closes o h

@@ -4,16 +4,17 @@ use Rattle.std.proofs.lemmas.Bool.{cases_order, cases_lt}
 use Rattle.rp_request.specs.declared.commands.Payload.{Payload}
 use Rattle.rp_request.specs.declared.commands.Payload.TheVariants.{Write}
 use Rattle.rp_request.specs.declared.commands.Command.{Command}
-use Rattle.rp_rangesafe.specs.Applied.{Applied, verdict, next, Took}
-use Rattle.rp_rangesafe.specs.Along.{state, Takes, IsBlocked}
+use Rattle.rp_apply.specs.Applied.{AppliedState, verdict, after, IsBlocked}
+use Rattle.rp_apply.specs.declared.verdicts.Verdict.TheVariants.{Took}
+use Rattle.rp_rangesafe.specs.Along.{state, Takes}
 use Rattle.rp_rangesafe.proofs.Steps.{Onward, onward_same, onward_trans, onward_next, IsTimely, timely, taken_lai, blocked_onward, blocked_untaken}
 
 -- a list that agrees with another below an index comes to the same state there
-pub same_state : (b : Applied) (f g : ℕ → Payload) (i : ℕ) → ((k : ℕ) → k < i → f k ≡ g k) → state b f i ≡ state b g i
+pub same_state : (b : AppliedState) (f g : ℕ → Payload) (i : ℕ) → ((k : ℕ) → k < i → f k ≡ g k) → state b f i ≡ state b g i
 same_state b f g zero h = refl
-same_state b f g (suc i) h = ap (λ s. next s (f i)) (same_state b f g i (λ k l. h k (omega arith))) ∙ ap (next (state b g i)) (h i (omega arith))
+same_state b f g (suc i) h = ap (λ s. after s (f i)) (same_state b f g i (λ k l. h k (omega arith))) ∙ ap (after (state b g i)) (h i (omega arith))
 
-module _ (b : Applied) (f : ℕ → Payload) where
+module _ (b : AppliedState) (f : ℕ → Payload) where
   pub onward : (i j : ℕ) → i ≤ j → Onward (state b f i) (state b f j)
   onward i zero l = let e : i ≡ 0 = omega arith in subst (λ k. Onward (state b f k) (state b f 0)) (sym e) (onward_same (state b f 0))
   onward i (suc j) l = go (cases_lt i (suc j)) (λ k. onward i j k) where
@@ -33,7 +34,7 @@ module _ (b : Applied) (f : ℕ → Payload) where
   timely_at k c t = timely (state b f k) c t.taken
 
   pub lai_after : (k : ℕ) (c : Command) → Takes b f k c → (state b f (suc k)).lai ≡ c.max
-  lai_after k c t = ap (λ p. (next (state b f k) p).lai) t.here ∙ taken_lai (state b f k) c t.taken
+  lai_after k c t = ap (λ p. (after (state b f k) p).lai) t.here ∙ taken_lai (state b f k) c t.taken
 
   -- after a place the lease applied index is at or above its maximum
   pub lai_from : (k : ℕ) (c : Command) (j : ℕ) → k < j → Takes b f k c → c.max ≤ (state b f j).lai

@@ -6,20 +6,20 @@ use Rattle.rp_request.specs.declared.commands.Payload.{Payload}
 use Rattle.rp_request.specs.declared.commands.Payload.TheVariants.{Write}
 use Rattle.rp_request.specs.declared.commands.Command.{Command}
 use Rattle.rp_request.specs.declared.outcomes.Reply.{Reply}
-use Rattle.rp_rangesafe.specs.Applied.{Applied}
+use Rattle.rp_apply.specs.Applied.{AppliedState, IsBlocked}
 use Rattle.rp_rangesafe.specs.Attempts.{Body, Stage, Unborn, Waiting, Proposed, Success, Refused, Overtaken, Removed, Restarted, Attempt, IsBorn, IsClosed, IsOpen, IsUntaken, IsAmong, IsOf}
-use Rattle.rp_rangesafe.specs.Along.{state, Takes, IsBlocked}
+use Rattle.rp_rangesafe.specs.Along.{state, Takes}
 use Rattle.rp_rangesafe.specs.World.{IsEvaluated}
 use Rattle.rp_rangesafe.proofs.Steps.{Onward}
 use Rattle.rp_rangesafe.proofs.Numbers.{onward, max_once, lai_from, blocked_never}
 
 -- a place of the attempt
-pub record PlaceOf (b : Applied) (f : ℕ → Payload) (id : CmdId) (k : ℕ) (c : Command) : Type 0 where
+pub record PlaceOf (b : AppliedState) (f : ℕ → Payload) (id : CmdId) (k : ℕ) (c : Command) : Type 0 where
   pub takes : Takes b f k c
   pub named : c.id ≡ id
 
 -- its place below an index, with this reply
-pub record Placed (b : Applied) (f : ℕ → Payload) (id : CmdId) (p : ℕ) (reply : Reply) : Type 0 where
+pub record Placed (b : AppliedState) (f : ℕ → Payload) (id : CmdId) (p : ℕ) (reply : Reply) : Type 0 where
   pub k : ℕ
   pub c : Command
   pub below : k < p
@@ -33,7 +33,7 @@ pub record Made (a : Attempt) (k : ℕ) (c : Command) : Type 0 where
 
 -- one attempt, where the list has so many entries, its node has applied so many of them, is alive or not, and has
 -- this barrier
-pub record Good (b : Applied) (f : ℕ → Payload) (n p : ℕ) (alive : Bool) (bar : ℕ) (id : CmdId) (a : Attempt) : Type 0 where
+pub record Good (b : AppliedState) (f : ℕ → Payload) (n p : ℕ) (alive : Bool) (bar : ℕ) (id : CmdId) (a : Attempt) : Type 0 where
   pub fresh : a.stage ≡ Unborn → a.maxima ≡ []
   pub behind : IsBorn a.stage → a.from ≤ p
   pub seq : IsBorn a.stage → (state b f a.from).lease.seq ≡ a.seq
@@ -79,7 +79,7 @@ nothing_open g o e h = subst (λ x. IsOpen x o) e h
 pub no_maximum : (xs : List ℕ) (m : ℕ) → xs ≡ [] → IsAmong xs m → ⊥
 no_maximum xs m e h = subst (λ x. IsAmong x m) e h
 
-module _ {b : Applied} {f : ℕ → Payload} {n p : ℕ} {alive : Bool} {bar : ℕ} {id : CmdId} {a : Attempt} (g : Good b f n p alive bar id a) where
+module _ {b : AppliedState} {f : ℕ → Payload} {n p : ℕ} {alive : Bool} {bar : ℕ} {id : CmdId} {a : Attempt} (g : Good b f n p alive bar id a) where
   -- a place that the node has not applied has the open maximum
   pub place_open : (k : ℕ) (c : Command) → p ≤ k → k < n → PlaceOf b f id k c → IsOpen a.stage c.max
   place_open k c l h t = go (g.blocked c.max made.of.max) where

@@ -1,6 +1,6 @@
 -- What one entry does to an applied state, as far as the numbers go. Beside the laws on tables and descriptions this is
 -- all that the other proofs know of the check and the step.
-use Rattle.std.proofs.Common.{◌≡◌, ℕ, ◌+◌, ◌<◌, ◌≤◌, Bool, true, false, cond, ◌==◌, nat_lt, ◌⊎◌, inl, inr, Option, Some, None, Result, Ok, Err, refl, sym, ap, subst, ◌∙◌, arith}
+use Rattle.std.proofs.Common.{◌≡◌, ℕ, ◌+◌, ◌<◌, ◌≤◌, Bool, true, false, cond, ◌==◌, nat_le, nat_lt, ◌⊎◌, inl, inr, Option, Some, None, Result, Ok, Err, refl, sym, ap, subst, ◌∙◌, arith}
 use Rattle.std.proofs.lemmas.Bool.Decides.{nat_tests}
 use Rattle.rp_base.specs.declared.ranges.Desc.{Desc}
 use Rattle.rp_base.specs.declared.ranges.SplitFault.{SplitFault}
@@ -13,21 +13,23 @@ use Rattle.rp_request.specs.declared.requests.Request.TheVariants.{Put, Add, CPu
 use Rattle.rp_request.specs.declared.commands.Payload.{Payload}
 use Rattle.rp_request.specs.declared.commands.Payload.TheVariants.{Nothing, Write, Lease}
 use Rattle.rp_request.specs.declared.commands.Command.{Command}
-use Rattle.rp_rangesafe.specs.Applied.{Applied, Verdict, Took, OldLease, OldIndex, LeaseMoved, Void, verdict, lease_verdict, next, written, leased, desc_after, cut_desc}
-use Rattle.rp_rangesafe.specs.Along.{IsBlocked}
+use Rattle.rp_apply.specs.Applied.{AppliedState, verdict, after, written, leased, desc_after, left_of, command_verdict, asked, IsBlocked}
+use Rattle.rp_apply.specs.declared.verdicts.Verdict.{Verdict}
+use Rattle.rp_apply.specs.declared.verdicts.Verdict.TheVariants.{Took, OldLease, OldIndex, LeaseMoved}
+use Rattle.rp_apply.specs.declared.verdicts.Verdict.TheVariants as verdicts
 
 -- the numbers of a range do not fall, its number stays, and one lease sequence has one holder
-pub record Onward (s t : Applied) : Type 0 where
+pub record Onward (s t : AppliedState) : Type 0 where
   pub lai : s.lai ≤ t.lai
   pub seq : s.lease.seq ≤ t.lease.seq
   pub level : s.desc.level ≤ t.desc.level
   pub id : s.desc.id ≡ t.desc.id
   pub holder : s.lease.seq ≡ t.lease.seq → s.lease.holder ≡ t.lease.holder
 
-pub onward_same : (s : Applied) → Onward s s
+pub onward_same : (s : AppliedState) → Onward s s
 onward_same s = record { lai = omega arith; seq = omega arith; level = omega arith; id = refl; holder = λ _. refl }
 
-pub onward_trans : (s t u : Applied) → Onward s t → Onward t u → Onward s u
+pub onward_trans : (s t u : AppliedState) → Onward s t → Onward t u → Onward s u
 onward_trans s t u a b = record {
   lai = omega arith;
   seq = omega arith;
@@ -44,13 +46,13 @@ record Cut (d t : Desc) : Type 0 where
 uncut : (d : Desc) → Cut d d
 uncut d = record { level = omega arith; id = refl }
 
-cut_parts : (d : Desc) (key : ℕ) (low : Bool) (e : nat_lt d.level 3 ≡ low) → Cut d (cut_desc d (parts_of d key low e))
+cut_parts : (d : Desc) (key : ℕ) (low : Bool) (e : nat_lt d.level 3 ≡ low) → Cut d (left_of d (parts_of d key low e))
 cut_parts d key true e = record { level = omega arith; id = refl }
 cut_parts d key false e = uncut d
 
-cut_split : (d : Desc) (key : ℕ) → Cut d (cut_desc d (split_of d key))
+cut_split : (d : Desc) (key : ℕ) → Cut d (left_of d (split_of d key))
 cut_split d key = go (key == d.start) where
-  go : (b : Bool) → Cut d (cut_desc d (cond b (Err Rattle.rp_base.specs.declared.ranges.SplitFault.TheVariants.NotInside) (parts_of d key (nat_lt d.level 3) refl)))
+  go : (b : Bool) → Cut d (left_of d (cond b (Err Rattle.rp_base.specs.declared.ranges.SplitFault.TheVariants.NotInside) (parts_of d key (nat_lt d.level 3) refl)))
   go true = uncut d
   go false = cut_parts d key (nat_lt d.level 3) refl
 
@@ -64,45 +66,46 @@ cut_after d (Move from to by) = uncut d
 cut_after d (Split key) = cut_split d key
 
 -- what the verdict on a command means
-pub record IsTimely (s : Applied) (c : Command) : Type 0 where
+pub record IsTimely (s : AppliedState) (c : Command) : Type 0 where
   pub seq : c.seq ≡ s.lease.seq
   pub max : s.lai < c.max
 
-abbrev Means : Applied → Command → Verdict → Type 0
+abbrev Means : AppliedState → Command → Verdict → Type 0
 Means s c Took = IsTimely s c
 Means s c (OldLease now) = c.seq ≡ s.lease.seq → ⊥
 Means s c (OldIndex lai) = c.max ≤ s.lai
 Means s c LeaseMoved = ⊥
-Means s c Void = ⊥
+Means s c verdicts.Nothing = ⊥
 
-means : (s : Applied) (c : Command) → Means s c (verdict s (Write c))
-means s c = go (c.seq == s.lease.seq) refl (nat_lt s.lai c.max) refl where
-  go : (a : Bool) → (c.seq == s.lease.seq) ≡ a → (b : Bool) → nat_lt s.lai c.max ≡ b → Means s c (cond a (cond b Took (OldIndex s.lai)) (OldLease s.lease.seq))
-  go true e true h = record { seq = grind (arith, nat_tests); max = grind (arith, nat_tests) }
-  go true e false h = grind (arith, nat_tests)
+means : (s : AppliedState) (c : Command) → Means s c (verdict s (Write c))
+unfolding command_verdict
+means s c = go (c.seq == s.lease.seq) refl (nat_le c.max s.lai) refl where
+  go : (a : Bool) → (c.seq == s.lease.seq) ≡ a → (b : Bool) → nat_le c.max s.lai ≡ b → Means s c (cond a (cond b (OldIndex s.lai) Took) (OldLease s.lease.seq))
+  go true e false h = record { seq = grind (arith, nat_tests); max = grind (arith, nat_tests) }
+  go true e true h = grind (arith, nat_tests)
   go false e b h = λ k. grind (arith, nat_tests)
 
 -- a command that is taken is timely
-pub timely : (s : Applied) (c : Command) → verdict s (Write c) ≡ Took → IsTimely s c
+pub timely : (s : AppliedState) (c : Command) → verdict s (Write c) ≡ Took → IsTimely s c
 timely s c e = subst (Means s c) e (means s c)
 
-pub old_lease : (s : Applied) (c : Command) (now : ℕ) → verdict s (Write c) ≡ OldLease now → c.seq ≡ s.lease.seq → ⊥
+pub old_lease : (s : AppliedState) (c : Command) (now : ℕ) → verdict s (Write c) ≡ OldLease now → c.seq ≡ s.lease.seq → ⊥
 old_lease s c now e = subst (Means s c) e (means s c)
 
-pub old_index : (s : Applied) (c : Command) (lai : ℕ) → verdict s (Write c) ≡ OldIndex lai → c.max ≤ s.lai
+pub old_index : (s : AppliedState) (c : Command) (lai : ℕ) → verdict s (Write c) ≡ OldIndex lai → c.max ≤ s.lai
 old_index s c lai e = subst (Means s c) e (means s c)
 
-pub no_lease_moved : (s : Applied) (c : Command) → verdict s (Write c) ≡ LeaseMoved → ⊥
+pub no_lease_moved : (s : AppliedState) (c : Command) → verdict s (Write c) ≡ LeaseMoved → ⊥
 no_lease_moved s c e = subst (Means s c) e (means s c)
 
-pub no_void : (s : Applied) (c : Command) → verdict s (Write c) ≡ Void → ⊥
+pub no_void : (s : AppliedState) (c : Command) → verdict s (Write c) ≡ verdicts.Nothing → ⊥
 no_void s c e = subst (Means s c) e (means s c)
 
 -- after a command was taken the lease applied index is its maximum
-pub taken_lai : (s : Applied) (c : Command) → verdict s (Write c) ≡ Took → (next s (Write c)).lai ≡ c.max
+pub taken_lai : (s : AppliedState) (c : Command) → verdict s (Write c) ≡ Took → (after s (Write c)).lai ≡ c.max
 taken_lai s c e = ap (λ v. (written s c v).lai) e
 
-onward_written : (s : Applied) (c : Command) (v : Verdict) → verdict s (Write c) ≡ v → Onward s (written s c v)
+onward_written : (s : AppliedState) (c : Command) (v : Verdict) → verdict s (Write c) ≡ v → Onward s (written s c v)
 onward_written s c Took e =
     let t = timely s c e in
     let cut = cut_after s.desc c.request in
@@ -110,9 +113,10 @@ onward_written s c Took e =
 onward_written s c (OldLease now) e = onward_same s
 onward_written s c (OldIndex lai) e = onward_same s
 onward_written s c LeaseMoved e = onward_same s
-onward_written s c Void e = onward_same s
+onward_written s c verdicts.Nothing e = onward_same s
 
-onward_leased : (s : Applied) (ask : LeaseAsk) → Onward s (leased s (lease_after s.lease ask))
+onward_leased : (s : AppliedState) (ask : LeaseAsk) → Onward s (leased s (asked s ask))
+unfolding asked
 onward_leased s ask = go (ask.prev == s.lease.seq) (ask.holder == s.lease.holder) where
   go : (a b : Bool) → Onward s (leased s (cond a (Some (cond b (extended s.lease ask) (moved s.lease ask))) None))
   go true true = record { lai = omega arith; seq = omega arith; level = omega arith; id = refl; holder = λ _. refl }
@@ -120,20 +124,20 @@ onward_leased s ask = go (ask.prev == s.lease.seq) (ask.holder == s.lease.holder
   go false b = onward_same s
 
 -- one entry keeps the numbers from falling
-pub onward_next : (s : Applied) (p : Payload) → Onward s (next s p)
+pub onward_next : (s : AppliedState) (p : Payload) → Onward s (after s p)
 onward_next s Nothing = onward_same s
 onward_next s (Write c) = onward_written s c (verdict s (Write c)) refl
 onward_next s (Lease ask) = onward_leased s ask
 
 -- what is blocked stays so
-pub blocked_onward : (s t : Applied) (seq max : ℕ) → Onward s t → IsBlocked s seq max → IsBlocked t seq max
+pub blocked_onward : (s t : AppliedState) (seq max : ℕ) → Onward s t → IsBlocked s seq max → IsBlocked t seq max
 blocked_onward s t seq max o = go where
   go : IsBlocked s seq max → IsBlocked t seq max
   go (inl le) = inl (omega arith)
   go (inr lt) = inr (omega arith)
 
 -- and is not taken
-pub blocked_untaken : (s : Applied) (c : Command) (seq : ℕ) → c.seq ≡ seq → IsBlocked s seq c.max → verdict s (Write c) ≡ Took → ⊥
+pub blocked_untaken : (s : AppliedState) (c : Command) (seq : ℕ) → c.seq ≡ seq → IsBlocked s seq c.max → verdict s (Write c) ≡ Took → ⊥
 blocked_untaken s c seq e b v = let t = timely s c v in go b t where
   go : IsBlocked s seq c.max → IsTimely s c → ⊥
   go (inl le) t = omega arith

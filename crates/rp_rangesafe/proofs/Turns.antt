@@ -8,9 +8,12 @@ use Rattle.rp_request.specs.declared.commands.Payload.{Payload}
 use Rattle.rp_request.specs.declared.commands.Payload.TheVariants.{Nothing, Write, Lease}
 use Rattle.rp_request.specs.declared.commands.Command.{Command}
 use Rattle.rp_request.specs.declared.outcomes.Reply.{Reply}
-use Rattle.rp_rangesafe.specs.Applied.{Applied, Verdict, Took, OldLease, OldIndex, LeaseMoved, Void, verdict}
+use Rattle.rp_apply.specs.Applied.{AppliedState, verdict, IsBlocked}
+use Rattle.rp_apply.specs.declared.verdicts.Verdict.{Verdict}
+use Rattle.rp_apply.specs.declared.verdicts.Verdict.TheVariants.{Took, OldLease, OldIndex, LeaseMoved}
+use Rattle.rp_apply.specs.declared.verdicts.Verdict.TheVariants as verdicts
 use Rattle.rp_rangesafe.specs.Attempts.{Body, Stage, Unborn, Waiting, Proposed, Success, Refused, Overtaken, Removed, Restarted, Attempt, IsBorn, IsClosed, IsOpen, IsUntaken, IsAmong, IsOf, staged, proposed}
-use Rattle.rp_rangesafe.specs.Along.{state, Takes, IsBlocked}
+use Rattle.rp_rangesafe.specs.Along.{state, Takes}
 use Rattle.rp_rangesafe.specs.World.{IsEvaluated, told, by_verdict, overtaken, removed, restarted, unborn}
 use Rattle.rp_rangesafe.proofs.Steps.{Onward, onward_same, old_lease, old_index, no_lease_moved, no_void}
 use Rattle.rp_rangesafe.proofs.Numbers.{onward, max_once, lai_from, lai_after, blocked_later, blocked_never}
@@ -21,7 +24,7 @@ use Rattle.rp_rangesafe.proofs.Moves.{Move, good_moved, stays, shuts, seq_behind
 pub same_command : (f : ℕ → Payload) (k : ℕ) (c d : Command) → f k ≡ Write c → f k ≡ Write d → c ≡ d
 same_command f k c d e h = cc
 
-module _ {b : Applied} {f : ℕ → Payload} {n p : ℕ} {alive : Bool} {bar : ℕ} {id : CmdId} {a : Attempt} (x : Good b f n p alive bar id a) where
+module _ {b : AppliedState} {f : ℕ → Payload} {n p : ℕ} {alive : Bool} {bar : ℕ} {id : CmdId} {a : Attempt} (x : Good b f n p alive bar id a) where
   -- a stage in which nothing is open, at a place that the node has not applied
   shut_place : (g : Stage) → a.stage ≡ g → ((o : ℕ) → IsOpen g o → ⊥) → (k : ℕ) (c : Command) → p ≤ k → k < n → PlaceOf b f id k c → ⊥
   shut_place g e shut k c l h t = shut c.max (subst (λ y. IsOpen y c.max) e (place_open x k c l h t))
@@ -84,7 +87,7 @@ module _ {b : Applied} {f : ℕ → Payload} {n p : ℕ} {alive : Bool} {bar : �
 
     -- an entry that is
     module _ (c : Command) (here : f p ≡ Write c) (named : c.id ≡ id) where
-      abbrev now : Applied
+      abbrev now : AppliedState
       now = state b f p
 
       made : Made a p c
@@ -146,7 +149,7 @@ module _ {b : Applied} {f : ℕ → Payload} {n p : ℕ} {alive : Bool} {bar : �
             (λ reply r. absurd cc)
             (λ o q r. cc)
         judged same LeaseMoved h = absurd (no_lease_moved now c h)
-        judged same Void h = absurd (no_void now c h)
+        judged same verdicts.Nothing h = absurd (no_void now c h)
 
         other_max : (own ≡ c.max → ⊥) → Move b f n p (suc p) alive bar id a (Proposed own)
         other_max ne = subst (Move b f n p (suc p) alive bar id a) e (keeps live (suc p) (omega arith) (omega arith) (λ _ k d lo hi t.
@@ -261,7 +264,7 @@ module _ {b : Applied} {f : ℕ → Payload} {n p : ℕ} {alive : Bool} {bar : �
     none k c l h i = no_maximum a.maxima c.max (x.fresh e) (x.entries k c l h i).of.max
 
 -- an attempt of a range that starts
-pub unborn_good : (b : Applied) (f : ℕ → Payload) (id : CmdId) → Good b f 0 0 true 0 id unborn
+pub unborn_good : (b : AppliedState) (f : ℕ → Payload) (id : CmdId) → Good b f 0 0 true 0 id unborn
 unborn_good b f id = record {
   fresh = λ h. refl;
   behind = λ h. absurd h;

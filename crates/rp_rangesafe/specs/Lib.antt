@@ -1,4 +1,3 @@
-pub mod Applied
 pub mod Attempts
 pub mod Along
 pub mod World

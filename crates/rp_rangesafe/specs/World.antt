@@ -9,14 +9,17 @@ use Rattle.rp_request.specs.declared.requests.Request.TheVariants as requests
 use Rattle.rp_request.specs.declared.outcomes.Reply.TheVariants as replies
 use Rattle.rp_request.specs.Covers.{covers, in_bounds, Apart}
 use Rattle.rp_eval.specs.Evaluations.{evaluated}
-use Rattle.rp_rangesafe.specs.Applied.{Applied, Verdict, Took, OldLease, OldIndex, LeaseMoved, Void, verdict}
+use Rattle.rp_apply.specs.Applied.{AppliedState, verdict}
+use Rattle.rp_apply.specs.declared.verdicts.Verdict.{Verdict}
+use Rattle.rp_apply.specs.declared.verdicts.Verdict.TheVariants.{Took, OldLease, OldIndex, LeaseMoved}
+use Rattle.rp_apply.specs.declared.verdicts.Verdict.TheVariants as verdicts
 use Rattle.rp_rangesafe.specs.Attempts.{Body, Stage, Unborn, Waiting, Proposed, Success, Refused, Overtaken, Removed, Restarted, Attempt, Attempts, IsPending, IsOf, staged, proposed, with_attempt, at_node}
 use Rattle.rp_rangesafe.specs.Along.{entry, state}
 
 -- a range: the state that it starts from, its list; of each node how many entries it has applied, whether it
 -- still has its replica, and the lease sequence that it had at its last restart; and the attempts
 pub record World : Type 0 where
-  pub start : Applied
+  pub start : AppliedState
   pub log : List Payload
   pub index : ℕ → ℕ
   pub alive : ℕ → Bool
@@ -35,7 +38,7 @@ unborn = record {
 }
 
 -- a range as it starts
-abbrev pub begin : Applied → World
+abbrev pub begin : AppliedState → World
 begin s = record {
   start = s;
   log = [];
@@ -46,11 +49,11 @@ begin s = record {
 }
 
 -- the state after so many entries of the range's list
-abbrev pub state_at : World → ℕ → Applied
+abbrev pub state_at : World → ℕ → AppliedState
 state_at w i = state w.start (entry w.log) i
 
 -- a node's applied state
-abbrev pub here : World → ℕ → Applied
+abbrev pub here : World → ℕ → AppliedState
 here w node = state_at w (w.index node)
 
 -- what may happen next
@@ -75,7 +78,7 @@ pub data Event : Type 0 where
   Restart : (node : ℕ) → Event
 
 -- on this state the request lies in the bounds, and was evaluated so
-pub record IsEvaluated (s : Applied) (body : Body) : Type 0 where
+pub record IsEvaluated (s : AppliedState) (body : Body) : Type 0 where
   pub bounded : IsTrue (in_bounds s.desc body.request)
   pub evaluation : evaluated s.table s.desc body.request ≡ Ok (record { batch = body.batch; reply = body.reply })
 
@@ -140,7 +143,7 @@ by_verdict c Took = Success c.reply
 by_verdict c (OldLease now) = Refused
 by_verdict c (OldIndex lai) = Waiting
 by_verdict c LeaseMoved = Proposed c.max
-by_verdict c Void = Proposed c.max
+by_verdict c verdicts.Nothing = Proposed c.max
 
 -- the entry is the proposer's own where the attempt is proposed under its maximum
 abbrev pub told : Command → Verdict → Stage → Stage
@@ -154,7 +157,7 @@ told c v (Removed own) = Removed own
 told c v (Restarted own) = Restarted own
 
 -- the attempts after a node applied an entry in a state
-abbrev pub after_entry : ℕ → Applied → Payload → Attempts → Attempts
+abbrev pub after_entry : ℕ → AppliedState → Payload → Attempts → Attempts
 after_entry node s Nothing attempts = attempts
 after_entry node s (Write c) attempts = with_attempt attempts c.id (at_node node (told c (verdict s (Write c))) attempts c.id)
 after_entry node s (Lease ask) attempts = attempts
