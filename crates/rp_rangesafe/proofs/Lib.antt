@@ -4,3 +4,5 @@ pub mod Tables
 pub mod One
 pub mod Moves
 pub mod Turns
+pub mod Worlds
+pub mod Sounds
