@@ -14,7 +14,7 @@ use Rattle.rp_apply.specs.declared.verdicts.Verdict.TheVariants as verdicts
 use Rattle.rp_rangesafe.specs.Attempts.{Body, Stage, Unborn, Waiting, Proposed, Success, Refused, Overtaken, Removed, Restarted, Attempt, IsBorn, IsClosed, IsOpen, IsUntaken, IsAmong, IsOf, staged, proposed}
 use Rattle.rp_rangesafe.specs.Along.{state, Takes}
 use Rattle.rp_rangesafe.specs.World.{IsEvaluated, told, by_verdict, overtaken, removed, restarted}
-use Rattle.rp_rangesafe.proofs.Steps.{Onward, onward_same, old_lease, old_index, no_lease_moved, no_void}
+use Rattle.rp_rangesafe.proofs.Steps.{onward_same, old_lease, old_index, no_lease_moved, no_void}
 use Rattle.rp_rangesafe.proofs.Numbers.{onward, max_once, lai_from, lai_after, blocked_later, blocked_never}
 use Rattle.rp_rangesafe.proofs.One.{PlaceOf, Placed, Made, Good, one_open, place_open, one_place, no_maximum}
 

@@ -7,7 +7,8 @@ use Rattle.rp_request.specs.declared.commands.Command.{Command}
 use Rattle.rp_apply.specs.Applied.{AppliedState, verdict, after, IsBlocked}
 use Rattle.rp_apply.specs.declared.verdicts.Verdict.TheVariants.{Took}
 use Rattle.rp_rangesafe.specs.Along.{state, Takes}
-use Rattle.rp_rangesafe.proofs.Steps.{Onward, onward_same, onward_trans, onward_next, IsTimely, timely, taken_lai, blocked_onward, blocked_untaken}
+use Rattle.rp_rangesafe.specs.Places.{IsOnward}
+use Rattle.rp_rangesafe.proofs.Steps.{onward_same, onward_trans, onward_next, IsTimely, timely, taken_lai, blocked_onward, blocked_untaken}
 
 -- a list that agrees with another below an index comes to the same state there
 pub same_state : (b : AppliedState) (f g : ℕ → Payload) (i : ℕ) → ((k : ℕ) → k < i → f k ≡ g k) → state b f i ≡ state b g i
@@ -15,12 +16,12 @@ same_state b f g zero h = refl
 same_state b f g (suc i) h = ap (λ s. after s (f i)) (same_state b f g i (λ k l. h k (omega arith))) ∙ ap (after (state b g i)) (h i (omega arith))
 
 module _ (b : AppliedState) (f : ℕ → Payload) where
-  pub onward : (i j : ℕ) → i ≤ j → Onward (state b f i) (state b f j)
-  onward i zero l = let e : i ≡ 0 = omega arith in subst (λ k. Onward (state b f k) (state b f 0)) (sym e) (onward_same (state b f 0))
+  pub onward : (i j : ℕ) → i ≤ j → IsOnward (state b f i) (state b f j)
+  onward i zero l = let e : i ≡ 0 = omega arith in subst (λ k. IsOnward (state b f k) (state b f 0)) (sym e) (onward_same (state b f 0))
   onward i (suc j) l = go (cases_lt i (suc j)) (λ k. onward i j k) where
-    go : (i < suc j) ⊎ (suc j ≤ i) → ((i ≤ j) → Onward (state b f i) (state b f j)) → Onward (state b f i) (state b f (suc j))
+    go : (i < suc j) ⊎ (suc j ≤ i) → ((i ≤ j) → IsOnward (state b f i) (state b f j)) → IsOnward (state b f i) (state b f (suc j))
     go (inl lt) ih = onward_trans _ _ _ (ih (omega arith)) (onward_next (state b f j) (f j))
-    go (inr ge) ih = let e : i ≡ suc j = omega arith in subst (λ k. Onward (state b f k) (state b f (suc j))) (sym e) (onward_same (state b f (suc j)))
+    go (inr ge) ih = let e : i ≡ suc j = omega arith in subst (λ k. IsOnward (state b f k) (state b f (suc j))) (sym e) (onward_same (state b f (suc j)))
 
   -- one lease sequence at two indexes has one holder
   pub one_holder : (i j : ℕ) → (state b f i).lease.seq ≡ (state b f j).lease.seq → (state b f i).lease.holder ≡ (state b f j).lease.holder

@@ -7,10 +7,9 @@ use Rattle.rp_request.specs.declared.commands.Payload.TheVariants.{Write}
 use Rattle.rp_request.specs.declared.commands.Command.{Command}
 use Rattle.rp_request.specs.declared.outcomes.Reply.{Reply}
 use Rattle.rp_apply.specs.Applied.{AppliedState, IsBlocked}
-use Rattle.rp_rangesafe.specs.Attempts.{Body, Stage, Unborn, Waiting, Proposed, Success, Refused, Overtaken, Removed, Restarted, Attempt, IsBorn, IsClosed, IsOpen, IsUntaken, IsAmong, IsOf}
+use Rattle.rp_rangesafe.specs.Attempts.{Body, Stage, Unborn, Waiting, Proposed, Success, Refused, Overtaken, Removed, Restarted, Attempt, IsBorn, IsEnded, IsClosed, IsOpen, IsUntaken, IsAmong, IsOf}
 use Rattle.rp_rangesafe.specs.Along.{state, Takes}
 use Rattle.rp_rangesafe.specs.World.{IsEvaluated}
-use Rattle.rp_rangesafe.proofs.Steps.{Onward}
 use Rattle.rp_rangesafe.proofs.Numbers.{onward, max_once, lai_from, blocked_never}
 
 -- a place of the attempt
@@ -71,6 +70,16 @@ closed_shut Refused o h k = k
 closed_shut (Overtaken own passed) o h k = k
 closed_shut (Removed own) o h k = h
 closed_shut (Restarted own) o h k = h
+
+pub closed_ended : (g : Stage) → IsClosed g → IsEnded g
+closed_ended Unborn h = absurd h
+closed_ended Waiting h = absurd h
+closed_ended (Proposed own) h = absurd h
+closed_ended (Success reply) h = tt
+closed_ended Refused h = tt
+closed_ended (Overtaken own passed) h = tt
+closed_ended (Removed own) h = absurd h
+closed_ended (Restarted own) h = absurd h
 
 pub nothing_open : (g : Stage) (o : ℕ) → g ≡ Unborn → IsOpen g o → ⊥
 nothing_open g o e h = subst (λ x. IsOpen x o) e h

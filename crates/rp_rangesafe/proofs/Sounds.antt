@@ -8,7 +8,7 @@ use Rattle.rp_request.specs.declared.commands.Command.{Command}
 use Rattle.rp_request.specs.Covers.{covers, Apart}
 use Rattle.rp_apply.specs.Applied.{AppliedState, verdict, IsBlocked}
 use Rattle.rp_apply.specs.declared.verdicts.Verdict.{Verdict}
-use Rattle.rp_rangesafe.specs.Attempts.{Body, Stage, Unborn, Waiting, Proposed, Success, Refused, Overtaken, Removed, Restarted, Attempt, Attempts, IsBorn, IsPending, IsClosed, IsOpen, IsAmong, IsOf, staged, proposed, with_attempt, at_node}
+use Rattle.rp_rangesafe.specs.Attempts.{Body, Stage, Unborn, Waiting, Proposed, Success, Refused, Overtaken, Removed, Restarted, Attempt, Attempts, IsBorn, IsPending, IsEnded, IsClosed, IsOpen, IsAmong, IsOf, staged, proposed, with_attempt, at_node}
 use Rattle.rp_rangesafe.specs.Along.{entry, state}
 use Rattle.rp_rangesafe.specs.World.{World, state_at, here, begin, Event, Admit, Flush, Return, Refuse, Commit, Apply, Snapshot, Remove, Restart, MayAdmit, IsEvaluated, MayCommit, IsPassed, MayJump, Lawful, admitted, with_node, told, after_entry, overtaken, removed, restarted, turned, happens}
 use Rattle.rp_rangesafe.proofs.Tables.{id_cases, at_attempt, at_same, at_other, at_nodes, node_same, node_other, at_with_node}
@@ -17,46 +17,46 @@ use Rattle.rp_rangesafe.proofs.Moves.{Move, good_moved, stays, returns, refuses,
 use Rattle.rp_rangesafe.proofs.Turns.{same_command, overtakes, passes, tells, hands_out, grows, born_good}
 use Rattle.rp_rangesafe.proofs.Worlds.{Extends, extends_less, extends_last, one_longer, state_so_far, Done, Pair, Sound, Kept, kept_same, pair_swapped, pair_kept, Turn, turn_staged, sound_by}
 
--- ended attempts stay as they are
-told_closed : (c : Command) (v : Verdict) (g : Stage) → IsClosed g → g ≡ told c v g
-told_closed c v Unborn h = refl
-told_closed c v Waiting h = refl
-told_closed c v (Proposed own) h = absurd h
-told_closed c v (Success reply) h = refl
-told_closed c v Refused h = refl
-told_closed c v (Overtaken own passed) h = refl
-told_closed c v (Removed own) h = refl
-told_closed c v (Restarted own) h = refl
+-- an ended attempt stays in its stage
+pub told_ended : (c : Command) (v : Verdict) (g : Stage) → IsEnded g → g ≡ told c v g
+told_ended c v Unborn h = refl
+told_ended c v Waiting h = refl
+told_ended c v (Proposed own) h = absurd h
+told_ended c v (Success reply) h = refl
+told_ended c v Refused h = refl
+told_ended c v (Overtaken own passed) h = refl
+told_ended c v (Removed own) h = refl
+told_ended c v (Restarted own) h = refl
 
-overtaken_closed : (lai : ℕ) (g : Stage) → IsClosed g → g ≡ overtaken lai g
-overtaken_closed lai Unborn h = refl
-overtaken_closed lai Waiting h = refl
-overtaken_closed lai (Proposed own) h = absurd h
-overtaken_closed lai (Success reply) h = refl
-overtaken_closed lai Refused h = refl
-overtaken_closed lai (Overtaken own passed) h = refl
-overtaken_closed lai (Removed own) h = refl
-overtaken_closed lai (Restarted own) h = refl
+pub overtaken_ended : (lai : ℕ) (g : Stage) → IsEnded g → g ≡ overtaken lai g
+overtaken_ended lai Unborn h = refl
+overtaken_ended lai Waiting h = refl
+overtaken_ended lai (Proposed own) h = absurd h
+overtaken_ended lai (Success reply) h = refl
+overtaken_ended lai Refused h = refl
+overtaken_ended lai (Overtaken own passed) h = refl
+overtaken_ended lai (Removed own) h = refl
+overtaken_ended lai (Restarted own) h = refl
 
-removed_closed : (g : Stage) → IsClosed g → g ≡ removed g
-removed_closed Unborn h = refl
-removed_closed Waiting h = absurd h
-removed_closed (Proposed own) h = absurd h
-removed_closed (Success reply) h = refl
-removed_closed Refused h = refl
-removed_closed (Overtaken own passed) h = refl
-removed_closed (Removed own) h = refl
-removed_closed (Restarted own) h = refl
+pub removed_ended : (g : Stage) → IsEnded g → g ≡ removed g
+removed_ended Unborn h = refl
+removed_ended Waiting h = absurd h
+removed_ended (Proposed own) h = absurd h
+removed_ended (Success reply) h = refl
+removed_ended Refused h = refl
+removed_ended (Overtaken own passed) h = refl
+removed_ended (Removed own) h = refl
+removed_ended (Restarted own) h = refl
 
-restarted_closed : (g : Stage) → IsClosed g → g ≡ restarted g
-restarted_closed Unborn h = refl
-restarted_closed Waiting h = absurd h
-restarted_closed (Proposed own) h = absurd h
-restarted_closed (Success reply) h = refl
-restarted_closed Refused h = refl
-restarted_closed (Overtaken own passed) h = refl
-restarted_closed (Removed own) h = refl
-restarted_closed (Restarted own) h = refl
+pub restarted_ended : (g : Stage) → IsEnded g → g ≡ restarted g
+restarted_ended Unborn h = refl
+restarted_ended Waiting h = absurd h
+restarted_ended (Proposed own) h = absurd h
+restarted_ended (Success reply) h = refl
+restarted_ended Refused h = refl
+restarted_ended (Overtaken own passed) h = refl
+restarted_ended (Removed own) h = refl
+restarted_ended (Restarted own) h = refl
 
 module _ (f : ℕ → Payload) (w : World) (s : Sound f w) where
   abbrev b : AppliedState
@@ -75,19 +75,19 @@ module _ (f : ℕ → Payload) (w : World) (s : Sound f w) where
   sound_flush : (id : CmdId) (max : ℕ) → (w.attempt id).stage ≡ Waiting → 0 < max → Sound f (happens w (Flush id max))
   sound_flush id max e pos = one_turns id (proposed (w.attempt id) max) (record {
     good = hands_out (s.good id) max e pos;
-    kept = record { node = refl; start = refl; seq = refl; body = refl; born = λ _. subst IsBorn (sym e) tt; closed = λ h. absurd (subst IsClosed e h) };
+    kept = record { node = refl; start = refl; seq = refl; body = refl; born = λ _. subst IsBorn (sym e) tt; ended = λ h. absurd (subst IsEnded e h) };
   })
 
   sound_refuse : (id : CmdId) → (w.attempt id).stage ≡ Waiting → Sound f (happens w (Refuse id))
   sound_refuse id e = one_turns id (staged (w.attempt id) Refused)
-      (turn_staged (s.good id) (refuses (s.good id) _ _ e (s.within _)) (λ h. absurd (subst IsClosed e h)))
+      (turn_staged (s.good id) (refuses (s.good id) _ _ e (s.within _)) (λ h. absurd (subst IsEnded e h)))
 
   module _ (x : Extends f w.log) where
     sound_return : (id : CmdId) → IsPassed w id → Sound f (happens w (Return id))
     sound_return id h = one_turns id (staged (w.attempt id) Waiting)
         (turn_staged (s.good id)
         (returns (s.good id) h.own h.stage (s.within _) (subst (λ (t : AppliedState). h.own ≤ t.lai) (state_so_far f w x _ (s.within _)) h.passed))
-        (λ c. absurd (subst IsClosed h.stage c)))
+        (λ c. absurd (subst IsEnded h.stage c)))
 
     -- a node goes on to a later index
     module _ (node to : ℕ) (live : w.alive node ≡ true) where
@@ -120,7 +120,7 @@ module _ (f : ℕ → Payload) (w : World) (s : Sound f w) where
         (at_nodes (Goes node to h.live) node (overtaken (state b f to).lai) w.attempt
         (λ q e. goes_here node to h.live q _ e (turn_staged (s.good q)
         (overtakes (s.good q) (alive_there node to h.live q e) to (subst (λ m. w.index m ≤ to) (sym e) h.onward) h.within)
-        (overtaken_closed _ _)))
+        (overtaken_ended _ _)))
         (goes_elsewhere node to h.live)))
 
     module _ (node : ℕ) (live : w.alive node ≡ true) (some : w.index node < n) where
@@ -144,7 +144,7 @@ module _ (f : ℕ → Payload) (w : World) (s : Sound f w) where
           (turn_staged (s.good q)
           (tells (s.good q) (alive_there node (suc p) live q e) (subst (λ m. w.index m < n) (sym e) some) c
           (subst (λ m. f (w.index m) ≡ Write c) (sym e) h) i)
-          (told_closed c _ _)))
+          (told_ended c _ _)))
 
       entry_goes : (y : Payload) → f p ≡ y → (q : CmdId) → Goes node (suc p) live q (after_entry node (state b f p) y w.attempt q)
       entry_goes Nothing h q = entry_passes q (λ c e i. absurd cc)
@@ -194,7 +194,7 @@ module _ (f : ℕ → Payload) (w : World) (s : Sound f w) where
     there : (q : CmdId) → (w.attempt q).node ≡ node → (g : Stage) → (w.attempt q).stage ≡ g → Dies q (staged (w.attempt q) (removed (w.attempt q).stage))
     there q e g h = subst (λ v. Turn b f n (w.index (w.attempt q).node) v (w.barrier (w.attempt q).node) q (w.attempt q) (staged (w.attempt q) (removed (w.attempt q).stage)))
         (sym (subst (λ m. with_node w.alive node false m ≡ false) (sym e) (node_same w.alive node false)))
-        (turn_staged (s.good q) (move q (w.attempt q).stage refl) (removed_closed _))
+        (turn_staged (s.good q) (move q (w.attempt q).stage refl) (removed_ended _))
 
   module _ (x : Extends f w.log) where
     module _ (node : ℕ) where
@@ -233,7 +233,7 @@ module _ (f : ℕ → Payload) (w : World) (s : Sound f w) where
       resumes_there : (q : CmdId) → (w.attempt q).node ≡ node → Resumes q (staged (w.attempt q) (restarted (w.attempt q).stage))
       resumes_there q e = subst (λ v. Turn b f n (w.index (w.attempt q).node) (w.alive (w.attempt q).node) v q (w.attempt q) (staged (w.attempt q) (restarted (w.attempt q).stage)))
           (sym (subst (λ m. with_node w.barrier node bar m ≡ bar) (sym e) (node_same w.barrier node bar)))
-          (turn_staged (s.good q) (resumes_move q (subst (λ m. (state b f (w.index m)).lease.seq ≤ bar) (sym e) (omega arith)) (w.attempt q).stage refl) (restarted_closed _))
+          (turn_staged (s.good q) (resumes_move q (subst (λ m. (state b f (w.index m)).lease.seq ≤ bar) (sym e) (omega arith)) (w.attempt q).stage refl) (restarted_ended _))
 
       sound_restart : Sound f (happens w (Restart node))
       sound_restart =

@@ -14,22 +14,15 @@ use Rattle.rp_request.specs.declared.commands.Payload.{Payload}
 use Rattle.rp_request.specs.declared.commands.Payload.TheVariants.{Nothing, Write, Lease}
 use Rattle.rp_request.specs.declared.commands.Command.{Command}
 use Rattle.rp_apply.specs.Applied.{AppliedState, verdict, after, written, leased, desc_after, left_of, command_verdict, asked, IsBlocked}
+use Rattle.rp_rangesafe.specs.Places.{IsOnward}
 use Rattle.rp_apply.specs.declared.verdicts.Verdict.{Verdict}
 use Rattle.rp_apply.specs.declared.verdicts.Verdict.TheVariants.{Took, OldLease, OldIndex, LeaseMoved}
 use Rattle.rp_apply.specs.declared.verdicts.Verdict.TheVariants as verdicts
 
--- the numbers of a range do not fall, its number stays, and one lease sequence has one holder
-pub record Onward (s t : AppliedState) : Type 0 where
-  pub lai : s.lai ≤ t.lai
-  pub seq : s.lease.seq ≤ t.lease.seq
-  pub level : s.desc.level ≤ t.desc.level
-  pub id : s.desc.id ≡ t.desc.id
-  pub holder : s.lease.seq ≡ t.lease.seq → s.lease.holder ≡ t.lease.holder
-
-pub onward_same : (s : AppliedState) → Onward s s
+pub onward_same : (s : AppliedState) → IsOnward s s
 onward_same s = record { lai = omega arith; seq = omega arith; level = omega arith; id = refl; holder = λ _. refl }
 
-pub onward_trans : (s t u : AppliedState) → Onward s t → Onward t u → Onward s u
+pub onward_trans : (s t u : AppliedState) → IsOnward s t → IsOnward t u → IsOnward s u
 onward_trans s t u a b = record {
   lai = omega arith;
   seq = omega arith;
@@ -105,7 +98,7 @@ no_void s c e = subst (Means s c) e (means s c)
 pub taken_lai : (s : AppliedState) (c : Command) → verdict s (Write c) ≡ Took → (after s (Write c)).lai ≡ c.max
 taken_lai s c e = ap (λ v. (written s c v).lai) e
 
-onward_written : (s : AppliedState) (c : Command) (v : Verdict) → verdict s (Write c) ≡ v → Onward s (written s c v)
+onward_written : (s : AppliedState) (c : Command) (v : Verdict) → verdict s (Write c) ≡ v → IsOnward s (written s c v)
 onward_written s c Took e =
     let t = timely s c e in
     let cut = cut_after s.desc c.request in
@@ -115,22 +108,22 @@ onward_written s c (OldIndex lai) e = onward_same s
 onward_written s c LeaseMoved e = onward_same s
 onward_written s c verdicts.Nothing e = onward_same s
 
-onward_leased : (s : AppliedState) (ask : LeaseAsk) → Onward s (leased s (asked s ask))
+onward_leased : (s : AppliedState) (ask : LeaseAsk) → IsOnward s (leased s (asked s ask))
 unfolding asked
 onward_leased s ask = go (ask.prev == s.lease.seq) (ask.holder == s.lease.holder) where
-  go : (a b : Bool) → Onward s (leased s (cond a (Some (cond b (extended s.lease ask) (moved s.lease ask))) None))
+  go : (a b : Bool) → IsOnward s (leased s (cond a (Some (cond b (extended s.lease ask) (moved s.lease ask))) None))
   go true true = record { lai = omega arith; seq = omega arith; level = omega arith; id = refl; holder = λ _. refl }
   go true false = record { lai = omega arith; seq = omega arith; level = omega arith; id = refl; holder = λ e. absurd (omega arith) }
   go false b = onward_same s
 
 -- one entry keeps the numbers from falling
-pub onward_next : (s : AppliedState) (p : Payload) → Onward s (after s p)
+pub onward_next : (s : AppliedState) (p : Payload) → IsOnward s (after s p)
 onward_next s Nothing = onward_same s
 onward_next s (Write c) = onward_written s c (verdict s (Write c)) refl
 onward_next s (Lease ask) = onward_leased s ask
 
 -- what is blocked stays so
-pub blocked_onward : (s t : AppliedState) (seq max : ℕ) → Onward s t → IsBlocked s seq max → IsBlocked t seq max
+pub blocked_onward : (s t : AppliedState) (seq max : ℕ) → IsOnward s t → IsBlocked s seq max → IsBlocked t seq max
 blocked_onward s t seq max o = go where
   go : IsBlocked s seq max → IsBlocked t seq max
   go (inl le) = inl (omega arith)

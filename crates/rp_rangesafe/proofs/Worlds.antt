@@ -8,11 +8,11 @@ use Rattle.rp_request.specs.declared.commands.Payload.{Payload}
 use Rattle.rp_request.specs.declared.commands.Payload.TheVariants.{Nothing}
 use Rattle.rp_request.specs.Covers.{covers, Apart}
 use Rattle.rp_apply.specs.Applied.{AppliedState, IsBlocked}
-use Rattle.rp_rangesafe.specs.Attempts.{Body, Stage, Attempt, Attempts, IsBorn, IsClosed, IsAmong, staged}
+use Rattle.rp_rangesafe.specs.Attempts.{Body, Stage, Attempt, Attempts, IsBorn, IsEnded, IsClosed, IsAmong, staged}
 use Rattle.rp_rangesafe.specs.Along.{entry, state}
 use Rattle.rp_rangesafe.specs.World.{World, state_at, begin}
 use Rattle.rp_rangesafe.proofs.Numbers.{same_state}
-use Rattle.rp_rangesafe.proofs.One.{Good}
+use Rattle.rp_rangesafe.proofs.One.{Good, closed_ended}
 use Rattle.rp_rangesafe.proofs.Moves.{Move, good_moved}
 use Rattle.rp_rangesafe.proofs.Turns.{unborn_good}
 
@@ -60,10 +60,10 @@ pub record Kept (x x' : Attempt) : Type 0 where
   pub seq : x.seq ≡ x'.seq
   pub body : x.body ≡ x'.body
   pub born : IsBorn x'.stage → IsBorn x.stage
-  pub closed : IsClosed x.stage → x ≡ x'
+  pub ended : IsEnded x.stage → x ≡ x'
 
 pub kept_same : (x : Attempt) → Kept x x
-kept_same x = record { node = refl; start = refl; seq = refl; body = refl; born = λ h. h; closed = λ _. refl }
+kept_same x = record { node = refl; start = refl; seq = refl; body = refl; born = λ h. h; ended = λ _. refl }
 
 apart_swapped : (p r : ℕ → Bool) → Apart p r → Apart r p
 apart_swapped p r h key t = go (p key) refl where
@@ -87,8 +87,8 @@ pair_kept b f x y x' y' h k l = record { apart = λ hx hy e s. go (h.apart (k.bo
   go : Apart (covers x.body.request) (covers y.body.request) ⊎ (Done b f x y.from ⊎ Done b f y x.from)
       → Apart (covers x'.body.request) (covers y'.body.request) ⊎ (Done b f x' y'.from ⊎ Done b f y' x'.from)
   go (inl a) = inl (bodies a)
-  go (inr (inl d)) = inr (inl (subst (λ z. Done b f z y'.from) (k.closed d.closed) (subst (Done b f x) l.start d)))
-  go (inr (inr d)) = inr (inr (subst (λ z. Done b f z x'.from) (l.closed d.closed) (subst (Done b f y) k.start d)))
+  go (inr (inl d)) = inr (inl (subst (λ z. Done b f z y'.from) (k.ended (closed_ended x.stage d.closed)) (subst (Done b f x) l.start d)))
+  go (inr (inr d)) = inr (inr (subst (λ z. Done b f z x'.from) (l.ended (closed_ended y.stage d.closed)) (subst (Done b f y) k.start d)))
 
 -- an attempt before and after an event
 pub record Turn (b : AppliedState) (f : ℕ → Payload) (n p : ℕ) (alive : Bool) (bar : ℕ) (id : CmdId) (a x : Attempt) : Type 0 where
@@ -97,11 +97,11 @@ pub record Turn (b : AppliedState) (f : ℕ → Payload) (n p : ℕ) (alive : Bo
 
 -- it goes to another stage
 pub turn_staged : {b : AppliedState} {f : ℕ → Payload} {n p : ℕ} {alive : Bool} {bar : ℕ} {id : CmdId} {a : Attempt} (x : Good b f n p alive bar id a)
-    {q : ℕ} {alive' : Bool} {bar' : ℕ} {g : Stage} → Move b f n p q alive' bar' id a g → (IsClosed a.stage → a.stage ≡ g)
+    {q : ℕ} {alive' : Bool} {bar' : ℕ} {g : Stage} → Move b f n p q alive' bar' id a g → (IsEnded a.stage → a.stage ≡ g)
     → Turn b f n q alive' bar' id a (staged a g)
-turn_staged {a} x m closed = record {
+turn_staged {a} x m ended = record {
   good = good_moved x m;
-  kept = record { node = refl; start = refl; seq = refl; body = refl; born = λ h. m.born h; closed = λ h. ap (staged a) (closed h) };
+  kept = record { node = refl; start = refl; seq = refl; body = refl; born = λ h. m.born h; ended = λ h. ap (staged a) (ended h) };
 }
 
 -- all attempts turn, and the range stays sound

@@ -63,6 +63,17 @@ IsPending (Overtaken own passed) = ⊥
 IsPending (Removed own) = ⊥
 IsPending (Restarted own) = ⊥
 
+-- it has ended
+abbrev pub IsEnded : Stage → Type 0
+IsEnded Unborn = ⊥
+IsEnded Waiting = ⊥
+IsEnded (Proposed own) = ⊥
+IsEnded (Success reply) = Unit {0}
+IsEnded Refused = Unit {0}
+IsEnded (Overtaken own passed) = Unit {0}
+IsEnded (Removed own) = Unit {0}
+IsEnded (Restarted own) = Unit {0}
+
 -- it has ended, and nothing of it can be taken any more
 abbrev pub IsClosed : Stage → Type 0
 IsClosed Unborn = ⊥

@@ -1,3 +1,4 @@
 pub mod Attempts
 pub mod Along
 pub mod World
+pub mod Places
