@@ -6,3 +6,6 @@ pub mod Moves
 pub mod Turns
 pub mod Worlds
 pub mod Sounds
+pub mod Growth
+pub mod Runs
+pub mod Answers

@@ -1,0 +1,105 @@
+-- Laws of one range.
+use Rattle.std.proofs.Common.{◌≡◌, ℕ, zero, suc, ◌<◌, ◌≤◌, ◌⊎◌, inl, inr, List, [], ◌∷◌, ◌++◌, length, refl, sym, ap, subst, ◌∙◌, arith}
+use Rattle.std.proofs.lemmas.Bool.{cases_lt}
+use Rattle.rp_base.specs.declared.ids.CmdId.{CmdId}
+use Rattle.rp_request.specs.declared.commands.Payload.{Payload}
+use Rattle.rp_request.specs.declared.commands.Command.{Command}
+use Rattle.rp_request.specs.declared.outcomes.Reply.{Reply}
+use Rattle.rp_apply.specs.Applied.{AppliedState, IsBlocked}
+use Rattle.rp_rangesafe.specs.Attempts.{Stage, Unborn, Waiting, Proposed, Success, Refused, Overtaken, Removed, Restarted, Attempt, IsBorn, IsEnded, IsOpen, IsUntaken, IsAmong}
+use Rattle.rp_rangesafe.specs.Along.{entry, state, Takes}
+use Rattle.rp_rangesafe.specs.World.{World, here, state_at}
+use Rattle.rp_rangesafe.specs.Places.{IsReached, IsLater, IsOnward, IsPlace, IsDeadByStage, IsDeadForGood, HasNever, IsPlacedWith}
+use Rattle.rp_rangesafe.proofs.Numbers.{onward, one_holder, blocked_never}
+use Rattle.rp_rangesafe.proofs.One.{PlaceOf, Placed, Made, Good, one_place, never, place_open, one_open, no_maximum}
+use Rattle.rp_rangesafe.proofs.Worlds.{Extends, extends_itself, state_so_far, Sound}
+use Rattle.rp_rangesafe.proofs.Growth.{Same, Grown}
+use Rattle.rp_rangesafe.proofs.Runs.{sound_reached, later_itself, later_grown, Ahead, ahead, place_of, place_from}
+
+pub numbers_rise : (w : World) (i j : ℕ) → i ≤ j → IsOnward (state_at w i) (state_at w j)
+numbers_rise w = onward w.start (entry w.log)
+
+pub holder_by_sequence : (w : World) (i j : ℕ) → (state_at w i).lease.seq ≡ (state_at w j).lease.seq → (state_at w i).lease.holder ≡ (state_at w j).lease.holder
+holder_by_sequence w = one_holder w.start (entry w.log)
+
+itself : (w : World) → IsReached w → Sound (entry w.log) w
+itself w r = sound_reached (entry w.log) w r (extends_itself w.log)
+
+pub dead_by_stage : (w : World) → IsReached w → (id : CmdId) → IsDeadByStage w id
+dead_by_stage w r id = let g = (itself w r).good id in record {
+  untaken = λ h k c l p. g.untaken h k c l (place_of w id k c p);
+  blocked = g.blocked;
+}
+
+-- an attempt with a maximum was admitted
+born_with : (a : Attempt) (m : ℕ) → (a.stage ≡ Unborn → a.maxima ≡ []) → IsAmong a.maxima m → IsBorn a.stage
+born_with a m fresh h = go a.stage refl where
+  go : (g : Stage) → a.stage ≡ g → IsBorn g
+  go Unborn e = no_maximum a.maxima m (fresh e) h
+  go Waiting e = tt
+  go (Proposed own) e = tt
+  go (Success reply) e = tt
+  go Refused e = tt
+  go (Overtaken own passed) e = tt
+  go (Removed own) e = tt
+  go (Restarted own) e = tt
+
+pub dead_for_good : (w : World) → IsReached w → (id : CmdId) (m : ℕ) → IsAmong (w.attempt id).maxima m
+    → (IsOpen (w.attempt id).stage m → ⊥) → IsDeadForGood w id m
+dead_for_good w r id m among shut later k c l p same = go (cases_lt k (w.index (w.attempt id).node)) ((g.blocked) m among) where
+  x : Ahead w later
+  x = ahead w later r l
+  g : Good w.start (entry later.log) (length w.log) (w.index (w.attempt id).node) (w.alive (w.attempt id).node) (w.barrier (w.attempt id).node) id (w.attempt id)
+  g = x.now.good id
+  seq_same : c.seq ≡ (w.attempt id).seq
+  seq_same = ((x.then.good id).entries k c p.within p.takes.here p.named).of.seq ∙ sym ((later_grown w later l id).same (born_with (w.attempt id) m g.fresh among)).seq
+  go : (k < w.index (w.attempt id).node) ⊎ (w.index (w.attempt id).node ≤ k)
+      → IsOpen (w.attempt id).stage m ⊎ IsBlocked (state w.start (entry later.log) (w.index (w.attempt id).node)) (w.attempt id).seq m
+      → k < w.index (w.attempt id).node
+  go (inl lt) h = lt
+  go (inr ge) (inl o) = absurd (shut o)
+  go (inr ge) (inr blocked) = absurd (blocked_never w.start (entry later.log) (w.index (w.attempt id).node) k c (w.attempt id).seq ge seq_same
+      (subst (IsBlocked (state w.start (entry later.log) (w.index (w.attempt id).node)) (w.attempt id).seq) (sym same) blocked)
+      (place_from w later x.start id k c p).takes)
+
+pub one_place_of : (w : World) → IsReached w → (id : CmdId) (j k : ℕ) (c d : Command) → IsPlace w id j c → IsPlace w id k d → j ≡ k
+one_place_of w r id j k c d p q = one_place ((itself w r).good id) j k c d p.within q.within (place_of w id j c p) (place_of w id k d q)
+
+-- an ended attempt is the same in what comes later
+still : (w later : World) → IsLater w later → (id : CmdId) (g : Stage) → (w.attempt id).stage ≡ g → IsEnded g → (later.attempt id).stage ≡ g
+still w later l id g e h = ap (λ (a : Attempt). a.stage) (sym ((later_grown w later l id).ended (subst IsEnded (sym e) h))) ∙ e
+
+pub refused_never : (w : World) → IsReached w → (id : CmdId) → (w.attempt id).stage ≡ Refused → HasNever w id
+refused_never w r id e later k c l p =
+    let x = ahead w later r l in
+    let s = still w later l id Refused e tt in
+    never (x.then.good id) (subst IsUntaken (sym s) tt) (λ o h. subst (λ g. IsOpen g o) s h) k c p.within (place_of later id k c p)
+
+pub success_is_placed : (w : World) → IsReached w → (id : CmdId) (reply : Reply) → (w.attempt id).stage ≡ Success reply → IsPlacedWith w id reply
+success_is_placed w r id reply e =
+    let s = itself w r in
+    let t = (s.good id).success reply e in
+    record {
+      index = t.k;
+      command = t.c;
+      place = record { within = let l = t.below in let m = s.within (w.attempt id).node in omega arith; takes = t.place.takes; named = t.place.named };
+      answers = t.answers;
+    }
+
+pub overtaken_passed : (w : World) → IsReached w → (id : CmdId) (own passed : ℕ) → (w.attempt id).stage ≡ Overtaken own passed → (0 < own) × (own ≤ passed)
+overtaken_passed w r id = ((itself w r).good id).overtaken
+
+pub open_positive : (w : World) → IsReached w → (id : CmdId) (own : ℕ) → IsOpen (w.attempt id).stage own → 0 < own
+open_positive w r id = ((itself w r).good id).positive
+
+-- an attempt that a restart ended is taken under its last maximum alone
+pub restarted_own : (w : World) → IsReached w → (id : CmdId) (own : ℕ) → (w.attempt id).stage ≡ Restarted own
+    → (later : World) (k : ℕ) (c : Command) → IsLater w later → IsPlace later id k c → c.max ≡ own
+restarted_own w r id own e later k c l p = go (cases_lt k (later.index (later.attempt id).node)) where
+  x : Ahead w later
+  x = ahead w later r l
+  s : (later.attempt id).stage ≡ Restarted own
+  s = still w later l id (Restarted own) e tt
+  go : (k < later.index (later.attempt id).node) ⊎ (later.index (later.attempt id).node ≤ k) → c.max ≡ own
+  go (inl lt) = (x.then.good id).only own (subst (λ g. IsOpen g own) (sym s) refl) k c lt (place_of later id k c p)
+  go (inr ge) = subst (λ g. IsOpen g c.max) s (place_open (x.then.good id) k c ge p.within (place_of later id k c p))
