@@ -11,7 +11,7 @@ use Rattle.rp_rangesafe.specs.Along.{entry, state, Takes}
 use Rattle.rp_rangesafe.specs.World.{World, here, state_at}
 use Rattle.rp_rangesafe.specs.Places.{IsReached, IsLater, IsOnward, IsPlace, IsDeadByStage, IsDeadForGood, HasNever, IsPlacedWith}
 use Rattle.rp_rangesafe.proofs.Numbers.{onward, one_holder, blocked_never}
-use Rattle.rp_rangesafe.proofs.One.{PlaceOf, Placed, Made, Good, one_place, never, place_open, one_open, no_maximum}
+use Rattle.rp_rangesafe.proofs.One.{PlaceOf, Placed, Made, Good, one_place, never, place_open, one_open, born_with}
 use Rattle.rp_rangesafe.proofs.Worlds.{Extends, extends_itself, state_so_far, Sound}
 use Rattle.rp_rangesafe.proofs.Growth.{Same, Grown}
 use Rattle.rp_rangesafe.proofs.Runs.{sound_reached, later_itself, later_grown, Ahead, ahead, place_of, place_from}
@@ -30,19 +30,6 @@ dead_by_stage w r id = let g = (itself w r).good id in record {
   untaken = λ h k c l p. g.untaken h k c l (place_of w id k c p);
   blocked = g.blocked;
 }
-
--- an attempt with a maximum was admitted
-born_with : (a : Attempt) (m : ℕ) → (a.stage ≡ Unborn → a.maxima ≡ []) → IsAmong a.maxima m → IsBorn a.stage
-born_with a m fresh h = go a.stage refl where
-  go : (g : Stage) → a.stage ≡ g → IsBorn g
-  go Unborn e = no_maximum a.maxima m (fresh e) h
-  go Waiting e = tt
-  go (Proposed own) e = tt
-  go (Success reply) e = tt
-  go Refused e = tt
-  go (Overtaken own passed) e = tt
-  go (Removed own) e = tt
-  go (Restarted own) e = tt
 
 pub dead_for_good : (w : World) → IsReached w → (id : CmdId) (m : ℕ) → IsAmong (w.attempt id).maxima m
     → (IsOpen (w.attempt id).stage m → ⊥) → IsDeadForGood w id m

@@ -9,3 +9,4 @@ pub mod Sounds
 pub mod Growth
 pub mod Runs
 pub mod Answers
+pub mod Untouched

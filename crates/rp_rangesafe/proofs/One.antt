@@ -88,6 +88,19 @@ nothing_open g o e h = subst (λ x. IsOpen x o) e h
 pub no_maximum : (xs : List ℕ) (m : ℕ) → xs ≡ [] → IsAmong xs m → ⊥
 no_maximum xs m e h = subst (λ x. IsAmong x m) e h
 
+-- an attempt with a maximum was admitted
+pub born_with : (a : Attempt) (m : ℕ) → (a.stage ≡ Unborn → a.maxima ≡ []) → IsAmong a.maxima m → IsBorn a.stage
+born_with a m fresh h = go a.stage refl where
+  go : (g : Stage) → a.stage ≡ g → IsBorn g
+  go Unborn e = no_maximum a.maxima m (fresh e) h
+  go Waiting e = tt
+  go (Proposed own) e = tt
+  go (Success reply) e = tt
+  go Refused e = tt
+  go (Overtaken own passed) e = tt
+  go (Removed own) e = tt
+  go (Restarted own) e = tt
+
 module _ {b : AppliedState} {f : ℕ → Payload} {n p : ℕ} {alive : Bool} {bar : ℕ} {id : CmdId} {a : Attempt} (g : Good b f n p alive bar id a) where
   -- a place that the node has not applied has the open maximum
   pub place_open : (k : ℕ) (c : Command) → p ≤ k → k < n → PlaceOf b f id k c → IsOpen a.stage c.max

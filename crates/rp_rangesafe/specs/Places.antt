@@ -7,7 +7,7 @@ use Rattle.rp_request.specs.declared.items.Place.{Place}
 use Rattle.rp_request.specs.Items as items
 use Rattle.rp_request.specs.Records.{applied}
 use Rattle.rp_apply.specs.Applied.{AppliedState, records_of, IsBlocked}
-use Rattle.rp_rangesafe.specs.Attempts.{Stage, Refused, Success, Overtaken, Removed, Restarted, Attempt, IsAmong, IsOpen, IsUntaken}
+use Rattle.rp_rangesafe.specs.Attempts.{Body, Stage, Refused, Success, Overtaken, Removed, Restarted, Attempt, IsAmong, IsOpen, IsUntaken}
 use Rattle.rp_rangesafe.specs.Along.{entry, state, Takes}
 use Rattle.rp_rangesafe.specs.World.{World, state_at, here, begin, Event, AllLawful, run}
 
@@ -68,3 +68,7 @@ shown s = record { table = s.table; desc = s.desc; lease = s.lease }
 -- the items of so many entries of the list
 abbrev pub items_to : World → ℕ → List Place
 items_to w i = applied (records_of w.start (take i w.log))
+
+-- what a command carries of its evaluation
+abbrev pub body_of : Command → Body
+body_of c = record { request = c.request; batch = c.batch; reply = c.reply }
