@@ -10,3 +10,5 @@ pub mod Growth
 pub mod Runs
 pub mod Answers
 pub mod Untouched
+pub mod Folds
+pub mod Listed
