@@ -132,3 +132,79 @@ grown w (Restart node) h q = grown_there w.attempt node restarted restarted_born
 pub grown_run : (w : World) (es : List Event) → AllLawful w es → (q : CmdId) → Grown (w.attempt q) ((run w es).attempt q)
 grown_run w [] h q = grown_itself (w.attempt q)
 grown_run w (e ∷ es) h q = grown_further _ _ _ (grown w e h.0 q) (grown_run (happens w e) es h.1 q)
+
+-- no event but an admission makes an attempt
+told_back : (c : Command) (v : Verdict) (g : Stage) → IsBorn (told c v g) → IsBorn g
+told_back c v Unborn h = h
+told_back c v Waiting h = tt
+told_back c v (Proposed own) h = tt
+told_back c v (Success reply) h = tt
+told_back c v Refused h = tt
+told_back c v (Overtaken own passed) h = tt
+told_back c v (Removed own) h = tt
+told_back c v (Restarted own) h = tt
+
+overtaken_back : (lai : ℕ) (g : Stage) → IsBorn (overtaken lai g) → IsBorn g
+overtaken_back lai Unborn h = h
+overtaken_back lai Waiting h = tt
+overtaken_back lai (Proposed own) h = tt
+overtaken_back lai (Success reply) h = tt
+overtaken_back lai Refused h = tt
+overtaken_back lai (Overtaken own passed) h = tt
+overtaken_back lai (Removed own) h = tt
+overtaken_back lai (Restarted own) h = tt
+
+removed_back : (g : Stage) → IsBorn (removed g) → IsBorn g
+removed_back Unborn h = h
+removed_back Waiting h = tt
+removed_back (Proposed own) h = tt
+removed_back (Success reply) h = tt
+removed_back Refused h = tt
+removed_back (Overtaken own passed) h = tt
+removed_back (Removed own) h = tt
+removed_back (Restarted own) h = tt
+
+restarted_back : (g : Stage) → IsBorn (restarted g) → IsBorn g
+restarted_back Unborn h = h
+restarted_back Waiting h = tt
+restarted_back (Proposed own) h = tt
+restarted_back (Success reply) h = tt
+restarted_back Refused h = tt
+restarted_back (Overtaken own passed) h = tt
+restarted_back (Removed own) h = tt
+restarted_back (Restarted own) h = tt
+
+module _ (f : Attempts) where
+  back_at : (id : CmdId) (a : Attempt) → (IsBorn a.stage → IsBorn (f id).stage) → (q : CmdId) → IsBorn (with_attempt f id a q).stage → IsBorn (f q).stage
+  back_at id a h = at_attempt (λ q x. IsBorn x.stage → IsBorn (f q).stage) f id a h (λ q _ b. b)
+
+  back_there : (node : ℕ) (m : Stage → Stage) → ((g : Stage) → IsBorn (m g) → IsBorn g) → (q : CmdId) → IsBorn (at_node node m f q).stage → IsBorn (f q).stage
+  back_there node m back = at_nodes (λ q x. IsBorn x.stage → IsBorn (f q).stage) node m f (λ q _. back (f q).stage) (λ q _ b. b)
+
+  back_entry : (node : ℕ) (s : AppliedState) (p : Payload) (q : CmdId) → IsBorn (after_entry node s p f q).stage → IsBorn (f q).stage
+  back_entry node s Nothing q h = h
+  back_entry node s (Write c) q h = back_at c.id (at_node node (told c (verdict s (Write c))) f c.id) (back_there node (told c (verdict s (Write c))) (told_back c _) c.id) q h
+  back_entry node s (Lease ask) q h = h
+
+-- the attempt that an event admits
+abbrev pub Admits : Event → CmdId → Type 0
+Admits (Admit id node body) q = q ≡ id
+Admits (Flush id max) q = ⊥
+Admits (Return id) q = ⊥
+Admits (Refuse id) q = ⊥
+Admits (Commit p) q = ⊥
+Admits (Apply node) q = ⊥
+Admits (Snapshot node to) q = ⊥
+Admits (Remove node) q = ⊥
+Admits (Restart node) q = ⊥
+
+pub made_before : (w : World) (e : Event) → Lawful w e → (q : CmdId) → IsBorn ((happens w e).attempt q).stage → IsBorn (w.attempt q).stage ⊎ Admits e q
+made_before w (Admit id node body) h q b = at_attempt (λ r x. IsBorn x.stage → IsBorn (w.attempt r).stage ⊎ (r ≡ id)) w.attempt id (admitted w node body) (λ _. inr refl) (λ r _ k. inl k) q b
+made_before w (Flush id max) h q b = inl (back_at w.attempt id (proposed (w.attempt id) max) (λ _. subst IsBorn (sym h.0) tt) q b)
+made_before w (Return id) h q b = inl (back_at w.attempt id (staged (w.attempt id) Waiting) (λ _. subst IsBorn (sym h.stage) tt) q b)
+made_before w (Refuse id) h q b = inl (back_at w.attempt id (staged (w.attempt id) Refused) (λ _. subst IsBorn (sym h) tt) q b)
+made_before w (Commit p) h q b = inl b
+made_before w (Apply node) h q b = inl (back_entry w.attempt node (here w node) (entry w.log (w.index node)) q b)
+made_before w (Snapshot node to) h q b = inl (back_there w.attempt node (overtaken (state_at w to).lai) (overtaken_back _) q b)
+made_before w (Remove node) h q b = inl (back_there w.attempt node removed removed_back q b)
+made_before w (Restart node) h q b = inl (back_there w.attempt node restarted restarted_back q b)

@@ -12,3 +12,4 @@ pub mod Answers
 pub mod Untouched
 pub mod Folds
 pub mod Listed
+pub mod Whole
