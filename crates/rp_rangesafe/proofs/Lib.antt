@@ -13,3 +13,4 @@ pub mod Untouched
 pub mod Folds
 pub mod Listed
 pub mod Whole
+pub mod Once
