@@ -1,18 +1,22 @@
 -- Laws of one range.
-use Rattle.std.proofs.Common.{◌≡◌, ℕ, zero, suc, ◌<◌, ◌≤◌, ◌⊎◌, inl, inr, List, [], ◌∷◌, ◌++◌, length, refl, sym, ap, subst, ◌∙◌, arith}
+use Rattle.std.proofs.Common.{◌≡◌, ℕ, zero, suc, ◌<◌, ◌≤◌, ◌⊎◌, inl, inr, List, [], ◌∷◌, ◌++◌, length, Some, refl, sym, ap, subst, ◌∙◌, arith}
 use Rattle.std.proofs.lemmas.Bool.{cases_lt}
 use Rattle.rp_base.specs.declared.ids.CmdId.{CmdId}
 use Rattle.rp_request.specs.declared.commands.Payload.{Payload}
 use Rattle.rp_request.specs.declared.commands.Command.{Command}
 use Rattle.rp_request.specs.declared.outcomes.Reply.{Reply}
+use Rattle.rp_request.specs.Items as items
+use Rattle.rp_eval.specs.Evaluations.{Does}
 use Rattle.rp_apply.specs.Applied.{AppliedState, IsBlocked}
 use Rattle.rp_rangesafe.specs.Attempts.{Stage, Unborn, Waiting, Proposed, Success, Refused, Overtaken, Removed, Restarted, Attempt, IsBorn, IsEnded, IsOpen, IsUntaken, IsAmong}
 use Rattle.rp_rangesafe.specs.Along.{entry, state, Takes}
-use Rattle.rp_rangesafe.specs.World.{World, here, state_at}
-use Rattle.rp_rangesafe.specs.Places.{IsReached, IsLater, IsOnward, IsPlace, IsDeadByStage, IsDeadForGood, HasNever, IsPlacedWith}
-use Rattle.rp_rangesafe.proofs.Numbers.{onward, one_holder, blocked_never}
+use Rattle.rp_rangesafe.specs.World.{World, IsEvaluated, here, state_at}
+use Rattle.rp_rangesafe.specs.Places.{IsReached, IsLater, IsOnward, IsPlace, IsDeadByStage, IsDeadForGood, HasNever, IsPlacedWith, IsLawfulPlace, body_of, shown, items_to}
+use Rattle.rp_rangesafe.proofs.Numbers.{onward, one_holder, timely_at, blocked_never}
 use Rattle.rp_rangesafe.proofs.One.{PlaceOf, Placed, Made, Good, one_place, never, place_open, one_open, born_with}
 use Rattle.rp_rangesafe.proofs.Worlds.{Extends, extends_itself, state_so_far, Sound}
+use Rattle.rp_rangesafe.proofs.Untouched.{seq_at, place_evaluated, place_desc}
+use Rattle.rp_rangesafe.proofs.Folds as folds
 use Rattle.rp_rangesafe.proofs.Growth.{Same, Grown}
 use Rattle.rp_rangesafe.proofs.Runs.{sound_reached, later_itself, later_grown, Ahead, ahead, place_of, place_from}
 
@@ -90,3 +94,34 @@ restarted_own w r id own e later k c l p = go (cases_lt k (later.index (later.at
   go : (k < later.index (later.attempt id).node) ⊎ (later.index (later.attempt id).node ≤ k) → c.max ≡ own
   go (inl lt) = (x.then.good id).only own (subst (λ g. IsOpen g own) (sym s) refl) k c lt (place_of later id k c p)
   go (inr ge) = subst (λ g. IsOpen g c.max) s (place_open (x.then.good id) k c ge p.within (place_of later id k c p))
+
+-- the command of the attempt that it names
+renamed : (w : World) (P : CmdId → Type 0) (id : CmdId) (c : Command) → c.id ≡ id → P c.id → P id
+renamed w P id c e h = subst P e h
+
+lawful_own : (w : World) → IsReached w → (k : ℕ) (c : Command) → k < length w.log → Takes w.start (entry w.log) k c → IsLawfulPlace w c.id k c
+lawful_own w r k c l t =
+    let s = itself w r in
+    let m = (s.good c.id).entries k c l t.here refl in
+    let u = timely_at w.start (entry w.log) k c t in
+    let b = born_with (w.attempt c.id) c.max (s.good c.id).fresh m.of.max in
+    let same = seq_at (entry w.log) w s k c l t in
+    record {
+      of = m.of;
+      behind = m.behind;
+      seq = u.seq;
+      admitted = same ∙ sym u.seq;
+      holder = one_holder w.start (entry w.log) k (w.attempt c.id).from (sym same) ∙ (s.good c.id).holder b;
+      desc = sym (place_desc (entry w.log) w s k c l t);
+      evaluates = place_evaluated (entry w.log) w s k c l t;
+    }
+
+pub lawful_place : (w : World) → IsReached w → (id : CmdId) (k : ℕ) (c : Command) → IsPlace w id k c → IsLawfulPlace w id k c
+lawful_place w r id k c p = renamed w (λ i. IsLawfulPlace w i k c) id c p.named (lawful_own w r k c p.within p.takes)
+
+pub effect_at_place : (w : World) → IsReached w → (id : CmdId) (k : ℕ) (c : Command) → IsPlace w id k c
+    → Does (state_at w k).table (state_at w k).desc c.request (record { batch = c.batch; reply = c.reply })
+effect_at_place w r id k c p = folds.does_on (state_at w k) c (place_evaluated (entry w.log) w (itself w r) k c p.within p.takes)
+
+pub fold_is_state : (w : World) → IsReached w → (i : ℕ) → i ≤ length w.log → items.fold (shown w.start) (items_to w i) ≡ Some (shown (state_at w i))
+fold_is_state w r = folds.fold_is_state w (λ k c l t. place_evaluated (entry w.log) w (itself w r) k c l t)

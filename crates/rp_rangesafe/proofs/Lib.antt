@@ -14,3 +14,4 @@ pub mod Folds
 pub mod Listed
 pub mod Whole
 pub mod Once
+pub mod Barriers

@@ -7,9 +7,9 @@ use Rattle.rp_request.specs.declared.items.Place.{Place}
 use Rattle.rp_request.specs.Items as items
 use Rattle.rp_request.specs.Records.{applied}
 use Rattle.rp_apply.specs.Applied.{AppliedState, records_of, IsBlocked}
-use Rattle.rp_rangesafe.specs.Attempts.{Body, Stage, Refused, Success, Overtaken, Removed, Restarted, Attempt, IsAmong, IsOpen, IsUntaken}
+use Rattle.rp_rangesafe.specs.Attempts.{Body, Stage, Refused, Success, Overtaken, Removed, Restarted, Attempt, IsOf, IsAmong, IsOpen, IsUntaken}
 use Rattle.rp_rangesafe.specs.Along.{entry, state, Takes}
-use Rattle.rp_rangesafe.specs.World.{World, state_at, here, begin, Event, AllLawful, run}
+use Rattle.rp_rangesafe.specs.World.{World, IsEvaluated, state_at, here, begin, Event, AllLawful, run}
 
 -- a range as it can be: lawful events lead to it from its start
 pub record IsReached (w : World) : Type 0 where
@@ -61,6 +61,10 @@ pub record IsPlacedWith (w : World) (id : CmdId) (reply : Reply) : Type 0 where
   pub place : IsPlace w id index command
   pub answers : command.reply ≡ reply
 
+-- what a command carries of its evaluation
+abbrev pub body_of : Command → Body
+body_of c = record { request = c.request; batch = c.batch; reply = c.reply }
+
 -- table, description and lease of an applied state
 abbrev pub shown : AppliedState → items.State
 shown s = record { table = s.table; desc = s.desc; lease = s.lease }
@@ -69,6 +73,14 @@ shown s = record { table = s.table; desc = s.desc; lease = s.lease }
 abbrev pub items_to : World → ℕ → List Place
 items_to w i = applied (records_of w.start (take i w.log))
 
--- what a command carries of its evaluation
-abbrev pub body_of : Command → Body
-body_of c = record { request = c.request; batch = c.batch; reply = c.reply }
+-- a place is lawful: its command is one of the attempt, which was admitted at an index at or below, under the same lease
+-- sequence, whose holder admitted it; the description is that of the admission; and in the state there the request lies
+-- in the bounds and is evaluated as it was
+pub record IsLawfulPlace (w : World) (id : CmdId) (k : ℕ) (c : Command) : Type 0 where
+  pub of : IsOf (w.attempt id) c
+  pub behind : (w.attempt id).from ≤ k
+  pub seq : c.seq ≡ (state_at w k).lease.seq
+  pub admitted : (state_at w (w.attempt id).from).lease.seq ≡ c.seq
+  pub holder : (state_at w k).lease.holder ≡ (w.attempt id).node
+  pub desc : (state_at w k).desc ≡ (state_at w (w.attempt id).from).desc
+  pub evaluates : IsEvaluated (state_at w k) (body_of c)
