@@ -1,1 +1,96 @@
-//! Laws of the range machine, for every list of lawful events. No program calls these.
+//! Laws of the range machine, for every list of lawful events. No program calls these functions.
+
+ghost use Rattle.std.specs.Prelude.{◌≡◌, ℕ, ◌<◌, ◌≤◌, Some, length};
+ghost use Rattle.rp_base.specs.declared.ids.CmdId.{CmdId};
+ghost use Rattle.rp_request.specs.declared.commands.Command.{Command};
+ghost use Rattle.rp_request.specs.declared.outcomes.Reply.{Reply};
+ghost use Rattle.rp_request.specs.Items.{fold};
+ghost use Rattle.rp_request.specs.Places.{IsOnceInAll};
+ghost use Rattle.rp_eval.specs.Evaluations.{Does};
+ghost use Rattle.rp_rangesafe.specs.Attempts.{Unborn, Success, Refused, Overtaken, Restarted, IsBorn, IsAmong, IsOpen};
+ghost use Rattle.rp_rangesafe.specs.World.{World, state_at};
+ghost use Rattle.rp_rangesafe.specs.Places.{IsReached, IsLater, IsOnward, IsPlace, IsDeadByStage, IsDeadForGood, HasNever, IsPlacedWith, IsLawfulPlace, shown, items_to};
+ghost use Rattle.rp_rangesafe.specs.Ranges.{Ranges, AreReached, lists};
+
+/// Along a range's list the lease applied index, the lease sequence and the level of its description never fall, and it
+/// keeps its number.
+pub fn numbers_never_fall()
+    ensures { (w : World) (i : ℕ) (j : ℕ) → i ≤ j → IsOnward (state_at w i) (state_at w j) }
+{}
+
+/// At any two indexes of a list at which the lease sequence is the same, so is the lease's holder.
+pub fn one_sequence_has_one_holder()
+    ensures { (w : World) (i : ℕ) (j : ℕ) → (state_at w i).lease.seq ≡ (state_at w j).lease.seq
+        → (state_at w i).lease.holder ≡ (state_at w j).lease.holder }
+{}
+
+/// Of a waiting, proposed, refused or removed attempt no place stands in its node's prefix. Each maximum that an attempt
+/// ever had is blocked there, but the last one of a proposed, a removed or a restarted one.
+pub fn maxima_are_dead_by_stage()
+    ensures { (w : World) → IsReached w → (id : CmdId) → IsDeadByStage w id }
+{}
+
+/// Such a maximum is dead for good: whatever comes, no further place has it.
+pub fn dead_maxima_stay_dead()
+    ensures { (w : World) → IsReached w → (id : CmdId) (m : ℕ) → IsAmong (w.attempt id).maxima m
+        → (IsOpen (w.attempt id).stage m → ⊥) → IsDeadForGood w id m }
+{}
+
+/// Each command, by client and by its number among the client's, has at most one place over the applied lists of all
+/// ranges, whichever of its attempts the place names.
+pub fn at_most_once()
+    ensures { (w : Ranges) → AreReached w → IsOnceInAll (lists w) }
+{}
+
+/// A refused attempt has no place in its range and gets none, whatever comes.
+pub fn refused_never_takes_effect()
+    ensures { (w : World) → IsReached w → (id : CmdId) → (w.attempt id).stage ≡ Refused → HasNever w id }
+{}
+
+/// An attempt that succeeded has a place, with its reply.
+pub fn success_is_a_place()
+    ensures { (w : World) → IsReached w → (id : CmdId) (reply : Reply) → (w.attempt id).stage ≡ Success reply
+        → IsPlacedWith w id reply }
+{}
+
+/// A snapshot overtook an attempt only where it had a maximum, at or below the snapshot's lease applied index.
+pub fn an_overtaken_attempt_was_passed()
+    ensures { (w : World) → IsReached w → (id : CmdId) (own : ℕ) (passed : ℕ) → (w.attempt id).stage ≡ Overtaken own passed
+        → (0 < own) × (own ≤ passed) }
+{}
+
+/// The maximum of a proposed, a removed or a restarted attempt is at least 1.
+pub fn an_open_maximum_is_positive()
+    ensures { (w : World) → IsReached w → (id : CmdId) (own : ℕ) → IsOpen (w.attempt id).stage own → 0 < own }
+{}
+
+/// At its place, on the table and the description there, an attempt's batch does what the effect of its request does,
+/// and its reply is the effect's.
+pub fn effect_at_its_place()
+    ensures { (w : World) → IsReached w → (id : CmdId) (k : ℕ) (c : Command) → IsPlace w id k c
+        → Does (state_at w k).table (state_at w k).desc c.request (record { batch = c.batch; reply = c.reply }) }
+{}
+
+/// The fold of a range's items, each request evaluated again, is the state that the batches make, at each index.
+pub fn fold_of_requests_is_fold_of_batches()
+    ensures { (w : World) → IsReached w → (i : ℕ) → i ≤ length w.log
+        → fold (shown w.start) (items_to w i) ≡ Some (shown (state_at w i)) }
+{}
+
+/// A place is lawful: it has the lease sequence and the description of its admission, whose node holds the lease, and its
+/// request lies in the bounds there and is evaluated there as it was.
+pub fn places_are_lawful()
+    ensures { (w : World) → IsReached w → (id : CmdId) (k : ℕ) (c : Command) → IsPlace w id k c → IsLawfulPlace w id k c }
+{}
+
+/// No attempt is admitted under a lease sequence at or below its node's barrier.
+pub fn no_admission_below_the_barrier()
+    ensures { (w : World) → IsReached w → (later : World) → IsLater w later → (id : CmdId) → (w.attempt id).stage ≡ Unborn
+        → IsBorn (later.attempt id).stage → w.barrier (later.attempt id).node < (later.attempt id).seq }
+{}
+
+/// Whatever comes, an attempt that a restart ended has no place but under its last maximum.
+pub fn a_restarted_attempt_has_its_last_maximum()
+    ensures { (w : World) → IsReached w → (id : CmdId) (own : ℕ) → (w.attempt id).stage ≡ Restarted own
+        → (later : World) (k : ℕ) (c : Command) → IsLater w later → IsPlace later id k c → c.max ≡ own }
+{}
