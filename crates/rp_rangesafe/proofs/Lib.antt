@@ -15,3 +15,4 @@ pub mod Listed
 pub mod Whole
 pub mod Once
 pub mod Barriers
+pub mod Rights

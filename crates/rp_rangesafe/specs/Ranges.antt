@@ -17,6 +17,7 @@ use Rattle.rp_apply.specs.declared.verdicts.Verdict.{Verdict}
 use Rattle.rp_apply.specs.declared.verdicts.Verdict.TheVariants.{Took, OldLease, OldIndex, LeaseMoved}
 use Rattle.rp_apply.specs.declared.verdicts.Verdict.TheVariants as verdicts
 use Rattle.rp_rangesafe.specs.Attempts.{Body, Stage, Refused, with_attempt, same_id}
+use Rattle.rp_rangesafe.specs.Along.{entry}
 use Rattle.rp_rangesafe.specs.World.{World, begin, state_at, Event, Admit, Flush, Return, Refuse, Commit, Apply, Snapshot, Remove, Restart, Lawful, happens, with_node}
 use Rattle.rp_rangesafe.specs.Places.{items_to}
 
@@ -181,3 +182,11 @@ pub record AreLater (w later : Ranges) : Type 0 where
 -- the applied list of each range
 abbrev pub lists : Ranges → ℕ → List Place
 lists w r = items_to (w.range r) (length (w.range r).log)
+
+-- a range starts from what an entry of another range's list opens: a split that is taken there
+pub record IsOrigin (w : Ranges) (start : AppliedState) : Type 0 where
+  pub left : ℕ
+  pub index : ℕ
+  pub there : w.opened left ≡ true
+  pub below : index < length (w.range left).log
+  pub opens : right_of (state_at (w.range left) index) (entry (w.range left).log index) ≡ Some start
