@@ -16,3 +16,4 @@ pub mod Whole
 pub mod Once
 pub mod Barriers
 pub mod Rights
+pub mod Splits

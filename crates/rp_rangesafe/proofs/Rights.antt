@@ -223,7 +223,7 @@ pub lai_at_start : (w : Ranges) → AreReached w → (q : ℕ) → w.opened q �
 lai_at_start w r q o = (sources_reached w r q o).unapplied
 
 -- the range that a range was split off from, by its number
-left_is : (level id q : ℕ) → level < 3 → id < 2 ^ level → q ≡ id + 2 ^ level → left_range q ≡ id
+pub left_is : (level id q : ℕ) → level < 3 → id < 2 ^ level → q ≡ id + 2 ^ level → left_range q ≡ id
 left_is zero id q l h e = grind (arith, nat_tests)
 left_is (suc zero) id q l h e = grind (arith, nat_tests)
 left_is (suc (suc zero)) id q l h e = grind (arith, nat_tests)
@@ -260,7 +260,7 @@ one_split : (s : AppliedState) (c : Command) (key : ℕ) → command_verdict s c
 one_split s c key v e = ap (λ x. applied (command_record s.desc c x ∷ [])) v ∙ ap (λ y. y ∷ []) (split_item s.desc c c.request key e)
 
 -- the number of a range stays along its list
-number_along : (w : Ranges) → AreReached w → (q : ℕ) → w.opened q ≡ true → (i : ℕ) → (state_at (w.range q) i).desc.id ≡ q
+pub number_along : (w : Ranges) → AreReached w → (q : ℕ) → w.opened q ≡ true → (i : ℕ) → (state_at (w.range q) i).desc.id ≡ q
 number_along w r q o i = sym (numbers_rise (w.range q) 0 i (omega arith)).id ∙ (sources_reached w r q o).numbered
 
 -- a range that a split opens
