@@ -17,3 +17,4 @@ pub mod Once
 pub mod Barriers
 pub mod Rights
 pub mod Splits
+pub mod Joint

@@ -230,7 +230,7 @@ left_is (suc (suc zero)) id q l h e = grind (arith, nat_tests)
 left_is (suc (suc (suc n))) id q l h e = absurd (omega arith)
 
 -- the items up to an index begin those up to a later one
-begin_with : (w : World) (i j : ℕ) → i ≤ j → j ≤ length w.log → (rest : List Place) × (items_to w j ≡ items_to w i ++ rest)
+pub begin_with : (w : World) (i j : ℕ) → i ≤ j → j ≤ length w.log → (rest : List Place) × (items_to w j ≡ items_to w i ++ rest)
 begin_with w i zero l h = ([], ap (items_to w) same ∙ sym (nothing (items_to w i))) where
   same : 0 ≡ i
   same = omega arith

@@ -51,7 +51,7 @@ one_later : (w : World) (e : Event) → Lawful w e → IsLater w (happens w e)
 one_later w e h = record { events = e ∷ []; lawful = (h, tt); reached = refl }
 
 -- a refused attempt stays refused
-refused_onto : (w v : Ranges) → Whole w → Onto w v → (x : CmdId) (o : Owner) → IsRefusedAt w x o → IsRefusedAt v x o
+pub refused_onto : (w v : Ranges) → Whole w → Onto w v → (x : CmdId) (o : Owner) → IsRefusedAt w x o → IsRefusedAt v x o
 refused_onto w v h k x Nobody r = r
 refused_onto w v h k x Turned r = tt
 refused_onto w v h k x (At range) r = go (w.opened range) refl where
@@ -288,3 +288,33 @@ whole_reached w r = subst Whole r.reached (whole_steps at_first r.steps r.lawful
 
 pub onto_later : (w later : Ranges) → AreReached w → AreLater w later → Onto w later
 onto_later w later r l = subst (Onto w) l.reached (onto_steps w l.steps l.lawful (whole_reached w r))
+
+pub later_whole : (w later : Ranges) → AreReached w → AreLater w later → Whole later
+later_whole w later r l = subst Whole l.reached (whole_steps w l.steps l.lawful (whole_reached w r))
+
+-- an attempt that was made stays where it was made
+owner_step : (w : Ranges) (x : Step) → IsLawful w x → (id : CmdId) (o : Owner) → w.owner id ≡ o → IsMade o → (step w x).owner id ≡ o
+owner_step w x l id o e m = go x l where
+  right : (v : Ranges) (t : Option AppliedState) → (with_right v t).owner id ≡ v.owner id
+  right v None = refl
+  right v (Some s) = cond_both (v.opened s.desc.id) v _ (λ (u : Ranges). u.owner id ≡ v.owner id) (λ _. refl) (λ _. refl)
+  begun : (q : CmdId) (p : Owner) → MayBegin w q → with_owner w.owner q p id ≡ o
+  begun q p b = at_owner (λ z y. w.owner z ≡ o → y ≡ o) w.owner q p (λ k. let new = b.new in absurd (subst IsMade (sym k ∙ new) m)) (λ z _ k. k) id e
+  go : (x : Step) → IsLawful w x → (step w x).owner id ≡ o
+  go (In r (Admit q node body)) l = begun q (At r) l.begins
+  go (In r (Flush q max)) l = e
+  go (In r (Return q)) l = e
+  go (In r (Refuse q)) l = e
+  go (In r (Commit p)) l = right (within w r (Commit p)) (right_of (state_at (w.range r) (length (w.range r).log)) p) ∙ e
+  go (In r (Apply node)) l = e
+  go (In r (Snapshot node to)) l = e
+  go (In r (Remove node)) l = e
+  go (In r (Restart node)) l = e
+  go (Turn_away q) l = begun q Turned l
+
+owner_steps : (w : Ranges) (xs : List Step) → AreLawful w xs → (id : CmdId) (o : Owner) → w.owner id ≡ o → IsMade o → (after_steps w xs).owner id ≡ o
+owner_steps w [] l id o e m = e
+owner_steps w (x ∷ xs) l id o e m = owner_steps (step w x) xs l.1 id o (owner_step w x l.0 id o e m) m
+
+pub owner_onto : (w later : Ranges) → AreReached w → AreLater w later → (id : CmdId) (o : Owner) → w.owner id ≡ o → IsMade o → later.owner id ≡ o
+owner_onto w later r l id o e m = subst (λ (v : Ranges). v.owner id ≡ o) l.reached (owner_steps w l.steps l.lawful id o e m)

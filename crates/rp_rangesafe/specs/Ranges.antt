@@ -10,6 +10,7 @@ use Rattle.rp_request.specs.declared.commands.Command.{Command}
 use Rattle.rp_request.specs.declared.requests.Request.{Request}
 use Rattle.rp_request.specs.declared.requests.Request.TheVariants.{Put, Add, CPut, Del, Wipe, Move, Split}
 use Rattle.rp_request.specs.declared.items.Place.{Place}
+use Rattle.rp_request.specs.declared.outcomes.Reply.{Reply}
 use Rattle.rp_request.specs.Table.{from_on}
 use Rattle.rp_request.specs.Starts.{first_state}
 use Rattle.rp_apply.specs.Applied.{AppliedState, command_verdict}
@@ -19,7 +20,7 @@ use Rattle.rp_apply.specs.declared.verdicts.Verdict.TheVariants as verdicts
 use Rattle.rp_rangesafe.specs.Attempts.{Body, Stage, Refused, with_attempt, same_id}
 use Rattle.rp_rangesafe.specs.Along.{entry}
 use Rattle.rp_rangesafe.specs.World.{World, begin, state_at, Event, Admit, Flush, Return, Refuse, Commit, Apply, Snapshot, Remove, Restart, Lawful, happens, with_node}
-use Rattle.rp_rangesafe.specs.Places.{items_to}
+use Rattle.rp_rangesafe.specs.Places.{IsPlace, items_to}
 
 -- where an attempt was made: nowhere yet, in a range, or it was turned away at its admission
 pub data Owner : Type 0 where
@@ -190,3 +191,15 @@ pub record IsOrigin (w : Ranges) (start : AppliedState) : Type 0 where
   pub there : w.opened left ≡ true
   pub below : index < length (w.range left).log
   pub opens : right_of (state_at (w.range left) index) (entry (w.range left).log index) ≡ Some start
+
+-- the attempt, made in this range, has a place there with this reply, and it is the one place of its command in all ranges
+pub record IsTheOnePlace (w : Ranges) (range : ℕ) (id : CmdId) (reply : Reply) : Type 0 where
+  pub index : ℕ
+  pub command : Command
+  pub place : IsPlace (w.range range) id index command
+  pub answers : command.reply ≡ reply
+  pub only : (q k : ℕ) (x : CmdId) (c : Command) → x.client ≡ id.client → x.seq ≡ id.seq → IsPlace (w.range q) x k c → (q ≡ range) × (k ≡ index)
+
+-- the attempt has no place in any range, whatever comes
+abbrev pub HasNowhere : Ranges → CmdId → Type 0
+HasNowhere w id = (later : Ranges) (range k : ℕ) (c : Command) → AreLater w later → IsPlace (later.range range) id k c → ⊥
