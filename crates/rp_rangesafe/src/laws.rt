@@ -1,16 +1,20 @@
 //! Laws of the range machine, for every list of lawful events. No program calls these functions.
 
-ghost use Rattle.std.specs.Prelude.{◌≡◌, ℕ, ◌<◌, ◌≤◌, Some, length};
+ghost use Rattle.std.specs.Prelude.{◌≡◌, ℕ, ◌<◌, ◌≤◌, true, Some, length, slice_get};
 ghost use Rattle.rp_base.specs.declared.ids.CmdId.{CmdId};
 ghost use Rattle.rp_request.specs.declared.commands.Command.{Command};
 ghost use Rattle.rp_request.specs.declared.outcomes.Reply.{Reply};
+ghost use Rattle.rp_request.specs.declared.items.Record.TheVariants as kept;
 ghost use Rattle.rp_request.specs.Items.{fold};
 ghost use Rattle.rp_request.specs.Places.{IsOnceInAll};
+ghost use Rattle.rp_request.specs.Starts.{IsStart};
 ghost use Rattle.rp_eval.specs.Evaluations.{Does};
+ghost use Rattle.rp_apply.specs.Applied.{AppliedState, item, records_of};
 ghost use Rattle.rp_rangesafe.specs.Attempts.{Unborn, Success, Refused, Overtaken, Restarted, IsBorn, IsAmong, IsOpen};
+ghost use Rattle.rp_rangesafe.specs.Along.{entry};
 ghost use Rattle.rp_rangesafe.specs.World.{World, state_at};
 ghost use Rattle.rp_rangesafe.specs.Places.{IsReached, IsLater, IsOnward, IsPlace, IsDeadByStage, IsDeadForGood, HasNever, IsPlacedWith, IsLawfulPlace, shown, items_to};
-ghost use Rattle.rp_rangesafe.specs.Ranges.{Ranges, AreReached, lists};
+ghost use Rattle.rp_rangesafe.specs.Ranges.{Ranges, AreReached, AreLater, IsRefused, IsTheOnePlace, HasNowhere, lists, right_of};
 
 /// Along a range's list the lease applied index, the lease sequence and the level of its description never fall, and it
 /// keeps its number.
@@ -93,4 +97,62 @@ pub fn no_admission_below_the_barrier()
 pub fn a_restarted_attempt_has_its_last_maximum()
     ensures { (w : World) → IsReached w → (id : CmdId) (own : ℕ) → (w.attempt id).stage ≡ Restarted own
         → (later : World) (k : ℕ) (c : Command) → IsLater w later → IsPlace later id k c → c.max ≡ own }
+{}
+
+/// Two places of one command, in whichever ranges and of whichever of its attempts, are one.
+pub fn at_most_one_place()
+    ensures { (w : Ranges) → AreReached w → (q : ℕ) (r : ℕ) (j : ℕ) (k : ℕ) (x : CmdId) (y : CmdId) (c : Command) (d : Command)
+        → x.client ≡ y.client → x.seq ≡ y.seq → IsPlace (w.range q) x j c → IsPlace (w.range r) y k d → (q ≡ r) × (j ≡ k) }
+{}
+
+/// A refused attempt, also one that was turned away at its admission, has no place in any range and gets none, whatever
+/// comes.
+pub fn refused_has_no_place_in_any_range()
+    ensures { (w : Ranges) → AreReached w → (id : CmdId) → IsRefused w id → HasNowhere w id }
+{}
+
+/// An attempt that succeeded has a place with its reply, which is the one place of its command in all ranges.
+pub fn success_is_the_one_place()
+    ensures { (w : Ranges) → AreReached w → (range : ℕ) (id : CmdId) (reply : Reply)
+        → ((w.range range).attempt id).stage ≡ Success reply → IsTheOnePlace w range id reply }
+{}
+
+/// Of all ranges together each one is a range as it can be by itself, and one that there is goes on as it can become.
+pub fn each_range_runs_by_itself()
+    ensures reached { (w : Ranges) → AreReached w → (r : ℕ) → IsReached (w.range r) }
+    ensures goes_on { (w : Ranges) → AreReached w → (later : Ranges) → AreLater w later → (r : ℕ) → w.opened r ≡ true
+        → (later.opened r ≡ true) × IsLater (w.range r) (later.range r) }
+{}
+
+/// Range 0 starts with no key, and each other range that there is from the split in the list of the range that it was split
+/// off from: with the part of the table, the description and the lease that the fold gives there. Its lease applied index
+/// is 0.
+pub fn ranges_start_from_their_split()
+    ensures start { (w : Ranges) → AreReached w → (r : ℕ) → w.opened r ≡ true → IsStart (lists w) r (shown (w.range r).start) }
+    ensures unapplied { (w : Ranges) → AreReached w → (r : ℕ) → w.opened r ≡ true → (w.range r).start.lai ≡ 0 }
+{}
+
+/// Two entries that open a range of one number are one entry.
+pub fn one_split_opens_a_range()
+    ensures { (w : Ranges) → AreReached w → (q : ℕ) (r : ℕ) (j : ℕ) (k : ℕ) (s : AppliedState) (t : AppliedState)
+        → j < length (w.range q).log → k < length (w.range r).log
+        → right_of (state_at (w.range q) j) (entry (w.range q).log j) ≡ Some s
+        → right_of (state_at (w.range r) k) (entry (w.range r).log k) ≡ Some t
+        → s.desc.id ≡ t.desc.id → (q ≡ r) × (j ≡ k) }
+{}
+
+/// A split that is taken opens its right range, which starts from it.
+pub fn a_split_opens_its_right_range()
+    ensures { (w : Ranges) → AreReached w → (r : ℕ) (k : ℕ) (s : AppliedState) → k < length (w.range r).log
+        → right_of (state_at (w.range r) k) (entry (w.range r).log k) ≡ Some s
+        → (w.opened s.desc.id ≡ true) × ((w.range s.desc.id).start ≡ s) }
+{}
+
+/// The record of a place is that its item was taken, and the item stands in the applied list, behind the items of the
+/// entries before.
+pub fn a_place_is_recorded()
+    ensures recorded { (w : World) (id : CmdId) (k : ℕ) (c : Command) → IsPlace w id k c
+        → slice_get (records_of w.start w.log) k ≡ Some (kept.Took (item (state_at w k).desc c)) }
+    ensures listed { (w : World) (id : CmdId) (k : ℕ) (c : Command) → IsPlace w id k c
+        → slice_get (items_to w (length w.log)) (length (items_to w k)) ≡ Some (item (state_at w k).desc c) }
 {}
