@@ -18,3 +18,4 @@ pub mod Barriers
 pub mod Rights
 pub mod Splits
 pub mod Joint
+pub mod Worked

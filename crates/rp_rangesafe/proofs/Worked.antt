@@ -1,0 +1,94 @@
+-- A worked run, lawful and computed: the laws do not speak of ranges in which nothing happens.
+use Rattle.std.proofs.Common.{◌≡◌, ℕ, zero, suc, ◌+◌, ◌-◌, ◌<◌, ◌≤◌, Bool, true, false, ◌⊎◌, inl, inr, List, [], ◌∷◌, ◌++◌, length, Option, Some, None, refl, arith}
+use Rattle.rp_base.specs.declared.ids.CmdId.{CmdId}
+use Rattle.rp_request.specs.declared.commands.Op.TheVariants.{Set}
+use Rattle.rp_request.specs.declared.commands.Command.{Command}
+use Rattle.rp_request.specs.declared.commands.Payload.TheVariants.{Nothing, Write}
+use Rattle.rp_request.specs.declared.items.Place.{Place}
+use Rattle.rp_request.specs.declared.items.Place.TheVariants as places
+use Rattle.rp_request.specs.declared.items.Record.TheVariants as records
+use Rattle.rp_request.specs.declared.items.Why.TheVariants as reasons
+use Rattle.rp_request.specs.declared.outcomes.Reply.{Reply}
+use Rattle.rp_request.specs.declared.outcomes.Reply.TheVariants.{Old, Now, Range}
+use Rattle.rp_request.specs.declared.requests.Request.{Request}
+use Rattle.rp_request.specs.declared.requests.Request.TheVariants.{Put, Add, Split}
+use Rattle.rp_apply.specs.Applied.{command_verdict, records_of}
+use Rattle.rp_rangesafe.specs.Attempts.{Body, Stage, Unborn, Waiting, Proposed, Success, Refused, Overtaken, Removed, Restarted, Attempt, Attempts, IsPending, with_attempt, at_node}
+use Rattle.rp_rangesafe.specs.World.{World, Admit, Flush, Return, Refuse, Commit, Apply, Snapshot, Remove, Restart, with_node}
+use Rattle.rp_rangesafe.specs.Ranges.{Ranges, Owner, Nobody, Turned, At, at_first, Step, In, Turn_away, AreLawful, after_steps, AreReached, with_owner, lists}
+use Rattle.rp_rangesafe.proofs.Tables.{at_attempt}
+
+abbrev one : CmdId
+one = record { client = 1; seq = 1; attempt = 1 }
+
+abbrev two : CmdId
+two = record { client = 1; seq = 2; attempt = 1 }
+
+abbrev two_again : CmdId
+two_again = record { client = 1; seq = 2; attempt = 2 }
+
+abbrev three : CmdId
+three = record { client = 2; seq = 1; attempt = 1 }
+
+abbrev put_body : Body
+put_body = record { request = Put 9 7; batch = Set 9 7 ∷ []; reply = Old None }
+
+abbrev split_body : Body
+split_body = record { request = Split 5; batch = []; reply = Range 1 }
+
+abbrev add_body : Body
+add_body = record { request = Add 9 1; batch = Set 9 8 ∷ []; reply = Now 8 }
+
+-- an attempt with this maximum, under the first lease sequence
+abbrev made : CmdId → Body → ℕ → Command
+made id body max = record { id = id; request = body.request; batch = body.batch; reply = body.reply; seq = 1; max = max }
+
+-- node 1 admits a put, which is committed twice behind an entry Nothing, and applies all three
+abbrev put_steps : List Step
+put_steps =
+    In 0 (Admit one 1 put_body) ∷ In 0 (Flush one 1) ∷ In 0 (Commit Nothing) ∷ In 0 (Commit (Write (made one put_body 1))) ∷ In 0 (Commit (Write (made one put_body 1)))
+    ∷ In 0 (Apply 1) ∷ In 0 (Apply 1) ∷ In 0 (Apply 1) ∷ []
+
+-- a split is turned away, admitted at the second attempt, and opens range 1
+abbrev split_steps : List Step
+split_steps =
+    Turn_away two ∷ In 0 (Admit two_again 1 split_body) ∷ In 0 (Flush two_again 2) ∷ In 0 (Commit (Write (made two_again split_body 2))) ∷ In 0 (Apply 1) ∷ []
+
+-- in range 1 a snapshot overtakes an add
+abbrev add_steps : List Step
+add_steps = In 1 (Admit three 1 add_body) ∷ In 1 (Flush three 1) ∷ In 1 (Commit (Write (made three add_body 1))) ∷ In 1 (Snapshot 1 1) ∷ In 1 (Restart 1) ∷ []
+
+abbrev all_steps : List Step
+all_steps = put_steps ++ split_steps ++ add_steps
+
+abbrev end : Ranges
+end = after_steps at_first all_steps
+
+put_succeeds : ((end.range 0).attempt one).stage ≡ Success (Old None)
+unfolding with_attempt at_node with_node with_owner command_verdict
+put_succeeds = refl
+
+split_succeeds : ((end.range 0).attempt two_again).stage ≡ Success (Range 1)
+unfolding with_attempt at_node with_node with_owner command_verdict
+split_succeeds = refl
+
+add_is_overtaken : ((end.range 1).attempt three).stage ≡ Overtaken 1 1
+unfolding with_attempt at_node with_node with_owner command_verdict
+add_is_overtaken = refl
+
+records_left : records_of (end.range 0).start (end.range 0).log
+    ≡ records.Passed reasons.Nothing ∷ records.Took (places.Write one (Put 9 7) 1 (Old None)) ∷ records.Passed reasons.OldIndex ∷ records.Took (places.Split two_again 5 1 1) ∷ []
+unfolding with_attempt at_node with_node with_owner command_verdict
+records_left = refl
+
+list_of_the_right : lists end 1 ≡ places.Write three (Add 9 1) 1 (Now 8) ∷ []
+unfolding with_attempt at_node with_node with_owner command_verdict
+list_of_the_right = refl
+
+right_is_there : end.opened 1 ≡ true
+unfolding with_attempt at_node with_node with_owner command_verdict
+right_is_there = refl
+
+turned_away : end.owner two ≡ Turned
+unfolding with_attempt at_node with_node with_owner command_verdict
+turned_away = refl
