@@ -1,6 +1,15 @@
 -- A worked run, lawful and computed: the laws do not speak of ranges in which nothing happens.
-use Rattle.std.proofs.Common.{◌≡◌, ℕ, zero, suc, ◌+◌, ◌-◌, ◌<◌, ◌≤◌, Bool, true, false, ◌⊎◌, inl, inr, List, [], ◌∷◌, ◌++◌, length, Option, Some, None, refl, arith}
+use Rattle.std.proofs.Common.{◌≡◌, ℕ, zero, suc, ◌+◌, ◌-◌, ◌<◌, ◌≤◌, Bool, true, false, ◌⊎◌, inl, inr, List, [], ◌∷◌, ◌++◌, length, Option, Some, None, Ok, Err, cond, nat_lt, nat_le, unwrap_or, refl, ap, ◌∙◌, arith}
+use Rattle.std.specs.Ordering.{nat_cmp}
+use Rattle.std.specs.FinMap.{empty, get, insert, get-empty}
+use Rattle.rp_base.specs.Splits.{first_desc}
 use Rattle.rp_base.specs.declared.ids.CmdId.{CmdId}
+use Rattle.rp_base.specs.declared.ranges.Desc.{Desc}
+use Rattle.rp_request.specs.declared.outcomes.Refusal.TheVariants.{Overflow}
+use Rattle.rp_request.specs.Table.{Table, greatest, from_on}
+use Rattle.rp_request.specs.Effect.{writes}
+use Rattle.rp_request.proofs.Tables.{get_kept, get_inserted}
+use Rattle.rp_eval.specs.Evaluations.{evaluated, with_batch}
 use Rattle.rp_request.specs.declared.commands.Op.TheVariants.{Set}
 use Rattle.rp_request.specs.declared.commands.Command.{Command}
 use Rattle.rp_request.specs.declared.commands.Payload.TheVariants.{Nothing, Write}
@@ -15,7 +24,7 @@ use Rattle.rp_request.specs.declared.requests.Request.TheVariants.{Put, Add, Spl
 use Rattle.rp_apply.specs.Applied.{command_verdict, records_of}
 use Rattle.rp_rangesafe.specs.Attempts.{Body, Stage, Unborn, Waiting, Proposed, Success, Refused, Overtaken, Removed, Restarted, Attempt, Attempts, IsPending, with_attempt, at_node}
 use Rattle.rp_rangesafe.specs.World.{World, Admit, Flush, Return, Refuse, Commit, Apply, Snapshot, Remove, Restart, with_node}
-use Rattle.rp_rangesafe.specs.Ranges.{Ranges, Owner, Nobody, Turned, At, at_first, Step, In, Turn_away, AreLawful, after_steps, AreReached, with_owner, lists}
+use Rattle.rp_rangesafe.specs.Ranges.{Ranges, Owner, Nobody, Turned, At, at_first, Step, In, Turn_away, step, AreLawful, after_steps, AreReached, with_owner, lists}
 use Rattle.rp_rangesafe.proofs.Tables.{at_attempt}
 
 abbrev one : CmdId
@@ -92,3 +101,54 @@ right_is_there = refl
 turned_away : end.owner two ≡ Turned
 unfolding with_attempt at_node with_node with_owner command_verdict
 turned_away = refl
+
+-- nobody else is pending where the attempts that were changed are not
+settled : (f : Attempts) (id : CmdId) (a : Attempt) → (IsPending a.stage → ⊥) → ((q : CmdId) → (q ≡ id → ⊥) → IsPending (f q).stage → ⊥)
+    → (q : CmdId) → IsPending (with_attempt f id a q).stage → ⊥
+settled f id a h k = at_attempt (λ q x. IsPending x.stage → ⊥) f id a h k
+
+past : (f : Attempts) (id : CmdId) (a : Attempt) → ((q : CmdId) → (q ≡ id → ⊥) → IsPending (f q).stage → ⊥)
+    → (q : CmdId) → (q ≡ id → ⊥) → IsPending (with_attempt f id a q).stage → ⊥
+past f id a k = at_attempt (λ q x. (q ≡ id → ⊥) → IsPending x.stage → ⊥) f id a (λ ne. absurd (ne refl)) (λ q _. k q)
+
+abbrev after_put : Ranges
+after_put = after_steps at_first put_steps
+
+-- the put has ended
+none_pending : (q : CmdId) → IsPending ((after_put.range 0).attempt q).stage → ⊥
+unfolding with_attempt at_node with_node command_verdict
+none_pending = settled _ one _ (λ h. h) (past _ one _ (past _ one _ (past _ one _ (λ q ne h. h))))
+
+put_evaluates : (d : Desc) → evaluated empty d (Put 9 7) ≡ Ok (record { batch = Set 9 7 ∷ []; reply = Old None })
+put_evaluates d = ap (λ o. Ok (record { batch = Set 9 7 ∷ []; reply = Old o })) (get-empty nat_cmp 9)
+
+add_evaluates : (t : Table) (d : Desc) → get t 9 ≡ Some 7 → evaluated t d (Add 9 1) ≡ Ok (record { batch = Set 9 8 ∷ []; reply = Now 8 })
+add_evaluates t d e = ap (λ o. with_batch (Set 9 (unwrap_or o 0 + 1) ∷ []) (cond (nat_lt greatest (unwrap_or o 0 + 1)) (Err (Overflow (unwrap_or o 0)))
+    (writes (insert t 9 (unwrap_or o 0 + 1)) d (Now (unwrap_or o 0 + 1))))) e
+
+-- the value that the right range has
+value_there : get (from_on (insert empty 9 7) 5) 9 ≡ Some 7
+value_there = get_kept (insert empty 9 7) (λ k. nat_le 5 k) 9 ∙ get_inserted empty 9 7 9
+
+put_lawful : AreLawful at_first put_steps
+unfolding with_attempt at_node with_node with_owner command_verdict
+put_lawful = (record { there = refl; lawful = record { new = refl; live = refl; holds = refl; passed = omega arith; evaluates = record { bounded = refl; evaluation = put_evaluates first_desc }; latched = λ q h. absurd h }; begins = record { new = refl; turn = inl refl } }, (record { there = refl; lawful = (refl, omega arith); begins = tt }, (record { there = refl; lawful = tt; begins = tt }, (record { there = refl; lawful = record { seq = refl; request = refl; batch = refl; reply = refl; max = inl refl }; begins = tt }, (record { there = refl; lawful = record { seq = refl; request = refl; batch = refl; reply = refl; max = inl refl }; begins = tt }, (record { there = refl; lawful = (refl, omega arith); begins = tt }, (record { there = refl; lawful = (refl, omega arith); begins = tt }, (record { there = refl; lawful = (refl, omega arith); begins = tt }, tt))))))))
+
+split_lawful : AreLawful (after_steps at_first put_steps) split_steps
+unfolding with_attempt at_node with_node with_owner command_verdict
+split_lawful = (record { new = refl; turn = inl refl }, (record { there = refl; lawful = record { new = refl; live = refl; holds = refl; passed = omega arith; evaluates = record { bounded = refl; evaluation = refl }; latched = λ q h. absurd (none_pending q h) }; begins = record { new = refl; turn = inr (omega arith, tt) } }, (record { there = refl; lawful = (refl, omega arith); begins = tt }, (record { there = refl; lawful = record { seq = refl; request = refl; batch = refl; reply = refl; max = inl refl }; begins = tt }, (record { there = refl; lawful = (refl, omega arith); begins = tt }, tt)))))
+
+add_lawful : AreLawful (after_steps at_first (put_steps ++ split_steps)) add_steps
+unfolding with_attempt at_node with_node with_owner command_verdict
+add_lawful = (record { there = refl; lawful = record { new = refl; live = refl; holds = refl; passed = omega arith; evaluates = record { bounded = refl; evaluation = add_evaluates _ _ value_there }; latched = λ q h. absurd h }; begins = record { new = refl; turn = inl refl } }, (record { there = refl; lawful = (refl, omega arith); begins = tt }, (record { there = refl; lawful = record { seq = refl; request = refl; batch = refl; reply = refl; max = inl refl }; begins = tt }, (record { there = refl; lawful = record { live = refl; onward = omega arith; within = omega arith }; begins = tt }, (record { there = refl; lawful = refl; begins = tt }, tt)))))
+
+joined : (w : Ranges) (xs ys : List Step) → AreLawful w xs → AreLawful (after_steps w xs) ys → AreLawful w (xs ++ ys)
+joined w [] ys h k = k
+joined w (x ∷ xs) ys h k = (h.0, joined (step w x) xs ys h.1 k)
+
+-- the run is lawful
+lawful : AreLawful at_first all_steps
+lawful = joined at_first put_steps (split_steps ++ add_steps) put_lawful (joined (after_steps at_first put_steps) split_steps add_steps split_lawful add_lawful)
+
+end_reached : AreReached end
+end_reached = record { steps = all_steps; lawful = lawful; reached = refl }
