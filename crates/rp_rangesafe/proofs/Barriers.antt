@@ -3,14 +3,14 @@ use Rattle.std.proofs.Common.{◌≡◌, ℕ, zero, suc, ◌<◌, ◌≤◌, ◌
 use Rattle.rp_base.specs.declared.ids.CmdId.{CmdId}
 use Rattle.rp_request.specs.declared.commands.Payload.{Payload}
 use Rattle.rp_apply.specs.Applied.{AppliedState}
-use Rattle.rp_rangesafe.specs.Attempts.{Unborn, Attempt, Attempts, IsBorn, with_attempt}
+use Rattle.rp_rangesafe.specs.Attempts.{Stage, Unborn, Waiting, Proposed, Success, Refused, Overtaken, Removed, Restarted, Attempt, Attempts, IsBorn, with_attempt}
 use Rattle.rp_rangesafe.specs.Along.{entry, state}
 use Rattle.rp_rangesafe.specs.World.{World, state_at, here, begin, Event, Admit, Flush, Return, Refuse, Commit, Apply, Snapshot, Remove, Restart, MayAdmit, Lawful, AllLawful, admitted, happens, run, with_node}
 use Rattle.rp_rangesafe.specs.Places.{IsReached, IsLater, IsOnward}
 use Rattle.rp_rangesafe.proofs.Tables.{at_with_node, at_attempt}
 use Rattle.rp_rangesafe.proofs.Numbers.{onward}
 use Rattle.rp_rangesafe.proofs.Worlds.{Extends, extends_itself, extends_less, state_so_far, Sound, sound_begin}
-use Rattle.rp_rangesafe.proofs.Sounds.{sound_step}
+use Rattle.rp_rangesafe.proofs.Sounds.{extends_before, sound_step}
 use Rattle.rp_rangesafe.proofs.Growth.{Same, Grown, grown_run, Admits, made_before}
 use Rattle.rp_rangesafe.proofs.Runs.{run_extends, sound_reached, later_extends}
 
@@ -71,15 +71,15 @@ past_admitted w (Restart node) l q e = absurd e
 
 unborn_or : (w : World) (q : CmdId) → ((w.attempt q).stage ≡ Unborn) ⊎ IsBorn (w.attempt q).stage
 unborn_or w q = go (w.attempt q).stage refl where
-  go : (g : Rattle.rp_rangesafe.specs.Attempts.Stage) → (w.attempt q).stage ≡ g → ((w.attempt q).stage ≡ Unborn) ⊎ IsBorn (w.attempt q).stage
+  go : (g : Stage) → (w.attempt q).stage ≡ g → ((w.attempt q).stage ≡ Unborn) ⊎ IsBorn (w.attempt q).stage
   go Unborn e = inl e
-  go Rattle.rp_rangesafe.specs.Attempts.Waiting e = inr (subst IsBorn (sym e) tt)
-  go (Rattle.rp_rangesafe.specs.Attempts.Proposed own) e = inr (subst IsBorn (sym e) tt)
-  go (Rattle.rp_rangesafe.specs.Attempts.Success reply) e = inr (subst IsBorn (sym e) tt)
-  go Rattle.rp_rangesafe.specs.Attempts.Refused e = inr (subst IsBorn (sym e) tt)
-  go (Rattle.rp_rangesafe.specs.Attempts.Overtaken own passed) e = inr (subst IsBorn (sym e) tt)
-  go (Rattle.rp_rangesafe.specs.Attempts.Removed own) e = inr (subst IsBorn (sym e) tt)
-  go (Rattle.rp_rangesafe.specs.Attempts.Restarted own) e = inr (subst IsBorn (sym e) tt)
+  go Waiting e = inr (subst IsBorn (sym e) tt)
+  go (Proposed own) e = inr (subst IsBorn (sym e) tt)
+  go (Success reply) e = inr (subst IsBorn (sym e) tt)
+  go Refused e = inr (subst IsBorn (sym e) tt)
+  go (Overtaken own passed) e = inr (subst IsBorn (sym e) tt)
+  go (Removed own) e = inr (subst IsBorn (sym e) tt)
+  go (Restarted own) e = inr (subst IsBorn (sym e) tt)
 
 past_run : (f : ℕ → Payload) (w : World) (es : List Event) → AllLawful w es → Extends f (run w es).log → Sound f w → Barred f w → (q : CmdId)
     → (w.attempt q).stage ≡ Unborn → IsBorn ((run w es).attempt q).stage → w.barrier ((run w es).attempt q).node < ((run w es).attempt q).seq
@@ -89,7 +89,7 @@ past_run f w (e ∷ es) l x s h q new born =
   x1 : Extends f (happens w e).log
   x1 = run_extends f (happens w e) es x
   x0 : Extends f w.log
-  x0 = Rattle.rp_rangesafe.proofs.Sounds.extends_before f w e x1
+  x0 = extends_before f w e x1
   go : (((happens w e).attempt q).stage ≡ Unborn) ⊎ IsBorn ((happens w e).attempt q).stage
       → (((happens w e).attempt q).stage ≡ Unborn → IsBorn ((run w (e ∷ es)).attempt q).stage
       → (happens w e).barrier ((run w (e ∷ es)).attempt q).node < ((run w (e ∷ es)).attempt q).seq)
@@ -110,7 +110,7 @@ barred_run : (f : ℕ → Payload) (w : World) (es : List Event) → AllLawful w
 barred_run f w [] l x s h = h
 barred_run f w (e ∷ es) l x s h =
     let x1 = run_extends f (happens w e) es x in
-    let x0 = Rattle.rp_rangesafe.proofs.Sounds.extends_before f w e x1 in
+    let x0 = extends_before f w e x1 in
     barred_run f (happens w e) es l.1 x (sound_step f w e l.0 x1 s) (barred_step f w s x0 h e l.0)
 
 barred_reached : (f : ℕ → Payload) (w : World) → IsReached w → Extends f w.log → Barred f w

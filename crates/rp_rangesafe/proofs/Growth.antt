@@ -8,7 +8,7 @@ use Rattle.rp_apply.specs.Applied.{AppliedState, verdict}
 use Rattle.rp_apply.specs.declared.verdicts.Verdict.{Verdict}
 use Rattle.rp_apply.specs.declared.verdicts.Verdict.TheVariants.{Took, OldLease, OldIndex, LeaseMoved}
 use Rattle.rp_apply.specs.declared.verdicts.Verdict.TheVariants as verdicts
-use Rattle.rp_rangesafe.specs.Attempts.{Body, Stage, Unborn, Waiting, Proposed, Success, Refused, Overtaken, Removed, Restarted, Attempt, Attempts, IsBorn, IsEnded, staged, proposed, with_attempt, at_node}
+use Rattle.rp_rangesafe.specs.Attempts.{Body, Stage, Unborn, Waiting, Proposed, Success, Refused, Overtaken, Removed, Restarted, Attempt, Attempts, IsBorn, IsEnded, staged, handed_out, with_attempt, at_node}
 use Rattle.rp_rangesafe.specs.Along.{entry}
 use Rattle.rp_rangesafe.specs.World.{World, state_at, here, Event, Admit, Flush, Return, Refuse, Commit, Apply, Snapshot, Remove, Restart, IsPassed, Lawful, AllLawful, admitted, told, by_verdict, after_entry, overtaken, removed, restarted, happens, run}
 use Rattle.rp_rangesafe.proofs.Tables.{id_cases, at_attempt, at_nodes}
@@ -116,22 +116,22 @@ module _ (f : Attempts) where
   grown_entry node s (Lease ask) q = grown_itself (f q)
 
 -- an event leaves each attempt so
-pub grown : (w : World) (e : Event) → Lawful w e → (q : CmdId) → Grown (w.attempt q) ((happens w e).attempt q)
-grown w (Admit id node body) h q = grown_at w.attempt id (admitted w node body)
+pub grown_by : (w : World) (e : Event) → Lawful w e → (q : CmdId) → Grown (w.attempt q) ((happens w e).attempt q)
+grown_by w (Admit id node body) h q = grown_at w.attempt id (admitted w node body)
     (record { same = λ k. absurd (subst IsBorn h.new k); ended = λ k. absurd (subst IsEnded h.new k) }) q
-grown w (Flush id max) h q = grown_at w.attempt id (proposed (w.attempt id) max)
+grown_by w (Flush id max) h q = grown_at w.attempt id (handed_out (w.attempt id) max)
     (record { same = λ k. record { node = refl; behind = refl; seq = refl; body = refl; born = tt }; ended = λ k. absurd (subst IsEnded h.0 k) }) q
-grown w (Return id) h q = grown_turned w.attempt id _ Waiting h.stage (λ k. k) tt q
-grown w (Refuse id) h q = grown_turned w.attempt id Waiting Refused h (λ k. k) tt q
-grown w (Commit p) h q = grown_itself (w.attempt q)
-grown w (Apply node) h q = grown_entry w.attempt node (here w node) (entry w.log (w.index node)) q
-grown w (Snapshot node to) h q = grown_there w.attempt node (overtaken (state_at w to).lai) (overtaken_born _) (overtaken_ended _) q
-grown w (Remove node) h q = grown_there w.attempt node removed removed_born removed_ended q
-grown w (Restart node) h q = grown_there w.attempt node restarted restarted_born restarted_ended q
+grown_by w (Return id) h q = grown_turned w.attempt id _ Waiting h.stage (λ k. k) tt q
+grown_by w (Refuse id) h q = grown_turned w.attempt id Waiting Refused h (λ k. k) tt q
+grown_by w (Commit p) h q = grown_itself (w.attempt q)
+grown_by w (Apply node) h q = grown_entry w.attempt node (here w node) (entry w.log (w.index node)) q
+grown_by w (Snapshot node to) h q = grown_there w.attempt node (overtaken (state_at w to).lai) (overtaken_born _) (overtaken_ended _) q
+grown_by w (Remove node) h q = grown_there w.attempt node removed removed_born removed_ended q
+grown_by w (Restart node) h q = grown_there w.attempt node restarted restarted_born restarted_ended q
 
 pub grown_run : (w : World) (es : List Event) → AllLawful w es → (q : CmdId) → Grown (w.attempt q) ((run w es).attempt q)
 grown_run w [] h q = grown_itself (w.attempt q)
-grown_run w (e ∷ es) h q = grown_further _ _ _ (grown w e h.0 q) (grown_run (happens w e) es h.1 q)
+grown_run w (e ∷ es) h q = grown_further _ _ _ (grown_by w e h.0 q) (grown_run (happens w e) es h.1 q)
 
 -- no event but an admission makes an attempt
 told_back : (c : Command) (v : Verdict) (g : Stage) → IsBorn (told c v g) → IsBorn g
@@ -200,7 +200,7 @@ Admits (Restart node) q = ⊥
 
 pub made_before : (w : World) (e : Event) → Lawful w e → (q : CmdId) → IsBorn ((happens w e).attempt q).stage → IsBorn (w.attempt q).stage ⊎ Admits e q
 made_before w (Admit id node body) h q b = at_attempt (λ r x. IsBorn x.stage → IsBorn (w.attempt r).stage ⊎ (r ≡ id)) w.attempt id (admitted w node body) (λ _. inr refl) (λ r _ k. inl k) q b
-made_before w (Flush id max) h q b = inl (back_at w.attempt id (proposed (w.attempt id) max) (λ _. subst IsBorn (sym h.0) tt) q b)
+made_before w (Flush id max) h q b = inl (back_at w.attempt id (handed_out (w.attempt id) max) (λ _. subst IsBorn (sym h.0) tt) q b)
 made_before w (Return id) h q b = inl (back_at w.attempt id (staged (w.attempt id) Waiting) (λ _. subst IsBorn (sym h.stage) tt) q b)
 made_before w (Refuse id) h q b = inl (back_at w.attempt id (staged (w.attempt id) Refused) (λ _. subst IsBorn (sym h) tt) q b)
 made_before w (Commit p) h q b = inl b

@@ -10,12 +10,12 @@ use Rattle.rp_request.specs.declared.items.Record.TheVariants as kept
 use Rattle.rp_request.specs.declared.outcomes.Reply.{Reply}
 use Rattle.rp_request.specs.Records.{applied}
 use Rattle.rp_apply.specs.Applied.{AppliedState, command_verdict, command_record, record_of, after, records_of, item}
-use Rattle.rp_rangesafe.specs.Attempts.{Success, Attempt, IsBorn}
+use Rattle.rp_rangesafe.specs.Attempts.{Success, Refused, Attempt, IsBorn}
 use Rattle.rp_rangesafe.specs.Along.{entry, state, Takes}
 use Rattle.rp_rangesafe.specs.World.{World, state_at}
 use Rattle.rp_rangesafe.specs.Places.{IsReached, IsLater, IsPlace, items_to}
 use Rattle.rp_rangesafe.specs.Ranges.{Owner, Nobody, Turned, At, Ranges, IsRefusedAt, IsRefused, AreReached, AreLater, IsTheOnePlace, HasNowhere}
-use Rattle.rp_rangesafe.proofs.Answers.{success_is_placed, refused_never}
+use Rattle.rp_rangesafe.proofs.OneRange.{success_is_placed, refused_never}
 use Rattle.rp_rangesafe.proofs.Runs.{later_itself}
 use Rattle.rp_rangesafe.proofs.Whole.{Whole, Onto, whole_reached, onto_later, later_whole, refused_onto, owner_onto}
 use Rattle.rp_rangesafe.proofs.Once.{placed_born, once_over}
@@ -65,7 +65,7 @@ refused_nowhere w reach id refused later range k c l p = go (w.owner id) refl wh
   go (At r) e =
       let same : later.owner id ≡ At r = owner_onto w later reach l id (At r) e tt in
       let one : r ≡ range = one_owner (later.owner id) r range same at in
-      refused_never (later.range range) (whole.reached range) id (subst (λ z. ((later.range z).attempt id).stage ≡ Rattle.rp_rangesafe.specs.Attempts.Refused) one (still (At r) e))
+      refused_never (later.range range) (whole.reached range) id (subst (λ z. ((later.range z).attempt id).stage ≡ Refused) one (still (At r) e))
       (later.range range) k c (later_itself (later.range range)) p
 
 -- the record of each entry

@@ -8,7 +8,7 @@ pub mod Worlds
 pub mod Sounds
 pub mod Growth
 pub mod Runs
-pub mod Answers
+pub mod OneRange
 pub mod Untouched
 pub mod Folds
 pub mod Listed

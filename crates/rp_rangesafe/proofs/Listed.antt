@@ -7,6 +7,7 @@ use Rattle.rp_request.specs.declared.commands.Payload.{Payload}
 use Rattle.rp_request.specs.declared.commands.Payload.TheVariants.{Nothing, Write, Lease}
 use Rattle.rp_request.specs.declared.commands.Command.{Command}
 use Rattle.rp_request.specs.declared.items.Place.{Place}
+use Rattle.rp_request.specs.declared.items.Place.TheVariants as places
 use Rattle.rp_request.specs.declared.requests.Request.{Request}
 use Rattle.rp_request.specs.declared.requests.Request.TheVariants.{Put, Add, CPut, Del, Wipe, Move, Split}
 use Rattle.rp_request.specs.Places.{is_of, names}
@@ -62,7 +63,7 @@ one_item s (Write c) client seq i x e h = go (command_verdict s c) refl i e wher
   go verdicts.Nothing v j k = absurd cc
 one_item s (Lease ask) client seq i x e h = go (asked s ask) i e where
   go : (o : Option leases.Lease) (i : ℕ) → slice_get (applied (ask_record o ∷ [])) i ≡ Some x → (i ≡ 0) × Item s (Lease ask) client seq x
-  go (Some lease) zero k = let same : Rattle.rp_request.specs.declared.items.Place.TheVariants.Lease lease ≡ x = cc in absurd (let no = subst (λ y. IsTrue (names client seq y)) (sym same) h in cc)
+  go (Some lease) zero k = let same : places.Lease lease ≡ x = cc in absurd (let no = subst (λ y. IsTrue (names client seq y)) (sym same) h in cc)
   go (Some lease) (suc j) k = absurd cc
   go None j k = absurd cc
 
@@ -75,11 +76,11 @@ pub record Listed (w : World) (client seq n j : ℕ) : Type 0 where
   pub named : IsTrue (is_of client seq command.id)
   pub at : j ≡ length (items_to w index)
 
-pub listed : (w : World) (client seq n : ℕ) → n ≤ length w.log → (j : ℕ) (x : Place) → slice_get (items_to w n) j ≡ Some x → IsTrue (names client seq x)
+pub listed_by : (w : World) (client seq n : ℕ) → n ≤ length w.log → (j : ℕ) (x : Place) → slice_get (items_to w n) j ≡ Some x → IsTrue (names client seq x)
     → Listed w client seq n j
-listed w client seq zero l j x e h = absurd cc
-listed w client seq (suc n) l j x e h = go (front (items_to w n) (applied (record_of (state_at w n) (entry w.log n) ∷ [])) j x (sym (ap (λ xs. slice_get xs j) (one_more w.start w.log n (omega arith))) ∙ e))
-    (λ k. listed w client seq n (omega arith) j x k h) where
+listed_by w client seq zero l j x e h = absurd cc
+listed_by w client seq (suc n) l j x e h = go (front (items_to w n) (applied (record_of (state_at w n) (entry w.log n) ∷ [])) j x (sym (ap (λ xs. slice_get xs j) (one_more w.start w.log n (omega arith))) ∙ e))
+    (λ k. listed_by w client seq n (omega arith) j x k h) where
   go : (slice_get (items_to w n) j ≡ Some x) ⊎ ((i : ℕ) × (j ≡ length (items_to w n) + i) × (slice_get (applied (record_of (state_at w n) (entry w.log n) ∷ [])) i ≡ Some x))
       → ((slice_get (items_to w n) j ≡ Some x) → Listed w client seq n j) → Listed w client seq (suc n) j
   go (inl k) ih = let y = ih k in record {

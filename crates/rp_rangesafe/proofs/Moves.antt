@@ -11,7 +11,7 @@ use Rattle.rp_apply.specs.Applied.{AppliedState, verdict, IsBlocked}
 use Rattle.rp_apply.specs.declared.verdicts.Verdict.{Verdict}
 use Rattle.rp_apply.specs.declared.verdicts.Verdict.TheVariants.{Took, OldLease, OldIndex, LeaseMoved}
 use Rattle.rp_apply.specs.declared.verdicts.Verdict.TheVariants as verdicts
-use Rattle.rp_rangesafe.specs.Attempts.{Body, Stage, Unborn, Waiting, Proposed, Success, Refused, Overtaken, Removed, Restarted, Attempt, IsBorn, IsClosed, IsOpen, IsUntaken, IsAmong, IsOf, staged, proposed}
+use Rattle.rp_rangesafe.specs.Attempts.{Body, Stage, Unborn, Waiting, Proposed, Success, Refused, Overtaken, Removed, Restarted, Attempt, IsBorn, IsClosed, IsOpen, IsUntaken, IsAmong, IsOf, staged, handed_out}
 use Rattle.rp_rangesafe.specs.Along.{state, Takes}
 use Rattle.rp_rangesafe.specs.World.{IsEvaluated, told, by_verdict, overtaken, removed, restarted}
 use Rattle.rp_rangesafe.proofs.Steps.{onward_same, old_lease, old_index, no_lease_moved, no_void}

@@ -14,8 +14,8 @@ use Rattle.rp_rangesafe.proofs.Tables.{id_by}
 use Rattle.rp_rangesafe.proofs.One.{Made, Good, born_with}
 use Rattle.rp_rangesafe.proofs.Worlds.{extends_itself, Sound}
 use Rattle.rp_rangesafe.proofs.Runs.{sound_reached, later_itself}
-use Rattle.rp_rangesafe.proofs.Answers.{one_place_of, refused_never}
-use Rattle.rp_rangesafe.proofs.Listed.{Listed, listed}
+use Rattle.rp_rangesafe.proofs.OneRange.{one_place_of, refused_never}
+use Rattle.rp_rangesafe.proofs.Listed.{Listed, listed_by}
 use Rattle.rp_rangesafe.proofs.Whole.{Whole, whole_reached}
 
 -- an attempt with a place was admitted
@@ -59,8 +59,8 @@ listed_place w client seq j l = record { within = l.within; takes = l.takes; nam
 
 pub once_in_all : (w : Ranges) → AreReached w → IsOnceInAll (lists w)
 once_in_all w reach client seq q i r j p t =
-    let x = listed (w.range q) client seq (length (w.range q).log) (omega arith) i p.item p.here p.named in
-    let y = listed (w.range r) client seq (length (w.range r).log) (omega arith) j t.item t.here t.named in
+    let x = listed_by (w.range q) client seq (length (w.range q).log) (omega arith) i p.item p.here p.named in
+    let y = listed_by (w.range r) client seq (length (w.range r).log) (omega arith) j t.item t.here t.named in
     let a = is_client client seq x.command.id x.named in
     let b = is_client client seq y.command.id y.named in
     let one = once_over w reach q r x.index y.index x.command.id y.command.id x.command y.command (a.0 ∙ sym b.0) (a.1 ∙ sym b.1)

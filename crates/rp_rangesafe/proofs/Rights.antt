@@ -27,12 +27,12 @@ use Rattle.rp_apply.specs.declared.verdicts.Verdict.TheVariants as verdicts
 use Rattle.rp_rangesafe.specs.Along.{entry, state, Takes}
 use Rattle.rp_rangesafe.specs.World.{World, begin, state_at, Event, Admit, Flush, Return, Refuse, Commit, Apply, Snapshot, Remove, Restart, happens, run, with_node}
 use Rattle.rp_rangesafe.specs.Places.{IsReached, IsLater, IsOnward, IsPlace, shown, items_to}
-use Rattle.rp_rangesafe.specs.Ranges.{Ranges, first_applied, at_first, Step, In, Turn_away, IsLawfulIn, IsLawful, right_with, right_by_request, right_by, right_of, with_right, within, after_event, step, AreLawful, after_steps, AreReached, AreLater, lists, IsOrigin}
+use Rattle.rp_rangesafe.specs.Ranges.{Ranges, first_applied, at_first, Step, In, Turn_away, IsLawfulIn, IsLawful, right_with, right_by_request, right_by, right_of, with_right, within, after_event, after_step, AreLawful, after_steps, AreReached, AreLater, lists}
 use Rattle.rp_rangesafe.proofs.Tables.{node_same, node_other, at_with_node}
 use Rattle.rp_rangesafe.proofs.Worlds.{Extends, extends_itself, state_so_far}
 use Rattle.rp_rangesafe.proofs.Runs.{later_extends, later_start}
 use Rattle.rp_rangesafe.proofs.Folds.{one_more}
-use Rattle.rp_rangesafe.proofs.Answers.{numbers_rise, fold_is_state}
+use Rattle.rp_rangesafe.proofs.OneRange.{numbers_rise, fold_is_state}
 use Rattle.rp_rangesafe.proofs.Whole.{Whole, Onto, whole_first, whole_step, onto_step, onto_in, onto_right, onto_further, whole_in, whole_reached}
 
 -- a list only grows
@@ -102,6 +102,14 @@ pub opens_it : (s : AppliedState) (p : Payload) (t : AppliedState) → right_of 
 opens_it s Nothing t k = absurd cc
 opens_it s (Write c) t k = opens_command s c (command_verdict s c) t refl k
 opens_it s (Lease ask) t k = absurd cc
+
+-- a range starts from what an entry of another range's list opens: a split that is taken there
+pub record IsOrigin (w : Ranges) (start : AppliedState) : Type 0 where
+  pub left : ℕ
+  pub index : ℕ
+  pub there : w.opened left ≡ true
+  pub below : index < length (w.range left).log
+  pub opens : right_of (state_at (w.range left) index) (entry (w.range left).log index) ≡ Some start
 
 -- where a range starts: range 0 from the first state, each other one from what opens it
 pub record Source (w : Ranges) (q : ℕ) : Type 0 where
@@ -200,7 +208,7 @@ module _ (w : Ranges) (h : Whole w) (x : Sources w) (r : ℕ) (p : Payload) (l :
   sources_commit : Sources (after_event w r (Commit p))
   sources_commit = sources_right (right_of now p) refl (onto_right grown whole_grown (right_of now p))
 
-sources_step : (w : Ranges) → Whole w → Sources w → (y : Step) → IsLawful w y → Sources (step w y)
+sources_step : (w : Ranges) → Whole w → Sources w → (y : Step) → IsLawful w y → Sources (after_step w y)
 sources_step w h x (In r (Admit id node body)) l q o = source_onto w _ (onto_step w h (In r (Admit id node body)) l) q o (x q o)
 sources_step w h x (In r (Flush id max)) l q o = source_onto w _ (onto_step w h (In r (Flush id max)) l) q o (x q o)
 sources_step w h x (In r (Return id)) l q o = source_onto w _ (onto_step w h (In r (Return id)) l) q o (x q o)
@@ -214,7 +222,7 @@ sources_step w h x (Turn_away id) l q o = source_onto w _ (onto_step w h (Turn_a
 
 sources_steps : (w : Ranges) (ys : List Step) → AreLawful w ys → Whole w → Sources w → Sources (after_steps w ys)
 sources_steps w [] l h x = x
-sources_steps w (y ∷ ys) l h x = sources_steps (step w y) ys l.1 (whole_step w h y l.0) (sources_step w h x y l.0)
+sources_steps w (y ∷ ys) l h x = sources_steps (after_step w y) ys l.1 (whole_step w h y l.0) (sources_step w h x y l.0)
 
 pub sources_reached : (w : Ranges) → AreReached w → (q : ℕ) → w.opened q ≡ true → Source w q
 sources_reached w r = subst Sources r.reached (sources_steps at_first r.steps r.lawful whole_first sources_first)
@@ -270,11 +278,11 @@ module _ (w : Ranges) (reach : AreReached w) (q : ℕ) (there : w.opened q ≡ t
   abbrev split_state : AppliedState
   split_state = state_at left x.index
 
-  opens : Opens split_state (entry left.log x.index) (w.range q).start
-  opens = opens_it split_state (entry left.log x.index) (w.range q).start x.opens
+  opening : Opens split_state (entry left.log x.index) (w.range q).start
+  opening = opens_it split_state (entry left.log x.index) (w.range q).start x.opens
 
-  shares : AreParts split_state.desc opens.key opens.left opens.right
-  shares = parts split_state.desc opens.key opens.left opens.right opens.parted
+  shares : AreParts split_state.desc opening.key opening.left opening.right
+  shares = parts split_state.desc opening.key opening.left opening.right opening.parted
 
   left_number : split_state.desc.id ≡ x.left
   left_number = number_along w reach x.left x.there x.index
@@ -282,7 +290,7 @@ module _ (w : Ranges) (reach : AreReached w) (q : ℕ) (there : w.opened q ≡ t
   number : q ≡ x.left + 2 ^ split_state.desc.level
   number =
       let a = (sources_reached w reach q there).numbered in
-      let b : opens.right.id ≡ (w.range q).start.desc.id = ap (λ (t : AppliedState). t.desc.id) opens.made in
+      let b : opening.right.id ≡ (w.range q).start.desc.id = ap (λ (t : AppliedState). t.desc.id) opening.made in
       let c = shares.right_id in
       sym a ∙ sym b ∙ c ∙ ap (λ n. n + 2 ^ split_state.desc.level) left_number
 
@@ -297,32 +305,32 @@ module _ (w : Ranges) (reach : AreReached w) (q : ℕ) (there : w.opened q ≡ t
 
   splits_off : SplitsOff (shown left.start) (lists w x.left) q (shown (w.range q).start)
   splits_off = record {
-    id = opens.command.id;
-    key = opens.key;
-    seq = opens.command.seq;
+    id = opening.command.id;
+    key = opening.key;
+    seq = opening.command.seq;
     before = items_to left x.index;
     after = (begin_with left (suc x.index) (length left.log) (let b = x.below in omega arith) (omega arith)).0;
     here = items;
     left = shown split_state;
     reached = fold_is_state left ((whole_reached w reach).reached x.left) x.index (let b = x.below in omega arith);
-    begins = subst (λ (t : AppliedState). IsRightStart (shown split_state) opens.key (shown t)) opens.made
-        (record { left = opens.left; desc = opens.parted; table = refl; lease = refl });
+    begins = subst (λ (t : AppliedState). IsRightStart (shown split_state) opening.key (shown t)) opening.made
+        (record { left = opening.left; desc = opening.parted; table = refl; lease = refl });
   } where
     numbered : right_number split_state.desc ≡ q
     numbered = ap (λ n. n + 2 ^ split_state.desc.level) left_number ∙ sym number
     joined : (xs ys : List Place) (y : Place) → (xs ++ y ∷ []) ++ ys ≡ xs ++ y ∷ ys
     joined [] ys y = refl
     joined (z ∷ xs) ys y = ap (λ us. z ∷ us) (joined xs ys y)
-    items : lists w x.left ≡ items_to left x.index ++ places.Split opens.command.id opens.key q opens.command.seq
+    items : lists w x.left ≡ items_to left x.index ++ places.Split opening.command.id opening.key q opening.command.seq
         ∷ (begin_with left (suc x.index) (length left.log) (let b = x.below in omega arith) (omega arith)).0
     items =
         let k = begin_with left (suc x.index) (length left.log) (let b = x.below in omega arith) (omega arith) in
-        let last : applied (record_of split_state (entry left.log x.index) ∷ []) ≡ places.Split opens.command.id opens.key q opens.command.seq ∷ [] =
-            ap (λ p. applied (record_of split_state p ∷ [])) opens.here ∙ one_split split_state opens.command opens.key opens.took opens.splits
-            ∙ ap (λ n. places.Split opens.command.id opens.key n opens.command.seq ∷ []) numbered in
+        let last : applied (record_of split_state (entry left.log x.index) ∷ []) ≡ places.Split opening.command.id opening.key q opening.command.seq ∷ [] =
+            ap (λ p. applied (record_of split_state p ∷ [])) opening.here ∙ one_split split_state opening.command opening.key opening.took opening.splits
+            ∙ ap (λ n. places.Split opening.command.id opening.key n opening.command.seq ∷ []) numbered in
         k.1
         ∙ ap (λ xs. xs ++ k.0) (one_more left.start left.log x.index x.below ∙ ap (λ ys. items_to left x.index ++ ys) last)
-        ∙ joined (items_to left x.index) k.0 (places.Split opens.command.id opens.key q opens.command.seq)
+        ∙ joined (items_to left x.index) k.0 (places.Split opening.command.id opening.key q opening.command.seq)
 
 -- each range starts from the split that opens it
 start_below : (w : Ranges) (reach : AreReached w) (n q : ℕ) → q < n → w.opened q ≡ true → IsStart (lists w) q (shown (w.range q).start)

@@ -84,8 +84,8 @@ pub record Ahead (w later : World) : Type 0 where
   pub start : later.start ≡ w.start
   pub so_far : Extends (entry later.log) w.log
 
-pub ahead : (w later : World) → IsReached w → IsLater w later → Ahead w later
-ahead w later r l = record {
+pub look_ahead : (w later : World) → IsReached w → IsLater w later → Ahead w later
+look_ahead w later r l = record {
   now = sound_reached (entry later.log) w r (later_extends (entry later.log) w later l (extends_itself later.log));
   then = sound_reached (entry later.log) later (later_reached w later r l) (extends_itself later.log);
   start = later_start w later l;

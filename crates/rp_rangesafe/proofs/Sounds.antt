@@ -8,7 +8,7 @@ use Rattle.rp_request.specs.declared.commands.Command.{Command}
 use Rattle.rp_request.specs.Covers.{covers, Apart}
 use Rattle.rp_apply.specs.Applied.{AppliedState, verdict, IsBlocked}
 use Rattle.rp_apply.specs.declared.verdicts.Verdict.{Verdict}
-use Rattle.rp_rangesafe.specs.Attempts.{Body, Stage, Unborn, Waiting, Proposed, Success, Refused, Overtaken, Removed, Restarted, Attempt, Attempts, IsBorn, IsPending, IsEnded, IsClosed, IsOpen, IsAmong, IsOf, staged, proposed, with_attempt, at_node}
+use Rattle.rp_rangesafe.specs.Attempts.{Body, Stage, Unborn, Waiting, Proposed, Success, Refused, Overtaken, Removed, Restarted, Attempt, Attempts, IsBorn, IsPending, IsEnded, IsClosed, IsOpen, IsAmong, IsOf, staged, handed_out, with_attempt, at_node}
 use Rattle.rp_rangesafe.specs.Along.{entry, state}
 use Rattle.rp_rangesafe.specs.World.{World, state_at, here, begin, Event, Admit, Flush, Return, Refuse, Commit, Apply, Snapshot, Remove, Restart, MayAdmit, IsEvaluated, MayCommit, IsPassed, MayJump, Lawful, admitted, with_node, told, after_entry, overtaken, removed, restarted, turned, happens}
 use Rattle.rp_rangesafe.proofs.Tables.{id_cases, at_attempt, at_same, at_other, at_nodes, node_same, node_other, at_with_node}
@@ -73,7 +73,7 @@ module _ (f : ℕ → Payload) (w : World) (s : Sound f w) where
       (at_attempt Turns w.attempt id x t (λ q _. record { good = s.good q; kept = kept_same (w.attempt q) }))
 
   sound_flush : (id : CmdId) (max : ℕ) → (w.attempt id).stage ≡ Waiting → 0 < max → Sound f (happens w (Flush id max))
-  sound_flush id max e pos = one_turns id (proposed (w.attempt id) max) (record {
+  sound_flush id max e pos = one_turns id (handed_out (w.attempt id) max) (record {
     good = hands_out (s.good id) max e pos;
     kept = record { node = refl; start = refl; seq = refl; body = refl; born = λ _. subst IsBorn (sym e) tt; ended = λ h. absurd (subst IsEnded e h) };
   })

@@ -18,11 +18,11 @@ use Rattle.rp_apply.specs.declared.verdicts.Verdict.TheVariants.{Took}
 use Rattle.rp_rangesafe.specs.Along.{entry, state}
 use Rattle.rp_rangesafe.specs.World.{World, begin, state_at, Event, Admit, Flush, Return, Refuse, Commit, Apply, Snapshot, Remove, Restart, Lawful, happens, with_node}
 use Rattle.rp_rangesafe.specs.Places.{IsLater, IsOnward}
-use Rattle.rp_rangesafe.specs.Ranges.{Ranges, first_applied, at_first, Step, In, Turn_away, IsLawfulIn, IsLawful, right_of, with_right, within, after_event, step, AreLawful, after_steps, AreReached, IsOrigin}
+use Rattle.rp_rangesafe.specs.Ranges.{Ranges, first_applied, at_first, Step, In, Turn_away, IsLawfulIn, IsLawful, right_of, with_right, within, after_event, after_step, AreLawful, after_steps, AreReached}
 use Rattle.rp_rangesafe.proofs.Tables.{node_same, at_with_node}
-use Rattle.rp_rangesafe.proofs.Answers.{numbers_rise}
+use Rattle.rp_rangesafe.proofs.OneRange.{numbers_rise}
 use Rattle.rp_rangesafe.proofs.Whole.{Whole, Onto, whole_first, whole_step, onto_step, onto_in, onto_right, whole_in, whole_reached, onto_steps}
-use Rattle.rp_rangesafe.proofs.Rights.{later_entry, later_state, Opens, opens_it, Source, sources_reached, number_along, left_is}
+use Rattle.rp_rangesafe.proofs.Rights.{later_entry, later_state, Opens, opens_it, IsOrigin, Source, sources_reached, number_along, left_is}
 
 -- where the description is split its level rises
 split_rises : (s : AppliedState) (p : Payload) (t : AppliedState) → Opens s p t → (after s p).desc.level ≡ s.desc.level + 1
@@ -173,7 +173,7 @@ module _ (w : Ranges) (h : Whole w) (x : AllOpened w) (r : ℕ) (p : Payload) (l
       go false b onto = opened_grown _ onto (short_in grown s.desc.id (begin s) (omega arith))
           (λ t f. subst (λ (u : AppliedState). with_node w.opened s.desc.id true u.desc.id ≡ true) (same t f) (node_same w.opened s.desc.id true))
 
-opened_step : (w : Ranges) → Whole w → AllOpened w → (y : Step) → IsLawful w y → AllOpened (step w y)
+opened_step : (w : Ranges) → Whole w → AllOpened w → (y : Step) → IsLawful w y → AllOpened (after_step w y)
 opened_step w h x (In r (Admit id node body)) l = opened_still w _ h x (onto_step w h (In r (Admit id node body)) l) (short_in w r (happens (w.range r) (Admit id node body)) (omega arith))
 opened_step w h x (In r (Flush id max)) l = opened_still w _ h x (onto_step w h (In r (Flush id max)) l) (short_in w r (happens (w.range r) (Flush id max)) (omega arith))
 opened_step w h x (In r (Return id)) l = opened_still w _ h x (onto_step w h (In r (Return id)) l) (short_in w r (happens (w.range r) (Return id)) (omega arith))
@@ -187,7 +187,7 @@ opened_step w h x (Turn_away id) l = opened_still w _ h x (onto_step w h (Turn_a
 
 opened_steps : (w : Ranges) (ys : List Step) → AreLawful w ys → Whole w → AllOpened w → AllOpened (after_steps w ys)
 opened_steps w [] l h x = x
-opened_steps w (y ∷ ys) l h x = opened_steps (step w y) ys l.1 (whole_step w h y l.0) (opened_step w h x y l.0)
+opened_steps w (y ∷ ys) l h x = opened_steps (after_step w y) ys l.1 (whole_step w h y l.0) (opened_step w h x y l.0)
 
 pub all_opened : (w : Ranges) → AreReached w → AllOpened w
 all_opened w r = subst AllOpened r.reached (opened_steps at_first r.steps r.lawful whole_first opened_first)

@@ -4,6 +4,7 @@ use Rattle.std.proofs.Common.{◌≡◌, ℕ, ◌+◌, ◌<◌, ◌≤◌, Bool,
 use Rattle.std.proofs.lemmas.Bool.Decides.{nat_tests}
 use Rattle.rp_base.specs.declared.ranges.Desc.{Desc}
 use Rattle.rp_base.specs.declared.ranges.SplitFault.{SplitFault}
+use Rattle.rp_base.specs.declared.ranges.SplitFault.TheVariants.{NotInside}
 use Rattle.rp_base.specs.declared.leases.Lease as lease_type
 use Rattle.rp_base.specs.declared.leases.LeaseAsk.{LeaseAsk}
 use Rattle.rp_base.specs.Leases.{lease_after, extended, moved}
@@ -45,7 +46,7 @@ cut_parts d key false e = uncut d
 
 cut_split : (d : Desc) (key : ℕ) → Cut d (left_of d (split_of d key))
 cut_split d key = go (key == d.start) where
-  go : (b : Bool) → Cut d (left_of d (cond b (Err Rattle.rp_base.specs.declared.ranges.SplitFault.TheVariants.NotInside) (parts_of d key (nat_lt d.level 3) refl)))
+  go : (b : Bool) → Cut d (left_of d (cond b (Err NotInside) (parts_of d key (nat_lt d.level 3) refl)))
   go true = uncut d
   go false = cut_parts d key (nat_lt d.level 3) refl
 

@@ -12,7 +12,7 @@ use Rattle.rp_apply.specs.Applied.{AppliedState, verdict, IsBlocked}
 use Rattle.rp_apply.specs.declared.verdicts.Verdict.{Verdict}
 use Rattle.rp_apply.specs.declared.verdicts.Verdict.TheVariants.{Took, OldLease, OldIndex, LeaseMoved}
 use Rattle.rp_apply.specs.declared.verdicts.Verdict.TheVariants as verdicts
-use Rattle.rp_rangesafe.specs.Attempts.{Body, Stage, Unborn, Waiting, Proposed, Success, Refused, Overtaken, Removed, Restarted, Attempt, IsBorn, IsClosed, IsOpen, IsUntaken, IsAmong, IsOf, staged, proposed}
+use Rattle.rp_rangesafe.specs.Attempts.{Body, Stage, Unborn, Waiting, Proposed, Success, Refused, Overtaken, Removed, Restarted, Attempt, IsBorn, IsClosed, IsOpen, IsUntaken, IsAmong, IsOf, staged, handed_out}
 use Rattle.rp_rangesafe.specs.Along.{state, Takes}
 use Rattle.rp_rangesafe.specs.World.{IsEvaluated, told, by_verdict, overtaken, removed, restarted, unborn}
 use Rattle.rp_rangesafe.proofs.Steps.{onward_same, old_lease, old_index, no_lease_moved, no_void}
@@ -175,7 +175,7 @@ module _ {b : AppliedState} {f : ℕ → Payload} {n p : ℕ} {alive : Bool} {ba
         go (Restarted own) e = keeps_known live (suc p) (omega arith) (omega arith) (Restarted own) e (λ u. u)
 
   -- a waiting one is handed out
-  pub hands_out : (max : ℕ) → a.stage ≡ Waiting → 0 < max → Good b f n p alive bar id (proposed a max)
+  pub hands_out : (max : ℕ) → a.stage ≡ Waiting → 0 < max → Good b f n p alive bar id (handed_out a max)
   hands_out max e pos = record {
     fresh = λ h. absurd cc;
     behind = λ _. x.behind (subst IsBorn (sym e) tt);

@@ -137,10 +137,10 @@ module _ (f : ℕ → Payload) (w : World) (s : Sound f w) where
     go (inr ne) = parts ((s.pairs d.id e.id ne).apart (born k d hk t) (born j e hj u) nodes seqs)
 
   -- each place below an index would be evaluated there as it was
-  abbrev Evaluated : ℕ → Type 0
-  Evaluated k = (i : ℕ) (c : Command) → i < k → Takes b f i c → IsEvaluated (state b f i) (body_of c)
+  abbrev AllEvaluated : ℕ → Type 0
+  AllEvaluated k = (i : ℕ) (c : Command) → i < k → Takes b f i c → IsEvaluated (state b f i) (body_of c)
 
-  module _ (k : ℕ) (d : Command) (hk : k < n) (t : Takes b f k d) (before : Evaluated k) where
+  module _ (k : ℕ) (d : Command) (hk : k < n) (t : Takes b f k d) (before : AllEvaluated k) where
     one_alike : (i : ℕ) → (at d.id).from ≤ i → i < k → Alike (covers d.request) (state b f i) (state b f (suc i))
     one_alike i lo hi = go (f i) refl where
       by : (e : Command) → f i ≡ Write e → (v : Verdict) → command_verdict (state b f i) e ≡ v → Alike (covers d.request) (state b f i) (written (state b f i) e v)
@@ -178,10 +178,10 @@ module _ (f : ℕ → Payload) (w : World) (s : Sound f w) where
           evaluation = sym (evaluated_reads (state b f (at d.id).from).table (state b f k).table (state b f (at d.id).from).desc d.request alike_at.table) ∙ h.evaluation;
         })
 
-  all_evaluated : (k : ℕ) → k ≤ n → Evaluated k
+  all_evaluated : (k : ℕ) → k ≤ n → AllEvaluated k
   all_evaluated zero l i c h t = absurd (omega arith)
   all_evaluated (suc k) l i c h t = go (cases_lt i k) (all_evaluated k (omega arith)) where
-    go : (i < k) ⊎ (k ≤ i) → Evaluated k → IsEvaluated (state b f i) (body_of c)
+    go : (i < k) ⊎ (k ≤ i) → AllEvaluated k → IsEvaluated (state b f i) (body_of c)
     go (inl lt) ih = ih i c lt t
     go (inr ge) ih =
         let e : i ≡ k = omega arith in

@@ -9,7 +9,7 @@ use Rattle.rp_apply.specs.Applied.{AppliedState}
 use Rattle.rp_rangesafe.specs.Attempts.{Stage, Unborn, Refused, Attempt, Attempts, IsBorn, IsEnded, same_id}
 use Rattle.rp_rangesafe.specs.World.{World, begin, state_at, unborn, Event, Admit, Flush, Return, Refuse, Commit, Apply, Snapshot, Remove, Restart, Lawful, AllLawful, happens, run, with_node}
 use Rattle.rp_rangesafe.specs.Places.{IsReached, IsLater}
-use Rattle.rp_rangesafe.specs.Ranges.{Owner, Nobody, Turned, At, Ranges, first_applied, at_first, Step, In, Turn_away, IsMade, IsRefusedAt, IsRefused, previous, MayBegin, Begins, IsLawfulIn, IsLawful, right_of, with_right, with_owner, within, after_event, step, AreLawful, after_steps, AreReached, AreLater}
+use Rattle.rp_rangesafe.specs.Ranges.{Owner, Nobody, Turned, At, Ranges, first_applied, at_first, Step, In, Turn_away, IsMade, IsRefusedAt, IsRefused, previous, MayBegin, Begins, IsLawfulIn, IsLawful, right_of, with_right, with_owner, within, after_event, after_step, AreLawful, after_steps, AreReached, AreLater}
 use Rattle.rp_rangesafe.proofs.Tables.{id_by, same_id_is, other_id, id_cases, node_same, node_other, at_with_node, at_attempt}
 use Rattle.rp_rangesafe.proofs.Growth.{Grown, Admits, made_before}
 use Rattle.rp_rangesafe.proofs.Runs.{later_itself, later_further, later_reached, later_grown}
@@ -267,21 +267,21 @@ module _ (w : Ranges) (h : Whole w) where
   onto_event r (Remove node) l = onto_in w h r (Remove node) l.lawful l.there
   onto_event r (Restart node) l = onto_in w h r (Restart node) l.lawful l.there
 
-  pub whole_step : (x : Step) → IsLawful w x → Whole (step w x)
+  pub whole_step : (x : Step) → IsLawful w x → Whole (after_step w x)
   whole_step (In r e) l = whole_event r e l
   whole_step (Turn_away id) l = whole_away w h id l
 
-  pub onto_step : (x : Step) → IsLawful w x → Onto w (step w x)
+  pub onto_step : (x : Step) → IsLawful w x → Onto w (after_step w x)
   onto_step (In r e) l = onto_event r e l
   onto_step (Turn_away id) l = onto_away w h id l
 
 pub whole_steps : (w : Ranges) (xs : List Step) → AreLawful w xs → Whole w → Whole (after_steps w xs)
 whole_steps w [] l h = h
-whole_steps w (x ∷ xs) l h = whole_steps (step w x) xs l.1 (whole_step w h x l.0)
+whole_steps w (x ∷ xs) l h = whole_steps (after_step w x) xs l.1 (whole_step w h x l.0)
 
 pub onto_steps : (w : Ranges) (xs : List Step) → AreLawful w xs → Whole w → Onto w (after_steps w xs)
 onto_steps w [] l h = onto_itself w
-onto_steps w (x ∷ xs) l h = onto_further w (step w x) (after_steps (step w x) xs) (onto_step w h x l.0) (onto_steps (step w x) xs l.1 (whole_step w h x l.0))
+onto_steps w (x ∷ xs) l h = onto_further w (after_step w x) (after_steps (after_step w x) xs) (onto_step w h x l.0) (onto_steps (after_step w x) xs l.1 (whole_step w h x l.0))
 
 pub whole_reached : (w : Ranges) → AreReached w → Whole w
 whole_reached w r = subst Whole r.reached (whole_steps at_first r.steps r.lawful whole_first)
@@ -293,14 +293,14 @@ pub later_whole : (w later : Ranges) → AreReached w → AreLater w later → W
 later_whole w later r l = subst Whole l.reached (whole_steps w l.steps l.lawful (whole_reached w r))
 
 -- an attempt that was made stays where it was made
-owner_step : (w : Ranges) (x : Step) → IsLawful w x → (id : CmdId) (o : Owner) → w.owner id ≡ o → IsMade o → (step w x).owner id ≡ o
+owner_step : (w : Ranges) (x : Step) → IsLawful w x → (id : CmdId) (o : Owner) → w.owner id ≡ o → IsMade o → (after_step w x).owner id ≡ o
 owner_step w x l id o e m = go x l where
   right : (v : Ranges) (t : Option AppliedState) → (with_right v t).owner id ≡ v.owner id
   right v None = refl
   right v (Some s) = cond_both (v.opened s.desc.id) v _ (λ (u : Ranges). u.owner id ≡ v.owner id) (λ _. refl) (λ _. refl)
   begun : (q : CmdId) (p : Owner) → MayBegin w q → with_owner w.owner q p id ≡ o
   begun q p b = at_owner (λ z y. w.owner z ≡ o → y ≡ o) w.owner q p (λ k. let new = b.new in absurd (subst IsMade (sym k ∙ new) m)) (λ z _ k. k) id e
-  go : (x : Step) → IsLawful w x → (step w x).owner id ≡ o
+  go : (x : Step) → IsLawful w x → (after_step w x).owner id ≡ o
   go (In r (Admit q node body)) l = begun q (At r) l.begins
   go (In r (Flush q max)) l = e
   go (In r (Return q)) l = e
@@ -314,7 +314,7 @@ owner_step w x l id o e m = go x l where
 
 owner_steps : (w : Ranges) (xs : List Step) → AreLawful w xs → (id : CmdId) (o : Owner) → w.owner id ≡ o → IsMade o → (after_steps w xs).owner id ≡ o
 owner_steps w [] l id o e m = e
-owner_steps w (x ∷ xs) l id o e m = owner_steps (step w x) xs l.1 id o (owner_step w x l.0 id o e m) m
+owner_steps w (x ∷ xs) l id o e m = owner_steps (after_step w x) xs l.1 id o (owner_step w x l.0 id o e m) m
 
 pub owner_onto : (w later : Ranges) → AreReached w → AreLater w later → (id : CmdId) (o : Owner) → w.owner id ≡ o → IsMade o → later.owner id ≡ o
 owner_onto w later r l id o e m = subst (λ (v : Ranges). v.owner id ≡ o) l.reached (owner_steps w l.steps l.lawful id o e m)

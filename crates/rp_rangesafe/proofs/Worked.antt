@@ -24,7 +24,7 @@ use Rattle.rp_request.specs.declared.requests.Request.TheVariants.{Put, Add, Spl
 use Rattle.rp_apply.specs.Applied.{command_verdict, records_of}
 use Rattle.rp_rangesafe.specs.Attempts.{Body, Stage, Unborn, Waiting, Proposed, Success, Refused, Overtaken, Removed, Restarted, Attempt, Attempts, IsPending, with_attempt, at_node}
 use Rattle.rp_rangesafe.specs.World.{World, Admit, Flush, Return, Refuse, Commit, Apply, Snapshot, Remove, Restart, with_node}
-use Rattle.rp_rangesafe.specs.Ranges.{Ranges, Owner, Nobody, Turned, At, at_first, Step, In, Turn_away, step, AreLawful, after_steps, AreReached, with_owner, lists}
+use Rattle.rp_rangesafe.specs.Ranges.{Ranges, Owner, Nobody, Turned, At, at_first, Step, In, Turn_away, after_step, AreLawful, after_steps, AreReached, with_owner, lists}
 use Rattle.rp_rangesafe.proofs.Tables.{at_attempt}
 
 abbrev one : CmdId
@@ -144,7 +144,7 @@ add_lawful = (record { there = refl; lawful = record { new = refl; live = refl; 
 
 joined : (w : Ranges) (xs ys : List Step) → AreLawful w xs → AreLawful (after_steps w xs) ys → AreLawful w (xs ++ ys)
 joined w [] ys h k = k
-joined w (x ∷ xs) ys h k = (h.0, joined (step w x) xs ys h.1 k)
+joined w (x ∷ xs) ys h k = (h.0, joined (after_step w x) xs ys h.1 k)
 
 -- the run is lawful
 lawful : AreLawful at_first all_steps

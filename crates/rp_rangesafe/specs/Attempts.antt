@@ -125,8 +125,8 @@ abbrev pub staged : Attempt → Stage → Attempt
 staged a stage = record a { stage = stage }
 
 -- the attempt with one more maximum, handed out
-abbrev pub proposed : Attempt → ℕ → Attempt
-proposed a max = record a { stage = Proposed max; maxima = max ∷ a.maxima }
+abbrev pub handed_out : Attempt → ℕ → Attempt
+handed_out a max = record a { stage = Proposed max; maxima = max ∷ a.maxima }
 
 -- all attempts, of which most are unborn
 abbrev pub Attempts : Type 0

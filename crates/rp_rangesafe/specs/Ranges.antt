@@ -18,7 +18,6 @@ use Rattle.rp_apply.specs.declared.verdicts.Verdict.{Verdict}
 use Rattle.rp_apply.specs.declared.verdicts.Verdict.TheVariants.{Took, OldLease, OldIndex, LeaseMoved}
 use Rattle.rp_apply.specs.declared.verdicts.Verdict.TheVariants as verdicts
 use Rattle.rp_rangesafe.specs.Attempts.{Body, Stage, Refused, with_attempt, same_id}
-use Rattle.rp_rangesafe.specs.Along.{entry}
 use Rattle.rp_rangesafe.specs.World.{World, begin, state_at, Event, Admit, Flush, Return, Refuse, Commit, Apply, Snapshot, Remove, Restart, Lawful, happens, with_node}
 use Rattle.rp_rangesafe.specs.Places.{IsPlace, items_to}
 
@@ -155,19 +154,19 @@ after_event w r (Remove node) = within w r (Remove node)
 after_event w r (Restart node) = within w r (Restart node)
 
 -- the ranges after a step
-abbrev pub step : Ranges → Step → Ranges
-step w (In range e) = after_event w range e
-step w (Turn_away id) = record w { owner = with_owner w.owner id Turned }
+abbrev pub after_step : Ranges → Step → Ranges
+after_step w (In range e) = after_event w range e
+after_step w (Turn_away id) = record w { owner = with_owner w.owner id Turned }
 
 -- each step is lawful where it happens
 abbrev pub AreLawful : Ranges → List Step → Type 0
 AreLawful w [] = Unit {0}
-AreLawful w (x ∷ xs) = IsLawful w x × AreLawful (step w x) xs
+AreLawful w (x ∷ xs) = IsLawful w x × AreLawful (after_step w x) xs
 
 -- the ranges after a list of steps
 abbrev pub after_steps : Ranges → List Step → Ranges
 after_steps w [] = w
-after_steps w (x ∷ xs) = after_steps (step w x) xs
+after_steps w (x ∷ xs) = after_steps (after_step w x) xs
 
 -- the ranges as they can be, and as they can become
 pub record AreReached (w : Ranges) : Type 0 where
@@ -183,14 +182,6 @@ pub record AreLater (w later : Ranges) : Type 0 where
 -- the applied list of each range
 abbrev pub lists : Ranges → ℕ → List Place
 lists w r = items_to (w.range r) (length (w.range r).log)
-
--- a range starts from what an entry of another range's list opens: a split that is taken there
-pub record IsOrigin (w : Ranges) (start : AppliedState) : Type 0 where
-  pub left : ℕ
-  pub index : ℕ
-  pub there : w.opened left ≡ true
-  pub below : index < length (w.range left).log
-  pub opens : right_of (state_at (w.range left) index) (entry (w.range left).log index) ≡ Some start
 
 -- the attempt, made in this range, has a place there with this reply, and it is the one place of its command in all ranges
 pub record IsTheOnePlace (w : Ranges) (range : ℕ) (id : CmdId) (reply : Reply) : Type 0 where

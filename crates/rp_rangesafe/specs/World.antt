@@ -13,7 +13,7 @@ use Rattle.rp_apply.specs.Applied.{AppliedState, verdict}
 use Rattle.rp_apply.specs.declared.verdicts.Verdict.{Verdict}
 use Rattle.rp_apply.specs.declared.verdicts.Verdict.TheVariants.{Took, OldLease, OldIndex, LeaseMoved}
 use Rattle.rp_apply.specs.declared.verdicts.Verdict.TheVariants as verdicts
-use Rattle.rp_rangesafe.specs.Attempts.{Body, Stage, Unborn, Waiting, Proposed, Success, Refused, Overtaken, Removed, Restarted, Attempt, Attempts, IsPending, IsOf, staged, proposed, with_attempt, at_node}
+use Rattle.rp_rangesafe.specs.Attempts.{Body, Stage, Unborn, Waiting, Proposed, Success, Refused, Overtaken, Removed, Restarted, Attempt, Attempts, IsPending, IsOf, staged, handed_out, with_attempt, at_node}
 use Rattle.rp_rangesafe.specs.Along.{entry, state}
 
 -- a range: the state that it starts from, its list; of each node how many entries it has applied, whether it
@@ -202,7 +202,7 @@ turned w id stage = record w { attempt = with_attempt w.attempt id (staged (w.at
 -- the range after an event
 abbrev pub happens : World → Event → World
 happens w (Admit id node body) = record w { attempt = with_attempt w.attempt id (admitted w node body) }
-happens w (Flush id max) = record w { attempt = with_attempt w.attempt id (proposed (w.attempt id) max) }
+happens w (Flush id max) = record w { attempt = with_attempt w.attempt id (handed_out (w.attempt id) max) }
 happens w (Return id) = turned w id Waiting
 happens w (Refuse id) = turned w id Refused
 happens w (Commit p) = record w { log = w.log ++ p ∷ [] }

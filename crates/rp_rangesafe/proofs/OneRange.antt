@@ -18,7 +18,7 @@ use Rattle.rp_rangesafe.proofs.Worlds.{Extends, extends_itself, state_so_far, So
 use Rattle.rp_rangesafe.proofs.Untouched.{seq_at, place_evaluated, place_desc}
 use Rattle.rp_rangesafe.proofs.Folds as folds
 use Rattle.rp_rangesafe.proofs.Growth.{Same, Grown}
-use Rattle.rp_rangesafe.proofs.Runs.{sound_reached, later_itself, later_grown, Ahead, ahead, place_of, place_from}
+use Rattle.rp_rangesafe.proofs.Runs.{sound_reached, later_itself, later_grown, Ahead, look_ahead, place_of, place_from}
 
 pub numbers_rise : (w : World) (i j : ℕ) → i ≤ j → IsOnward (state_at w i) (state_at w j)
 numbers_rise w = onward w.start (entry w.log)
@@ -39,7 +39,7 @@ pub dead_for_good : (w : World) → IsReached w → (id : CmdId) (m : ℕ) → I
     → (IsOpen (w.attempt id).stage m → ⊥) → IsDeadForGood w id m
 dead_for_good w r id m among shut later k c l p same = go (cases_lt k (w.index (w.attempt id).node)) ((g.blocked) m among) where
   x : Ahead w later
-  x = ahead w later r l
+  x = look_ahead w later r l
   g : Good w.start (entry later.log) (length w.log) (w.index (w.attempt id).node) (w.alive (w.attempt id).node) (w.barrier (w.attempt id).node) id (w.attempt id)
   g = x.now.good id
   seq_same : c.seq ≡ (w.attempt id).seq
@@ -62,7 +62,7 @@ still w later l id g e h = ap (λ (a : Attempt). a.stage) (sym ((later_grown w l
 
 pub refused_never : (w : World) → IsReached w → (id : CmdId) → (w.attempt id).stage ≡ Refused → HasNever w id
 refused_never w r id e later k c l p =
-    let x = ahead w later r l in
+    let x = look_ahead w later r l in
     let s = still w later l id Refused e tt in
     never (x.then.good id) (subst IsUntaken (sym s) tt) (λ o h. subst (λ g. IsOpen g o) s h) k c p.within (place_of later id k c p)
 
@@ -88,7 +88,7 @@ pub restarted_own : (w : World) → IsReached w → (id : CmdId) (own : ℕ) →
     → (later : World) (k : ℕ) (c : Command) → IsLater w later → IsPlace later id k c → c.max ≡ own
 restarted_own w r id own e later k c l p = go (cases_lt k (later.index (later.attempt id).node)) where
   x : Ahead w later
-  x = ahead w later r l
+  x = look_ahead w later r l
   s : (later.attempt id).stage ≡ Restarted own
   s = still w later l id (Restarted own) e tt
   go : (k < later.index (later.attempt id).node) ⊎ (later.index (later.attempt id).node ≤ k) → c.max ≡ own
