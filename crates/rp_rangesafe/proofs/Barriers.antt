@@ -1,17 +1,17 @@
 -- A node's barrier: what it admits after a restart is under a later lease sequence.
-use Rattle.std.proofs.Common.{◌≡◌, ℕ, zero, suc, ◌<◌, ◌≤◌, ◌⊎◌, inl, inr, List, [], ◌∷◌, ◌++◌, length, refl, sym, ap, subst, ◌∙◌, arith}
+use Rattle.std.proofs.Common.{◌≡◌, ℕ, suc, ◌<◌, ◌≤◌, ◌⊎◌, inl, inr, List, [], ◌∷◌, refl, sym, ap, subst, arith}
 use Rattle.rp_base.specs.declared.ids.CmdId.{CmdId}
 use Rattle.rp_request.specs.declared.commands.Payload.{Payload}
 use Rattle.rp_apply.specs.Applied.{AppliedState}
-use Rattle.rp_rangesafe.specs.Attempts.{Stage, Unborn, Waiting, Proposed, Success, Refused, Overtaken, Removed, Restarted, Attempt, Attempts, IsBorn, with_attempt}
+use Rattle.rp_rangesafe.specs.Attempts.{Stage, Unborn, Waiting, Proposed, Success, Refused, Overtaken, Removed, Restarted, Attempt, IsBorn}
 use Rattle.rp_rangesafe.specs.Along.{entry, state}
-use Rattle.rp_rangesafe.specs.World.{World, state_at, here, begin, Event, Admit, Flush, Return, Refuse, Commit, Apply, Snapshot, Remove, Restart, MayAdmit, Lawful, AllLawful, admitted, happens, run, with_node}
-use Rattle.rp_rangesafe.specs.Places.{IsReached, IsLater, IsOnward}
+use Rattle.rp_rangesafe.specs.World.{World, here, begin, Event, Admit, Flush, Return, Refuse, Commit, Apply, Snapshot, Remove, Restart, Lawful, AllLawful, admitted, happens, run, with_node}
+use Rattle.rp_rangesafe.specs.Places.{IsReached, IsLater}
 use Rattle.rp_rangesafe.proofs.Tables.{at_with_node, at_attempt}
 use Rattle.rp_rangesafe.proofs.Numbers.{onward}
-use Rattle.rp_rangesafe.proofs.Worlds.{Extends, extends_itself, extends_less, state_so_far, Sound, sound_begin}
+use Rattle.rp_rangesafe.proofs.Worlds.{Extends, extends_itself, state_so_far, Sound, sound_begin}
 use Rattle.rp_rangesafe.proofs.Sounds.{extends_before, sound_step}
-use Rattle.rp_rangesafe.proofs.Growth.{Same, Grown, grown_run, Admits, made_before}
+use Rattle.rp_rangesafe.proofs.Growth.{Same, grown_run, Admits, made_before}
 use Rattle.rp_rangesafe.proofs.Runs.{run_extends, sound_reached, later_extends}
 
 -- no barrier is above the lease sequence where the node stands
@@ -86,25 +86,28 @@ past_run : (f : ℕ → Payload) (w : World) (es : List Event) → AllLawful w e
 past_run f w [] l x s h q new born = absurd (subst IsBorn new born)
 past_run f w (e ∷ es) l x s h q new born =
     go (unborn_or (happens w e) q) (past_run f (happens w e) es l.1 x (sound_step f w e l.0 x1 s) (barred_step f w s x0 h e l.0) q) where
-  x1 : Extends f (happens w e).log
-  x1 = run_extends f (happens w e) es x
-  x0 : Extends f w.log
-  x0 = extends_before f w e x1
-  go : (((happens w e).attempt q).stage ≡ Unborn) ⊎ IsBorn ((happens w e).attempt q).stage
-      → (((happens w e).attempt q).stage ≡ Unborn → IsBorn ((run w (e ∷ es)).attempt q).stage
-      → (happens w e).barrier ((run w (e ∷ es)).attempt q).node < ((run w (e ∷ es)).attempt q).seq)
-      → w.barrier ((run w (e ∷ es)).attempt q).node < ((run w (e ∷ es)).attempt q).seq
-  go (inl u) ih = let lt = ih u born in let le = barriers_rise f w s x0 h e l.0 ((run w (e ∷ es)).attempt q).node in omega arith
-  go (inr b) ih = admitted_now (made_before w e l.0 q b) where
-    same : Same ((happens w e).attempt q) ((run w (e ∷ es)).attempt q)
-    same = (grown_run (happens w e) es l.1 q).same b
-    admitted_now : IsBorn (w.attempt q).stage ⊎ Admits e q → w.barrier ((run w (e ∷ es)).attempt q).node < ((run w (e ∷ es)).attempt q).seq
-    admitted_now (inl k) = absurd (subst IsBorn new k)
-    admitted_now (inr a) =
-        let p = (past_admitted w e l.0 q a).past in
-        let one = same.seq in
-        let two : w.barrier ((happens w e).attempt q).node ≡ w.barrier ((run w (e ∷ es)).attempt q).node = ap w.barrier same.node in
-        omega arith
+      x1 : Extends f (happens w e).log
+      x1 = run_extends f (happens w e) es x
+
+      x0 : Extends f w.log
+      x0 = extends_before f w e x1
+
+      go : (((happens w e).attempt q).stage ≡ Unborn) ⊎ IsBorn ((happens w e).attempt q).stage
+          → (((happens w e).attempt q).stage ≡ Unborn → IsBorn ((run w (e ∷ es)).attempt q).stage
+          → (happens w e).barrier ((run w (e ∷ es)).attempt q).node < ((run w (e ∷ es)).attempt q).seq)
+          → w.barrier ((run w (e ∷ es)).attempt q).node < ((run w (e ∷ es)).attempt q).seq
+      go (inl u) ih = let lt = ih u born in let le = barriers_rise f w s x0 h e l.0 ((run w (e ∷ es)).attempt q).node in omega arith
+      go (inr b) ih = admitted_now (made_before w e l.0 q b) where
+        same : Same ((happens w e).attempt q) ((run w (e ∷ es)).attempt q)
+        same = (grown_run (happens w e) es l.1 q).same b
+
+        admitted_now : IsBorn (w.attempt q).stage ⊎ Admits e q → w.barrier ((run w (e ∷ es)).attempt q).node < ((run w (e ∷ es)).attempt q).seq
+        admitted_now (inl k) = absurd (subst IsBorn new k)
+        admitted_now (inr a) =
+            let p = (past_admitted w e l.0 q a).past in
+            let one = same.seq in
+            let two : w.barrier ((happens w e).attempt q).node ≡ w.barrier ((run w (e ∷ es)).attempt q).node = ap w.barrier same.node in
+            omega arith
 
 barred_run : (f : ℕ → Payload) (w : World) (es : List Event) → AllLawful w es → Extends f (run w es).log → Sound f w → Barred f w → Barred f (run w es)
 barred_run f w [] l x s h = h

@@ -1,9 +1,8 @@
 -- The fold of requests that are evaluated again is the fold of the batches.
-use Rattle.std.proofs.Common.{◌≡◌, ℕ, zero, suc, ◌<◌, ◌≤◌, Bool, true, false, IsTrue, IsFalse, IfOk, ◌⊎◌, inl, inr, List, [], ◌∷◌, ◌++◌, length, take, get_or, Option, Some, None, option_and_then, Result, Ok, Err, filter_map, refl, sym, ap, subst, ◌∙◌, arith}
+use Rattle.std.proofs.Common.{◌≡◌, ℕ, zero, suc, ◌<◌, ◌≤◌, IfOk, List, [], ◌∷◌, ◌++◌, length, take, Option, Some, None, option_and_then, Result, Ok, Err, refl, sym, ap, subst, ◌∙◌, arith}
 use Rattle.std.proofs.Math.Seq.{take-suc}
 use Rattle.std.proofs.lemmas.List.Elements.{filter_map-append}
 use Rattle.rp_base.specs.Splits.{split_of}
-use Rattle.rp_base.specs.declared.ids.CmdId.{CmdId}
 use Rattle.rp_base.specs.declared.ranges.Desc.{Desc}
 use Rattle.rp_base.specs.declared.ranges.SplitFault.{SplitFault}
 use Rattle.rp_base.specs.declared.ranges.SplitFault.TheVariants.{NotInside, SplitLimit}
@@ -11,8 +10,6 @@ use Rattle.rp_base.specs.declared.leases.Lease as leases
 use Rattle.rp_request.specs.declared.commands.Payload.{Payload}
 use Rattle.rp_request.specs.declared.commands.Payload.TheVariants.{Nothing, Write, Lease}
 use Rattle.rp_request.specs.declared.commands.Command.{Command}
-use Rattle.rp_request.specs.declared.items.Place.{Place}
-use Rattle.rp_request.specs.declared.items.Record as records
 use Rattle.rp_request.specs.declared.outcomes.Refusal.{Refusal}
 use Rattle.rp_request.specs.declared.requests.Request.{Request}
 use Rattle.rp_request.specs.declared.requests.Request.TheVariants.{Put, Add, CPut, Del, Wipe, Move, Split}
@@ -24,15 +21,14 @@ use Rattle.rp_request.proofs.Locality.{keeps_desc}
 use Rattle.rp_request.proofs.Folds.{fold_further}
 use Rattle.rp_eval.specs.Evaluations.{Does}
 use Rattle.rp_eval.proofs.Does.{evaluated_does}
-use Rattle.rp_apply.specs.Applied.{AppliedState, command_verdict, asked, written, leased, taken, after, desc_after, left_of, item, item_by, command_record, ask_record, record_of, after_all, records_of}
+use Rattle.rp_apply.specs.Applied.{AppliedState, command_verdict, asked, written, leased, taken, after, desc_after, left_of, item_by, command_record, ask_record, record_of, after_all, records_of}
 use Rattle.rp_apply.specs.declared.verdicts.Verdict.{Verdict}
 use Rattle.rp_apply.specs.declared.verdicts.Verdict.TheVariants.{Took, OldLease, OldIndex, LeaseMoved}
 use Rattle.rp_apply.specs.declared.verdicts.Verdict.TheVariants as verdicts
 use Rattle.rp_apply.proofs.Numbers.{after_further, records_further}
-use Rattle.rp_rangesafe.specs.Attempts.{Body}
 use Rattle.rp_rangesafe.specs.Along.{entry, state, Takes}
 use Rattle.rp_rangesafe.specs.World.{World, state_at, IsEvaluated}
-use Rattle.rp_rangesafe.specs.Places.{shown, items_to, body_of, IsReached}
+use Rattle.rp_rangesafe.specs.Places.{shown, items_to, body_of}
 
 -- the state after so many entries, by the list
 pub state_is : (b : AppliedState) (log : List Payload) (i : ℕ) → i ≤ length log → after_all b (take i log) ≡ state b (entry log) i
@@ -85,9 +81,9 @@ taken_again : (s : AppliedState) (c : Command) → IsEvaluated s (body_of c) →
 taken_again s c h =
     let does = does_on s c h in
     let desc : does.left.desc ≡ desc_after s.desc c.request =
-        subst (λ (x : Result Effect Refusal). IfOk x (λ (e : Effect). e.desc ≡ desc_after s.desc c.request)) does.takes (effect_desc s.table s.desc c.request) in
+    subst (λ (x : Result Effect Refusal). IfOk x (λ (e : Effect). e.desc ≡ desc_after s.desc c.request)) does.takes (effect_desc s.table s.desc c.request) in
     let same : ◌≡◌ {A = State} (record { table = does.left.table; desc = does.left.desc; lease = s.lease }) (shown (taken s c)) =
-        λ i. record { table = sym does.table i; desc = desc i; lease = s.lease } in
+    λ i. record { table = sym does.table i; desc = desc i; lease = s.lease } in
     ap (left_by (shown s)) does.takes ∙ ap Some same
 
 fold_one : (s : AppliedState) (p : Payload) → ((c : Command) → p ≡ Write c → command_verdict s c ≡ Took → IsEvaluated s (body_of c))

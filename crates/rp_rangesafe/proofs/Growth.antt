@@ -1,5 +1,5 @@
 -- What events leave of an attempt: once admitted it stays what it was, and once ended it stays as it is.
-use Rattle.std.proofs.Common.{◌≡◌, ℕ, zero, suc, ◌<◌, ◌≤◌, Bool, true, false, cond, ◌==◌, nat_le, ◌⊎◌, inl, inr, List, [], ◌∷◌, refl, sym, ap, subst, ◌∙◌, arith}
+use Rattle.std.proofs.Common.{◌≡◌, ℕ, Bool, true, false, cond, ◌==◌, nat_le, ◌⊎◌, inl, inr, List, [], ◌∷◌, refl, sym, ap, subst, ◌∙◌}
 use Rattle.rp_base.specs.declared.ids.CmdId.{CmdId}
 use Rattle.rp_request.specs.declared.commands.Payload.{Payload}
 use Rattle.rp_request.specs.declared.commands.Payload.TheVariants.{Nothing, Write, Lease}
@@ -8,10 +8,10 @@ use Rattle.rp_apply.specs.Applied.{AppliedState, verdict}
 use Rattle.rp_apply.specs.declared.verdicts.Verdict.{Verdict}
 use Rattle.rp_apply.specs.declared.verdicts.Verdict.TheVariants.{Took, OldLease, OldIndex, LeaseMoved}
 use Rattle.rp_apply.specs.declared.verdicts.Verdict.TheVariants as verdicts
-use Rattle.rp_rangesafe.specs.Attempts.{Body, Stage, Unborn, Waiting, Proposed, Success, Refused, Overtaken, Removed, Restarted, Attempt, Attempts, IsBorn, IsEnded, staged, handed_out, with_attempt, at_node}
+use Rattle.rp_rangesafe.specs.Attempts.{Stage, Unborn, Waiting, Proposed, Success, Refused, Overtaken, Removed, Restarted, Attempt, Attempts, IsBorn, IsEnded, staged, handed_out, with_attempt, at_node}
 use Rattle.rp_rangesafe.specs.Along.{entry}
-use Rattle.rp_rangesafe.specs.World.{World, state_at, here, Event, Admit, Flush, Return, Refuse, Commit, Apply, Snapshot, Remove, Restart, IsPassed, Lawful, AllLawful, admitted, told, by_verdict, after_entry, overtaken, removed, restarted, happens, run}
-use Rattle.rp_rangesafe.proofs.Tables.{id_cases, at_attempt, at_nodes}
+use Rattle.rp_rangesafe.specs.World.{World, state_at, here, Event, Admit, Flush, Return, Refuse, Commit, Apply, Snapshot, Remove, Restart, Lawful, AllLawful, admitted, told, by_verdict, after_entry, overtaken, removed, restarted, happens, run}
+use Rattle.rp_rangesafe.proofs.Tables.{at_attempt, at_nodes}
 use Rattle.rp_rangesafe.proofs.Sounds.{told_ended, overtaken_ended, removed_ended, restarted_ended}
 
 -- an attempt that was admitted stays what it was

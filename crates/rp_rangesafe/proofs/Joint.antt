@@ -1,17 +1,15 @@
 -- Laws of the ranges together.
-use Rattle.std.proofs.Common.{◌≡◌, ℕ, zero, suc, ◌+◌, ◌<◌, ◌≤◌, Bool, true, false, ◌⊎◌, inl, inr, List, [], ◌∷◌, ◌++◌, length, take, Option, Some, None, slice_get, refl, sym, ap, subst, ◌∙◌, arith}
+use Rattle.std.proofs.Common.{◌≡◌, ℕ, zero, suc, ◌<◌, true, List, [], ◌∷◌, ◌++◌, length, Some, slice_get, refl, ap, subst, ◌∙◌, arith}
 use Rattle.rp_base.specs.declared.ids.CmdId.{CmdId}
 use Rattle.rp_request.specs.declared.commands.Payload.{Payload}
-use Rattle.rp_request.specs.declared.commands.Payload.TheVariants.{Write}
 use Rattle.rp_request.specs.declared.commands.Command.{Command}
 use Rattle.rp_request.specs.declared.items.Place.{Place}
-use Rattle.rp_request.specs.declared.items.Record as records
 use Rattle.rp_request.specs.declared.items.Record.TheVariants as kept
 use Rattle.rp_request.specs.declared.outcomes.Reply.{Reply}
 use Rattle.rp_request.specs.Records.{applied}
-use Rattle.rp_apply.specs.Applied.{AppliedState, command_verdict, command_record, record_of, after, records_of, item}
-use Rattle.rp_rangesafe.specs.Attempts.{Success, Refused, Attempt, IsBorn}
-use Rattle.rp_rangesafe.specs.Along.{entry, state, Takes}
+use Rattle.rp_apply.specs.Applied.{AppliedState, command_record, record_of, after, records_of, item}
+use Rattle.rp_rangesafe.specs.Attempts.{Success, Refused}
+use Rattle.rp_rangesafe.specs.Along.{entry, state}
 use Rattle.rp_rangesafe.specs.World.{World, state_at}
 use Rattle.rp_rangesafe.specs.Places.{IsReached, IsLater, IsPlace, items_to}
 use Rattle.rp_rangesafe.specs.Ranges.{Owner, Nobody, Turned, At, Ranges, IsRefusedAt, IsRefused, AreReached, AreLater, IsTheOnePlace, HasNowhere}
@@ -19,7 +17,7 @@ use Rattle.rp_rangesafe.proofs.OneRange.{success_is_placed, refused_never}
 use Rattle.rp_rangesafe.proofs.Runs.{later_itself}
 use Rattle.rp_rangesafe.proofs.Whole.{Whole, Onto, whole_reached, onto_later, later_whole, refused_onto, owner_onto}
 use Rattle.rp_rangesafe.proofs.Once.{placed_born, once_over}
-use Rattle.rp_rangesafe.proofs.Folds.{one_more, state_is}
+use Rattle.rp_rangesafe.proofs.Folds.{one_more}
 use Rattle.rp_rangesafe.proofs.Rights.{begin_with}
 
 pub range_reached : (w : Ranges) → AreReached w → (r : ℕ) → IsReached (w.range r)
@@ -51,14 +49,19 @@ pub refused_nowhere : (w : Ranges) → AreReached w → (id : CmdId) → IsRefus
 refused_nowhere w reach id refused later range k c l p = go (w.owner id) refl where
   h : Whole w
   h = whole_reached w reach
+
   onto : Onto w later
   onto = onto_later w later reach l
+
   whole : Whole later
   whole = later_whole w later reach l
+
   at : later.owner id ≡ At range
   at = whole.owned range id (placed_born (later.range range) (whole.reached range) id k c p)
+
   still : (o : Owner) → w.owner id ≡ o → IsRefusedAt later id o
   still o e = subst (IsRefusedAt later id) e (refused_onto w later h onto id (w.owner id) refused)
+
   go : (o : Owner) → w.owner id ≡ o → ⊥
   go Nobody e = subst (IsRefusedAt w id) e refused
   go Turned e = not_turned (later.owner id) range (owner_onto w later reach l id Turned e tt) at
@@ -95,6 +98,6 @@ place_listed w id k c p =
     let l = p.within in
     let rest = begin_with w (suc k) (length w.log) (omega arith) (omega arith) in
     let more : items_to w (suc k) ≡ items_to w k ++ item (state_at w k).desc c ∷ [] =
-        one_more w.start w.log k l ∙ ap (λ r. items_to w k ++ applied (r ∷ [])) (taken_record w id k c p) in
+    one_more w.start w.log k l ∙ ap (λ r. items_to w k ++ applied (r ∷ [])) (taken_record w id k c p) in
     ap (λ xs. slice_get xs (length (items_to w k))) (rest.1 ∙ ap (λ xs. xs ++ rest.0) more)
     ∙ behind_front (items_to w k) rest.0 (item (state_at w k).desc c)

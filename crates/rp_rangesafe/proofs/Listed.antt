@@ -1,6 +1,5 @@
 -- The items of a list and the places of commands.
-use Rattle.std.proofs.Common.{◌≡◌, ℕ, zero, suc, ◌+◌, ◌<◌, ◌≤◌, Bool, true, false, IsTrue, ◌⊎◌, inl, inr, List, [], ◌∷◌, ◌++◌, length, take, Option, Some, None, slice_get, refl, sym, ap, subst, ◌∙◌, arith}
-use Rattle.rp_base.specs.declared.ids.CmdId.{CmdId}
+use Rattle.std.proofs.Common.{◌≡◌, ℕ, zero, suc, ◌+◌, ◌<◌, ◌≤◌, IsTrue, ◌⊎◌, inl, inr, List, [], ◌∷◌, ◌++◌, length, Option, Some, None, slice_get, refl, sym, ap, subst, ◌∙◌, arith}
 use Rattle.rp_base.specs.declared.ranges.Desc.{Desc}
 use Rattle.rp_base.specs.declared.leases.Lease as leases
 use Rattle.rp_request.specs.declared.commands.Payload.{Payload}
@@ -16,7 +15,7 @@ use Rattle.rp_apply.specs.Applied.{AppliedState, command_verdict, asked, item, i
 use Rattle.rp_apply.specs.declared.verdicts.Verdict.{Verdict}
 use Rattle.rp_apply.specs.declared.verdicts.Verdict.TheVariants.{Took, OldLease, OldIndex, LeaseMoved}
 use Rattle.rp_apply.specs.declared.verdicts.Verdict.TheVariants as verdicts
-use Rattle.rp_rangesafe.specs.Along.{entry, state, Takes}
+use Rattle.rp_rangesafe.specs.Along.{entry, Takes}
 use Rattle.rp_rangesafe.specs.World.{World, state_at}
 use Rattle.rp_rangesafe.specs.Places.{items_to}
 use Rattle.rp_rangesafe.proofs.Folds.{one_more}
@@ -81,25 +80,25 @@ pub listed_by : (w : World) (client seq n : ℕ) → n ≤ length w.log → (j :
 listed_by w client seq zero l j x e h = absurd cc
 listed_by w client seq (suc n) l j x e h = go (front (items_to w n) (applied (record_of (state_at w n) (entry w.log n) ∷ [])) j x (sym (ap (λ xs. slice_get xs j) (one_more w.start w.log n (omega arith))) ∙ e))
     (λ k. listed_by w client seq n (omega arith) j x k h) where
-  go : (slice_get (items_to w n) j ≡ Some x) ⊎ ((i : ℕ) × (j ≡ length (items_to w n) + i) × (slice_get (applied (record_of (state_at w n) (entry w.log n) ∷ [])) i ≡ Some x))
-      → ((slice_get (items_to w n) j ≡ Some x) → Listed w client seq n j) → Listed w client seq (suc n) j
-  go (inl k) ih = let y = ih k in record {
-    index = y.index;
-    command = y.command;
-    within = let m = y.within in omega arith;
-    takes = y.takes;
-    named = y.named;
-    at = y.at;
-  }
-  go (inr k) ih =
-      let y = one_item (state_at w n) (entry w.log n) client seq k.0 x k.2 h in
-      let at = k.1 in
-      let first = y.0 in
-      record {
-        index = n;
-        command = y.1.command;
-        within = omega arith;
-        takes = record { here = y.1.here; taken = y.1.took };
-        named = y.1.named;
-        at = omega arith;
+      go : (slice_get (items_to w n) j ≡ Some x) ⊎ ((i : ℕ) × (j ≡ length (items_to w n) + i) × (slice_get (applied (record_of (state_at w n) (entry w.log n) ∷ [])) i ≡ Some x))
+          → ((slice_get (items_to w n) j ≡ Some x) → Listed w client seq n j) → Listed w client seq (suc n) j
+      go (inl k) ih = let y = ih k in record {
+        index = y.index;
+        command = y.command;
+        within = let m = y.within in omega arith;
+        takes = y.takes;
+        named = y.named;
+        at = y.at;
       }
+      go (inr k) ih =
+          let y = one_item (state_at w n) (entry w.log n) client seq k.0 x k.2 h in
+          let at = k.1 in
+          let first = y.0 in
+          record {
+            index = n;
+            command = y.1.command;
+            within = omega arith;
+            takes = record { here = y.1.here; taken = y.1.took };
+            named = y.1.named;
+            at = omega arith;
+          }

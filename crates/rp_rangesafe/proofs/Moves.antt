@@ -1,22 +1,15 @@
 -- What events do to one attempt, and that it stays good.
-use Rattle.std.proofs.Common.{◌≡◌, ℕ, zero, suc, ◌<◌, ◌≤◌, Bool, true, false, cond, ◌==◌, nat_le, ◌⊎◌, inl, inr, List, [], ◌∷◌, refl, sym, ap, subst, ◌∙◌, arith}
-use Rattle.std.proofs.lemmas.Bool.{cases_order, cases_lt}
-use Rattle.std.proofs.lemmas.Bool.Decides.{nat_tests}
+use Rattle.std.proofs.Common.{◌≡◌, ℕ, ◌<◌, ◌≤◌, Bool, false, ◌⊎◌, inl, inr, refl, sym, subst, arith}
+use Rattle.std.proofs.lemmas.Bool.{cases_lt}
 use Rattle.rp_base.specs.declared.ids.CmdId.{CmdId}
 use Rattle.rp_request.specs.declared.commands.Payload.{Payload}
-use Rattle.rp_request.specs.declared.commands.Payload.TheVariants.{Nothing, Write, Lease}
 use Rattle.rp_request.specs.declared.commands.Command.{Command}
 use Rattle.rp_request.specs.declared.outcomes.Reply.{Reply}
-use Rattle.rp_apply.specs.Applied.{AppliedState, verdict, IsBlocked}
-use Rattle.rp_apply.specs.declared.verdicts.Verdict.{Verdict}
-use Rattle.rp_apply.specs.declared.verdicts.Verdict.TheVariants.{Took, OldLease, OldIndex, LeaseMoved}
-use Rattle.rp_apply.specs.declared.verdicts.Verdict.TheVariants as verdicts
-use Rattle.rp_rangesafe.specs.Attempts.{Body, Stage, Unborn, Waiting, Proposed, Success, Refused, Overtaken, Removed, Restarted, Attempt, IsBorn, IsClosed, IsOpen, IsUntaken, IsAmong, IsOf, staged, handed_out}
-use Rattle.rp_rangesafe.specs.Along.{state, Takes}
-use Rattle.rp_rangesafe.specs.World.{IsEvaluated, told, by_verdict, overtaken, removed, restarted}
-use Rattle.rp_rangesafe.proofs.Steps.{onward_same, old_lease, old_index, no_lease_moved, no_void}
-use Rattle.rp_rangesafe.proofs.Numbers.{onward, max_once, lai_from, lai_after, blocked_later, blocked_never}
-use Rattle.rp_rangesafe.proofs.One.{PlaceOf, Placed, Made, Good, one_open, place_open, one_place, no_maximum}
+use Rattle.rp_apply.specs.Applied.{AppliedState, IsBlocked}
+use Rattle.rp_rangesafe.specs.Attempts.{Stage, Unborn, Waiting, Proposed, Success, Refused, Overtaken, Removed, Restarted, Attempt, IsBorn, IsOpen, IsUntaken, staged}
+use Rattle.rp_rangesafe.specs.Along.{state}
+use Rattle.rp_rangesafe.proofs.Numbers.{onward, blocked_later}
+use Rattle.rp_rangesafe.proofs.One.{PlaceOf, Placed, Good, one_open, place_open, one_place}
 
 -- what is owed where an attempt goes to a stage while its node goes from an index to a later one
 pub record Move (b : AppliedState) (f : ℕ → Payload) (n p q : ℕ) (alive' : Bool) (bar' : ℕ) (id : CmdId) (a : Attempt) (g : Stage) : Type 0 where
@@ -49,6 +42,7 @@ module _ {b : AppliedState} {f : ℕ → Payload} {n p : ℕ} {alive : Bool} {ba
     moved_only o h k c l t = go (cases_lt k p) where
       within : q ≤ n
       within = m.within
+
       go : (k < p) ⊎ (p ≤ k) → c.max ≡ o
       go (inl below) = x.only o (m.opens o h) k c below t
       go (inr above) = one_open a.stage c.max o (place_open x k c above (omega arith) t) (m.opens o h)

@@ -2,10 +2,8 @@
 use Rattle.std.proofs.Common.{◌≡◌, ℕ, zero, suc, ◌<◌, ◌≤◌, ◌⊎◌, inl, inr, refl, sym, ap, subst, ◌∙◌, arith}
 use Rattle.std.proofs.lemmas.Bool.{cases_order, cases_lt}
 use Rattle.rp_request.specs.declared.commands.Payload.{Payload}
-use Rattle.rp_request.specs.declared.commands.Payload.TheVariants.{Write}
 use Rattle.rp_request.specs.declared.commands.Command.{Command}
-use Rattle.rp_apply.specs.Applied.{AppliedState, verdict, after, IsBlocked}
-use Rattle.rp_apply.specs.declared.verdicts.Verdict.TheVariants.{Took}
+use Rattle.rp_apply.specs.Applied.{AppliedState, after, IsBlocked}
 use Rattle.rp_rangesafe.specs.Along.{state, Takes}
 use Rattle.rp_rangesafe.specs.Places.{IsOnward}
 use Rattle.rp_rangesafe.proofs.Steps.{onward_same, onward_trans, onward_next, IsTimely, timely, taken_lai, blocked_onward, blocked_untaken}

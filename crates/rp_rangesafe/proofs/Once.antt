@@ -1,18 +1,17 @@
 -- Each command has at most one place over all ranges and attempts.
-use Rattle.std.proofs.Common.{◌≡◌, ℕ, zero, suc, ◌<◌, ◌≤◌, Bool, true, false, ◌&&◌, eqb, IsTrue, ◌⊎◌, inl, inr, List, length, refl, sym, ap, subst, ◌∙◌, arith, eqb-true}
+use Rattle.std.proofs.Common.{◌≡◌, ℕ, ◌<◌, eqb, IsTrue, ◌⊎◌, inl, inr, length, refl, sym, ap, subst, ◌∙◌, arith, eqb-true}
 use Rattle.std.proofs.lemmas.Bool.{cases_order, and_parts}
 use Rattle.rp_base.specs.declared.ids.CmdId.{CmdId}
 use Rattle.rp_request.specs.declared.commands.Command.{Command}
-use Rattle.rp_request.specs.declared.outcomes.Reply.{Reply}
-use Rattle.rp_request.specs.Places.{is_of, IsPlaceOf, IsOnceInAll}
-use Rattle.rp_rangesafe.specs.Attempts.{Stage, Refused, Success, Attempt, IsBorn}
-use Rattle.rp_rangesafe.specs.Along.{entry, Takes}
+use Rattle.rp_request.specs.Places.{is_of, IsOnceInAll}
+use Rattle.rp_rangesafe.specs.Attempts.{IsBorn}
+use Rattle.rp_rangesafe.specs.Along.{entry}
 use Rattle.rp_rangesafe.specs.World.{World}
-use Rattle.rp_rangesafe.specs.Places.{IsReached, IsLater, IsPlace, items_to}
-use Rattle.rp_rangesafe.specs.Ranges.{Owner, Nobody, Turned, At, Ranges, IsMade, IsRefusedAt, IsRefused, AreReached, lists}
+use Rattle.rp_rangesafe.specs.Places.{IsReached, IsPlace, items_to}
+use Rattle.rp_rangesafe.specs.Ranges.{At, Ranges, IsMade, IsRefusedAt, IsRefused, AreReached, lists}
 use Rattle.rp_rangesafe.proofs.Tables.{id_by}
-use Rattle.rp_rangesafe.proofs.One.{Made, Good, born_with}
-use Rattle.rp_rangesafe.proofs.Worlds.{extends_itself, Sound}
+use Rattle.rp_rangesafe.proofs.One.{born_with}
+use Rattle.rp_rangesafe.proofs.Worlds.{extends_itself}
 use Rattle.rp_rangesafe.proofs.Runs.{sound_reached, later_itself}
 use Rattle.rp_rangesafe.proofs.OneRange.{one_place_of, refused_never}
 use Rattle.rp_rangesafe.proofs.Listed.{Listed, listed_by}
@@ -31,20 +30,27 @@ pub once_over : (w : Ranges) → AreReached w → (q r j k : ℕ) (x y : CmdId) 
 once_over w reach q r j k x y c d same_client same_seq t u = go (cases_order x.attempt y.attempt) where
   h : Whole w
   h = whole_reached w reach
+
   at_x : w.owner x ≡ At q
   at_x = h.owned q x (placed_born (w.range q) (h.reached q) x j c t)
+
   at_y : w.owner y ≡ At r
   at_y = h.owned r y (placed_born (w.range r) (h.reached r) y k d u)
+
   -- an attempt with a place was not refused
   unrefused : (z : CmdId) (p i : ℕ) (e : Command) → w.owner z ≡ At p → IsPlace (w.range p) z i e → IsRefused w z → ⊥
   unrefused z p i e o place f =
       refused_never (w.range p) (h.reached p) z (subst (IsRefusedAt w z) o f) (w.range p) i e (later_itself (w.range p)) place
+
   made : (z : CmdId) (p : ℕ) → w.owner z ≡ At p → IsMade (w.owner z)
   made z p o = subst IsMade (sym o) tt
+
   here : x ≡ y → q ≡ r → (q ≡ r) × (j ≡ k)
   here e f = (f, one_place_of (w.range r) (h.reached r) y j k c d (subst (λ z. IsPlace (w.range r) z j c) e (subst (λ p. IsPlace (w.range p) x j c) f t)) u)
+
   range_of : At q ≡ At r → q ≡ r
   range_of e = cc
+
   go : (x.attempt ≡ y.attempt) ⊎ ((x.attempt < y.attempt) ⊎ (y.attempt < x.attempt)) → (q ≡ r) × (j ≡ k)
   go (inl e) = let same : x ≡ y = id_by x y same_client same_seq e in here same (range_of (sym at_x ∙ ap w.owner same ∙ at_y))
   go (inr (inl l)) = absurd (unrefused x q j c at_x t (h.turns x y same_client same_seq (h.counted x (made x q at_x)) l (made y r at_y)))
@@ -64,7 +70,7 @@ once_in_all w reach client seq q i r j p t =
     let a = is_client client seq x.command.id x.named in
     let b = is_client client seq y.command.id y.named in
     let one = once_over w reach q r x.index y.index x.command.id y.command.id x.command y.command (a.0 ∙ sym b.0) (a.1 ∙ sym b.1)
-        (listed_place (w.range q) client seq i x) (listed_place (w.range r) client seq j y) in
+    (listed_place (w.range q) client seq i x) (listed_place (w.range r) client seq j y) in
     same q i r j x.index y.index x.at y.at one.0 one.1
   where
     same : (q i r j m n : ℕ) → i ≡ length (items_to (w.range q) m) → j ≡ length (items_to (w.range r) n) → q ≡ r → m ≡ n → (q ≡ r) × (i ≡ j)

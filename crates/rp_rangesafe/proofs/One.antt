@@ -1,16 +1,16 @@
 -- What holds of one attempt, by the list as it will be. Its body is never looked into.
-use Rattle.std.proofs.Common.{◌≡◌, ℕ, zero, suc, ◌<◌, ◌≤◌, Bool, false, ◌⊎◌, inl, inr, List, [], ◌∷◌, Ok, refl, sym, ap, subst, ◌∙◌, arith}
-use Rattle.std.proofs.lemmas.Bool.{cases_order, cases_lt}
+use Rattle.std.proofs.Common.{◌≡◌, ℕ, ◌<◌, ◌≤◌, Bool, false, ◌⊎◌, inl, inr, List, [], refl, sym, subst, ◌∙◌}
+use Rattle.std.proofs.lemmas.Bool.{cases_lt}
 use Rattle.rp_base.specs.declared.ids.CmdId.{CmdId}
 use Rattle.rp_request.specs.declared.commands.Payload.{Payload}
 use Rattle.rp_request.specs.declared.commands.Payload.TheVariants.{Write}
 use Rattle.rp_request.specs.declared.commands.Command.{Command}
 use Rattle.rp_request.specs.declared.outcomes.Reply.{Reply}
 use Rattle.rp_apply.specs.Applied.{AppliedState, IsBlocked}
-use Rattle.rp_rangesafe.specs.Attempts.{Body, Stage, Unborn, Waiting, Proposed, Success, Refused, Overtaken, Removed, Restarted, Attempt, IsBorn, IsEnded, IsClosed, IsOpen, IsUntaken, IsAmong, IsOf}
+use Rattle.rp_rangesafe.specs.Attempts.{Stage, Unborn, Waiting, Proposed, Success, Refused, Overtaken, Removed, Restarted, Attempt, IsBorn, IsEnded, IsClosed, IsOpen, IsUntaken, IsAmong, IsOf}
 use Rattle.rp_rangesafe.specs.Along.{state, Takes}
 use Rattle.rp_rangesafe.specs.World.{IsEvaluated}
-use Rattle.rp_rangesafe.proofs.Numbers.{onward, max_once, lai_from, blocked_never}
+use Rattle.rp_rangesafe.proofs.Numbers.{max_once, blocked_never}
 
 -- a place of the attempt
 pub record PlaceOf (b : AppliedState) (f : ℕ → Payload) (id : CmdId) (k : ℕ) (c : Command) : Type 0 where
@@ -107,6 +107,7 @@ module _ {b : AppliedState} {f : ℕ → Payload} {n p : ℕ} {alive : Bool} {ba
   place_open k c l h t = go (g.blocked c.max made.of.max) where
     made : Made a k c
     made = g.entries k c h t.takes.here t.named
+
     go : IsOpen a.stage c.max ⊎ IsBlocked (state b f p) a.seq c.max → IsOpen a.stage c.max
     go (inl o) = o
     go (inr blocked) = absurd (blocked_never b f p k c a.seq l made.of.seq blocked t.takes)

@@ -1,24 +1,22 @@
 -- Laws of one range.
-use Rattle.std.proofs.Common.{◌≡◌, ℕ, zero, suc, ◌<◌, ◌≤◌, ◌⊎◌, inl, inr, List, [], ◌∷◌, ◌++◌, length, Some, refl, sym, ap, subst, ◌∙◌, arith}
+use Rattle.std.proofs.Common.{◌≡◌, ℕ, ◌<◌, ◌≤◌, ◌⊎◌, inl, inr, length, Some, refl, sym, ap, subst, ◌∙◌, arith}
 use Rattle.std.proofs.lemmas.Bool.{cases_lt}
 use Rattle.rp_base.specs.declared.ids.CmdId.{CmdId}
-use Rattle.rp_request.specs.declared.commands.Payload.{Payload}
 use Rattle.rp_request.specs.declared.commands.Command.{Command}
 use Rattle.rp_request.specs.declared.outcomes.Reply.{Reply}
 use Rattle.rp_request.specs.Items as items
 use Rattle.rp_eval.specs.Evaluations.{Does}
-use Rattle.rp_apply.specs.Applied.{AppliedState, IsBlocked}
-use Rattle.rp_rangesafe.specs.Attempts.{Stage, Unborn, Waiting, Proposed, Success, Refused, Overtaken, Removed, Restarted, Attempt, IsBorn, IsEnded, IsOpen, IsUntaken, IsAmong}
+use Rattle.rp_apply.specs.Applied.{IsBlocked}
+use Rattle.rp_rangesafe.specs.Attempts.{Stage, Success, Refused, Overtaken, Restarted, Attempt, IsEnded, IsOpen, IsUntaken, IsAmong}
 use Rattle.rp_rangesafe.specs.Along.{entry, state, Takes}
-use Rattle.rp_rangesafe.specs.World.{World, IsEvaluated, here, state_at}
-use Rattle.rp_rangesafe.specs.Places.{IsReached, IsLater, IsOnward, IsPlace, IsDeadByStage, IsDeadForGood, HasNever, IsPlacedWith, IsLawfulPlace, body_of, shown, items_to}
+use Rattle.rp_rangesafe.specs.World.{World, state_at}
+use Rattle.rp_rangesafe.specs.Places.{IsReached, IsLater, IsOnward, IsPlace, IsDeadByStage, IsDeadForGood, HasNever, IsPlacedWith, IsLawfulPlace, shown, items_to}
 use Rattle.rp_rangesafe.proofs.Numbers.{onward, one_holder, timely_at, blocked_never}
-use Rattle.rp_rangesafe.proofs.One.{PlaceOf, Placed, Made, Good, one_place, never, place_open, one_open, born_with}
-use Rattle.rp_rangesafe.proofs.Worlds.{Extends, extends_itself, state_so_far, Sound}
+use Rattle.rp_rangesafe.proofs.One.{Good, one_place, never, place_open, born_with}
+use Rattle.rp_rangesafe.proofs.Worlds.{extends_itself, Sound}
 use Rattle.rp_rangesafe.proofs.Untouched.{seq_at, place_evaluated, place_desc}
 use Rattle.rp_rangesafe.proofs.Folds as folds
-use Rattle.rp_rangesafe.proofs.Growth.{Same, Grown}
-use Rattle.rp_rangesafe.proofs.Runs.{sound_reached, later_itself, later_grown, Ahead, look_ahead, place_of, place_from}
+use Rattle.rp_rangesafe.proofs.Runs.{sound_reached, later_grown, Ahead, look_ahead, place_of, place_from}
 
 pub numbers_rise : (w : World) (i j : ℕ) → i ≤ j → IsOnward (state_at w i) (state_at w j)
 numbers_rise w = onward w.start (entry w.log)
@@ -40,10 +38,13 @@ pub dead_for_good : (w : World) → IsReached w → (id : CmdId) (m : ℕ) → I
 dead_for_good w r id m among shut later k c l p same = go (cases_lt k (w.index (w.attempt id).node)) ((g.blocked) m among) where
   x : Ahead w later
   x = look_ahead w later r l
+
   g : Good w.start (entry later.log) (length w.log) (w.index (w.attempt id).node) (w.alive (w.attempt id).node) (w.barrier (w.attempt id).node) id (w.attempt id)
   g = x.now.good id
+
   seq_same : c.seq ≡ (w.attempt id).seq
   seq_same = ((x.then.good id).entries k c p.within p.takes.here p.named).of.seq ∙ sym ((later_grown w later l id).same (born_with (w.attempt id) m g.fresh among)).seq
+
   go : (k < w.index (w.attempt id).node) ⊎ (w.index (w.attempt id).node ≤ k)
       → IsOpen (w.attempt id).stage m ⊎ IsBlocked (state w.start (entry later.log) (w.index (w.attempt id).node)) (w.attempt id).seq m
       → k < w.index (w.attempt id).node
@@ -89,8 +90,10 @@ pub restarted_own : (w : World) → IsReached w → (id : CmdId) (own : ℕ) →
 restarted_own w r id own e later k c l p = go (cases_lt k (later.index (later.attempt id).node)) where
   x : Ahead w later
   x = look_ahead w later r l
+
   s : (later.attempt id).stage ≡ Restarted own
   s = still w later l id (Restarted own) e tt
+
   go : (k < later.index (later.attempt id).node) ⊎ (later.index (later.attempt id).node ≤ k) → c.max ≡ own
   go (inl lt) = (x.then.good id).only own (subst (λ g. IsOpen g own) (sym s) refl) k c lt (place_of later id k c p)
   go (inr ge) = subst (λ g. IsOpen g c.max) s (place_open (x.then.good id) k c ge p.within (place_of later id k c p))

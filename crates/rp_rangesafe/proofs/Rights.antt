@@ -1,11 +1,10 @@
 -- Right ranges start from the one split that opens them.
-use Rattle.std.proofs.Common.{◌≡◌, ℕ, zero, suc, ◌+◌, ◌-◌, ◌^◌, ◌<◌, ◌≤◌, Bool, true, false, cond, ◌==◌, nat_le, IsTrue, ◌⊎◌, inl, inr, List, [], ◌∷◌, ◌++◌, length, Option, Some, None, Result, Ok, Err, refl, sym, ap, subst, ◌∙◌, arith}
+use Rattle.std.proofs.Common.{◌≡◌, ℕ, zero, suc, ◌+◌, ◌^◌, ◌<◌, ◌≤◌, Bool, true, false, cond, ◌⊎◌, inl, inr, List, [], ◌∷◌, ◌++◌, length, Option, Some, None, Result, Ok, Err, refl, sym, ap, subst, ◌∙◌, arith}
 use Rattle.std.proofs.Math.Seq.{get_or-append_seam}
 use Rattle.std.proofs.lemmas.List.{length-append}
-use Rattle.std.proofs.lemmas.Bool.{cases_lt, cases_order}
+use Rattle.std.proofs.lemmas.Bool.{cases_lt}
 use Rattle.std.proofs.lemmas.Bool.Decides.{nat_tests}
 use Rattle.rp_base.specs.Splits.{split_of}
-use Rattle.rp_base.specs.declared.ids.CmdId.{CmdId}
 use Rattle.rp_base.specs.declared.ranges.Desc.{Desc}
 use Rattle.rp_base.specs.declared.ranges.SplitFault.{SplitFault}
 use Rattle.rp_base.proofs.SplitLaws.{AreParts, parts}
@@ -17,23 +16,22 @@ use Rattle.rp_request.specs.declared.requests.Request.TheVariants.{Put, Add, CPu
 use Rattle.rp_request.specs.declared.items.Place.{Place}
 use Rattle.rp_request.specs.declared.items.Place.TheVariants as places
 use Rattle.rp_request.specs.Table.{from_on}
-use Rattle.rp_request.specs.Items.{State, fold}
 use Rattle.rp_request.specs.Records.{applied}
-use Rattle.rp_request.specs.Starts.{first_state, left_range, IsRightStart, SplitsOff, IsStart, first, split_off}
-use Rattle.rp_apply.specs.Applied.{AppliedState, command_verdict, record_of, item, item_by, command_record, right_number}
+use Rattle.rp_request.specs.Starts.{left_range, IsRightStart, SplitsOff, IsStart, first, split_off}
+use Rattle.rp_apply.specs.Applied.{AppliedState, command_verdict, record_of, item_by, command_record, right_number}
 use Rattle.rp_apply.specs.declared.verdicts.Verdict.{Verdict}
 use Rattle.rp_apply.specs.declared.verdicts.Verdict.TheVariants.{Took, OldLease, OldIndex, LeaseMoved}
 use Rattle.rp_apply.specs.declared.verdicts.Verdict.TheVariants as verdicts
-use Rattle.rp_rangesafe.specs.Along.{entry, state, Takes}
+use Rattle.rp_rangesafe.specs.Along.{entry, state}
 use Rattle.rp_rangesafe.specs.World.{World, begin, state_at, Event, Admit, Flush, Return, Refuse, Commit, Apply, Snapshot, Remove, Restart, happens, run, with_node}
-use Rattle.rp_rangesafe.specs.Places.{IsReached, IsLater, IsOnward, IsPlace, shown, items_to}
-use Rattle.rp_rangesafe.specs.Ranges.{Ranges, first_applied, at_first, Step, In, Turn_away, IsLawfulIn, IsLawful, right_with, right_by_request, right_by, right_of, with_right, within, after_event, after_step, AreLawful, after_steps, AreReached, AreLater, lists}
-use Rattle.rp_rangesafe.proofs.Tables.{node_same, node_other, at_with_node}
+use Rattle.rp_rangesafe.specs.Places.{IsLater, shown, items_to}
+use Rattle.rp_rangesafe.specs.Ranges.{Ranges, first_applied, at_first, Step, In, Turn_away, IsLawfulIn, IsLawful, right_with, right_by_request, right_by, right_of, with_right, within, after_event, after_step, AreLawful, after_steps, AreReached, lists}
+use Rattle.rp_rangesafe.proofs.Tables.{node_same, at_with_node}
 use Rattle.rp_rangesafe.proofs.Worlds.{Extends, extends_itself, state_so_far}
 use Rattle.rp_rangesafe.proofs.Runs.{later_extends, later_start}
 use Rattle.rp_rangesafe.proofs.Folds.{one_more}
 use Rattle.rp_rangesafe.proofs.OneRange.{numbers_rise, fold_is_state}
-use Rattle.rp_rangesafe.proofs.Whole.{Whole, Onto, whole_first, whole_step, onto_step, onto_in, onto_right, onto_further, whole_in, whole_reached}
+use Rattle.rp_rangesafe.proofs.Whole.{Whole, Onto, whole_first, whole_step, onto_step, onto_in, onto_right, whole_in, whole_reached}
 
 -- a list only grows
 longer : (w : World) (e : Event) → length w.log ≤ length (happens w e).log
@@ -143,6 +141,7 @@ source_onto w v k q o h = record {
 } where
   same : (v.range q).start ≡ (w.range q).start
   same = later_start (w.range q) (v.range q) (k.later q o)
+
   go : ((q ≡ 0) × ((w.range q).start ≡ first_applied)) ⊎ IsOrigin w (w.range q).start → ((q ≡ 0) × ((v.range q).start ≡ first_applied)) ⊎ IsOrigin v (v.range q).start
   go (inl p) = inl (p.0, same ∙ p.1)
   go (inr x) = inr (subst (IsOrigin v) (sym same) (origin_onto w v k (w.range q).start x))
@@ -154,6 +153,7 @@ sources_first q o = let e : q ≡ 0 = grind (arith, nat_tests) in record { numbe
 module _ (w : Ranges) (h : Whole w) (x : Sources w) (r : ℕ) (p : Payload) (l : IsLawfulIn w r (Commit p)) where
   abbrev grown : Ranges
   grown = within w r (Commit p)
+
   abbrev now : AppliedState
   now = state_at (w.range r) (length (w.range r).log)
 
@@ -242,6 +242,7 @@ pub begin_with : (w : World) (i j : ℕ) → i ≤ j → j ≤ length w.log → 
 begin_with w i zero l h = ([], ap (items_to w) same ∙ sym (nothing (items_to w i))) where
   same : 0 ≡ i
   same = omega arith
+
   nothing : (xs : List Place) → xs ++ [] ≡ xs
   nothing [] = refl
   nothing (x ∷ xs) = ap (λ ys. x ∷ ys) (nothing xs)
@@ -249,9 +250,11 @@ begin_with w i (suc j) l h = go (cases_lt i (suc j)) (λ k. begin_with w i j k (
   nothing : (xs : List Place) → xs ++ [] ≡ xs
   nothing [] = refl
   nothing (x ∷ xs) = ap (λ ys. x ∷ ys) (nothing xs)
+
   joined : (xs ys zs : List Place) → (xs ++ ys) ++ zs ≡ xs ++ (ys ++ zs)
   joined [] ys zs = refl
   joined (x ∷ xs) ys zs = ap (λ us. x ∷ us) (joined xs ys zs)
+
   go : (i < suc j) ⊎ (suc j ≤ i) → (i ≤ j → (rest : List Place) × (items_to w j ≡ items_to w i ++ rest)) → (rest : List Place) × (items_to w (suc j) ≡ items_to w i ++ rest)
   go (inl lt) ih =
       let k = ih (omega arith) in
@@ -275,6 +278,7 @@ number_along w r q o i = sym (numbers_rise (w.range q) 0 i (omega arith)).id ∙
 module _ (w : Ranges) (reach : AreReached w) (q : ℕ) (there : w.opened q ≡ true) (x : IsOrigin w (w.range q).start) where
   abbrev left : World
   left = w.range x.left
+
   abbrev split_state : AppliedState
   split_state = state_at left x.index
 
@@ -318,16 +322,18 @@ module _ (w : Ranges) (reach : AreReached w) (q : ℕ) (there : w.opened q ≡ t
   } where
     numbered : right_number split_state.desc ≡ q
     numbered = ap (λ n. n + 2 ^ split_state.desc.level) left_number ∙ sym number
+
     joined : (xs ys : List Place) (y : Place) → (xs ++ y ∷ []) ++ ys ≡ xs ++ y ∷ ys
     joined [] ys y = refl
     joined (z ∷ xs) ys y = ap (λ us. z ∷ us) (joined xs ys y)
+
     items : lists w x.left ≡ items_to left x.index ++ places.Split opening.command.id opening.key q opening.command.seq
         ∷ (begin_with left (suc x.index) (length left.log) (let b = x.below in omega arith) (omega arith)).0
     items =
         let k = begin_with left (suc x.index) (length left.log) (let b = x.below in omega arith) (omega arith) in
         let last : applied (record_of split_state (entry left.log x.index) ∷ []) ≡ places.Split opening.command.id opening.key q opening.command.seq ∷ [] =
-            ap (λ p. applied (record_of split_state p ∷ [])) opening.here ∙ one_split split_state opening.command opening.key opening.took opening.splits
-            ∙ ap (λ n. places.Split opening.command.id opening.key n opening.command.seq ∷ []) numbered in
+        ap (λ p. applied (record_of split_state p ∷ [])) opening.here ∙ one_split split_state opening.command opening.key opening.took opening.splits
+        ∙ ap (λ n. places.Split opening.command.id opening.key n opening.command.seq ∷ []) numbered in
         k.1
         ∙ ap (λ xs. xs ++ k.0) (one_more left.start left.log x.index x.below ∙ ap (λ ys. items_to left x.index ++ ys) last)
         ∙ joined (items_to left x.index) k.0 (places.Split opening.command.id opening.key q opening.command.seq)

@@ -1,16 +1,13 @@
 -- What holds after each list of lawful events.
-use Rattle.std.proofs.Common.{◌≡◌, ℕ, zero, suc, ◌<◌, ◌≤◌, ◌⊎◌, inl, inr, List, [], ◌∷◌, ◌++◌, length, refl, sym, ap, subst, ◌∙◌, arith}
+use Rattle.std.proofs.Common.{◌≡◌, ℕ, List, [], ◌∷◌, ◌++◌, refl, sym, ap, subst, ◌∙◌}
 use Rattle.rp_base.specs.declared.ids.CmdId.{CmdId}
 use Rattle.rp_request.specs.declared.commands.Payload.{Payload}
 use Rattle.rp_request.specs.declared.commands.Command.{Command}
-use Rattle.rp_apply.specs.Applied.{AppliedState}
-use Rattle.rp_rangesafe.specs.Attempts.{Attempt}
-use Rattle.rp_rangesafe.specs.Along.{entry, state, Takes}
-use Rattle.rp_rangesafe.specs.World.{World, begin, Event, Admit, Flush, Return, Refuse, Commit, Apply, Snapshot, Remove, Restart, Lawful, AllLawful, happens, run, state_at}
+use Rattle.rp_rangesafe.specs.Along.{entry, Takes}
+use Rattle.rp_rangesafe.specs.World.{World, begin, Event, Admit, Flush, Return, Refuse, Commit, Apply, Snapshot, Remove, Restart, AllLawful, happens, run}
 use Rattle.rp_rangesafe.specs.Places.{IsReached, IsLater, IsPlace}
-use Rattle.rp_rangesafe.proofs.Numbers.{same_state}
 use Rattle.rp_rangesafe.proofs.One.{PlaceOf}
-use Rattle.rp_rangesafe.proofs.Worlds.{Extends, extends_itself, state_so_far, Sound, sound_begin}
+use Rattle.rp_rangesafe.proofs.Worlds.{Extends, extends_itself, Sound, sound_begin}
 use Rattle.rp_rangesafe.proofs.Sounds.{extends_before, sound_step}
 use Rattle.rp_rangesafe.proofs.Growth.{Grown, grown_run}
 

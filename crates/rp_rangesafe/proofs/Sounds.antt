@@ -1,6 +1,6 @@
 -- Each lawful event keeps a range sound.
-use Rattle.std.proofs.Common.{◌≡◌, ℕ, zero, suc, ◌<◌, ◌≤◌, Bool, true, false, cond, ◌==◌, ◌⊎◌, inl, inr, List, [], ◌∷◌, ◌++◌, length, refl, sym, ap, subst, ◌∙◌, arith}
-use Rattle.std.proofs.lemmas.Bool.{cases_lt, cases_eq}
+use Rattle.std.proofs.Common.{◌≡◌, ℕ, suc, ◌<◌, ◌≤◌, true, false, ◌⊎◌, inl, inr, [], ◌∷◌, ◌++◌, length, refl, sym, ap, subst, ◌∙◌, arith}
+use Rattle.std.proofs.lemmas.Bool.{cases_eq}
 use Rattle.rp_base.specs.declared.ids.CmdId.{CmdId}
 use Rattle.rp_request.specs.declared.commands.Payload.{Payload}
 use Rattle.rp_request.specs.declared.commands.Payload.TheVariants.{Nothing, Write, Lease}
@@ -8,14 +8,14 @@ use Rattle.rp_request.specs.declared.commands.Command.{Command}
 use Rattle.rp_request.specs.Covers.{covers, Apart}
 use Rattle.rp_apply.specs.Applied.{AppliedState, verdict, IsBlocked}
 use Rattle.rp_apply.specs.declared.verdicts.Verdict.{Verdict}
-use Rattle.rp_rangesafe.specs.Attempts.{Body, Stage, Unborn, Waiting, Proposed, Success, Refused, Overtaken, Removed, Restarted, Attempt, Attempts, IsBorn, IsPending, IsEnded, IsClosed, IsOpen, IsAmong, IsOf, staged, handed_out, with_attempt, at_node}
+use Rattle.rp_rangesafe.specs.Attempts.{Body, Stage, Unborn, Waiting, Proposed, Success, Refused, Overtaken, Removed, Restarted, Attempt, Attempts, IsBorn, IsPending, IsEnded, IsClosed, IsOpen, IsOf, staged, handed_out, with_attempt, at_node}
 use Rattle.rp_rangesafe.specs.Along.{entry, state}
-use Rattle.rp_rangesafe.specs.World.{World, state_at, here, begin, Event, Admit, Flush, Return, Refuse, Commit, Apply, Snapshot, Remove, Restart, MayAdmit, IsEvaluated, MayCommit, IsPassed, MayJump, Lawful, admitted, with_node, told, after_entry, overtaken, removed, restarted, turned, happens}
-use Rattle.rp_rangesafe.proofs.Tables.{id_cases, at_attempt, at_same, at_other, at_nodes, node_same, node_other, at_with_node}
+use Rattle.rp_rangesafe.specs.World.{World, here, Event, Admit, Flush, Return, Refuse, Commit, Apply, Snapshot, Remove, Restart, MayAdmit, IsEvaluated, MayCommit, IsPassed, MayJump, Lawful, admitted, with_node, told, after_entry, overtaken, removed, restarted, happens}
+use Rattle.rp_rangesafe.proofs.Tables.{at_attempt, at_other, at_nodes, node_same, node_other, at_with_node}
 use Rattle.rp_rangesafe.proofs.One.{Good, closed_shut}
-use Rattle.rp_rangesafe.proofs.Moves.{Move, good_moved, stays, returns, refuses, removes, restarts, seq_behind}
+use Rattle.rp_rangesafe.proofs.Moves.{Move, stays, returns, refuses, removes, restarts, seq_behind}
 use Rattle.rp_rangesafe.proofs.Turns.{same_command, overtakes, passes, tells, hands_out, grows, born_good}
-use Rattle.rp_rangesafe.proofs.Worlds.{Extends, extends_less, extends_last, one_longer, state_so_far, Done, Pair, Sound, Kept, kept_same, pair_swapped, pair_kept, Turn, turn_staged, sound_by}
+use Rattle.rp_rangesafe.proofs.Worlds.{Extends, extends_less, extends_last, one_longer, state_so_far, Done, Pair, Sound, kept_same, pair_swapped, Turn, turn_staged, sound_by}
 
 -- an ended attempt stays in its stage
 pub told_ended : (c : Command) (v : Verdict) (g : Stage) → IsEnded g → g ≡ told c v g
@@ -61,6 +61,7 @@ restarted_ended (Restarted own) h = refl
 module _ (f : ℕ → Payload) (w : World) (s : Sound f w) where
   abbrev b : AppliedState
   b = w.start
+
   abbrev n : ℕ
   n = length w.log
 
@@ -165,36 +166,38 @@ module _ (f : ℕ → Payload) (w : World) (s : Sound f w) where
   sound_remove : (node : ℕ) → w.alive node ≡ true → Sound f (happens w (Remove node))
   sound_remove node live = sound_by f w s w.log w.index (with_node w.alive node false) w.barrier (at_node node removed w.attempt) s.within
       (at_nodes Dies node removed w.attempt (λ q e. there q e (w.attempt q).stage refl) elsewhere) where
-    Dies : CmdId → Attempt → Type 0
-    Dies q a = Turn b f n (w.index a.node) (with_node w.alive node false a.node) (w.barrier a.node) q (w.attempt q) a
+        Dies : CmdId → Attempt → Type 0
+        Dies q a = Turn b f n (w.index a.node) (with_node w.alive node false a.node) (w.barrier a.node) q (w.attempt q) a
 
-    elsewhere : (q : CmdId) → ((w.attempt q).node ≡ node → ⊥) → Dies q (w.attempt q)
-    elsewhere q ne = record {
-      good = subst (λ v. Good b f n (w.index (w.attempt q).node) v (w.barrier (w.attempt q).node) q (w.attempt q)) (sym (node_other w.alive node false (w.attempt q).node ne)) (s.good q);
-      kept = kept_same (w.attempt q);
-    }
+        elsewhere : (q : CmdId) → ((w.attempt q).node ≡ node → ⊥) → Dies q (w.attempt q)
+        elsewhere q ne = record {
+          good = subst (λ v. Good b f n (w.index (w.attempt q).node) v (w.barrier (w.attempt q).node) q (w.attempt q)) (sym (node_other w.alive node false (w.attempt q).node ne)) (s.good q);
+          kept = kept_same (w.attempt q);
+        }
 
-    move : (q : CmdId) (g : Stage) → (w.attempt q).stage ≡ g
-        → Move b f n (w.index (w.attempt q).node) (w.index (w.attempt q).node) false (w.barrier (w.attempt q).node) q (w.attempt q) (removed g)
-    move q g e = go g e where
-      same : Move b f n (w.index (w.attempt q).node) (w.index (w.attempt q).node) false (w.barrier (w.attempt q).node) q (w.attempt q) (w.attempt q).stage
-      same = stays (s.good q) _ false _ (omega arith) (s.within _) (λ _. refl) (s.good q).restarted (λ _ k c lo hi t. omega arith)
-      stay : (g : Stage) → (w.attempt q).stage ≡ g → Move b f n (w.index (w.attempt q).node) (w.index (w.attempt q).node) false (w.barrier (w.attempt q).node) q (w.attempt q) g
-      stay g e = subst (Move b f n (w.index (w.attempt q).node) (w.index (w.attempt q).node) false (w.barrier (w.attempt q).node) q (w.attempt q)) e same
-      go : (g : Stage) → (w.attempt q).stage ≡ g → Move b f n (w.index (w.attempt q).node) (w.index (w.attempt q).node) false (w.barrier (w.attempt q).node) q (w.attempt q) (removed g)
-      go Unborn e = stay Unborn e
-      go Waiting e = refuses (s.good q) false _ e (s.within _)
-      go (Proposed own) e = removes (s.good q) own e (s.within _)
-      go (Success reply) e = stay (Success reply) e
-      go Refused e = stay Refused e
-      go (Overtaken own passed) e = stay (Overtaken own passed) e
-      go (Removed own) e = stay (Removed own) e
-      go (Restarted own) e = stay (Restarted own) e
+        move : (q : CmdId) (g : Stage) → (w.attempt q).stage ≡ g
+            → Move b f n (w.index (w.attempt q).node) (w.index (w.attempt q).node) false (w.barrier (w.attempt q).node) q (w.attempt q) (removed g)
+        move q g e = go g e where
+          same : Move b f n (w.index (w.attempt q).node) (w.index (w.attempt q).node) false (w.barrier (w.attempt q).node) q (w.attempt q) (w.attempt q).stage
+          same = stays (s.good q) _ false _ (omega arith) (s.within _) (λ _. refl) (s.good q).restarted (λ _ k c lo hi t. omega arith)
 
-    there : (q : CmdId) → (w.attempt q).node ≡ node → (g : Stage) → (w.attempt q).stage ≡ g → Dies q (staged (w.attempt q) (removed (w.attempt q).stage))
-    there q e g h = subst (λ v. Turn b f n (w.index (w.attempt q).node) v (w.barrier (w.attempt q).node) q (w.attempt q) (staged (w.attempt q) (removed (w.attempt q).stage)))
-        (sym (subst (λ m. with_node w.alive node false m ≡ false) (sym e) (node_same w.alive node false)))
-        (turn_staged (s.good q) (move q (w.attempt q).stage refl) (removed_ended _))
+          stay : (g : Stage) → (w.attempt q).stage ≡ g → Move b f n (w.index (w.attempt q).node) (w.index (w.attempt q).node) false (w.barrier (w.attempt q).node) q (w.attempt q) g
+          stay g e = subst (Move b f n (w.index (w.attempt q).node) (w.index (w.attempt q).node) false (w.barrier (w.attempt q).node) q (w.attempt q)) e same
+
+          go : (g : Stage) → (w.attempt q).stage ≡ g → Move b f n (w.index (w.attempt q).node) (w.index (w.attempt q).node) false (w.barrier (w.attempt q).node) q (w.attempt q) (removed g)
+          go Unborn e = stay Unborn e
+          go Waiting e = refuses (s.good q) false _ e (s.within _)
+          go (Proposed own) e = removes (s.good q) own e (s.within _)
+          go (Success reply) e = stay (Success reply) e
+          go Refused e = stay Refused e
+          go (Overtaken own passed) e = stay (Overtaken own passed) e
+          go (Removed own) e = stay (Removed own) e
+          go (Restarted own) e = stay (Restarted own) e
+
+        there : (q : CmdId) → (w.attempt q).node ≡ node → (g : Stage) → (w.attempt q).stage ≡ g → Dies q (staged (w.attempt q) (removed (w.attempt q).stage))
+        there q e g h = subst (λ v. Turn b f n (w.index (w.attempt q).node) v (w.barrier (w.attempt q).node) q (w.attempt q) (staged (w.attempt q) (removed (w.attempt q).stage)))
+            (sym (subst (λ m. with_node w.alive node false m ≡ false) (sym e) (node_same w.alive node false)))
+            (turn_staged (s.good q) (move q (w.attempt q).stage refl) (removed_ended _))
 
   module _ (x : Extends f w.log) where
     module _ (node : ℕ) where
@@ -268,8 +271,10 @@ module _ (f : ℕ → Payload) (w : World) (s : Sound f w) where
       new_pair q = record { apart = λ _ born e same. go (w.attempt q).stage refl born (sym e) same } where
         apart : (g : Stage) → (w.attempt q).stage ≡ g → IsPending g → (w.attempt q).node ≡ node → Parts q
         apart g e h k = inl (may.latched q (subst IsPending (sym e) h) k)
+
         done : (g : Stage) → (w.attempt q).stage ≡ g → IsClosed g → (w.attempt q).node ≡ node → Parts q
         done g e h k = inr (inr (ended q k (subst IsClosed (sym e) h)))
+
         go : (g : Stage) → (w.attempt q).stage ≡ g → IsBorn g → (w.attempt q).node ≡ node → (here w node).lease.seq ≡ (w.attempt q).seq → Parts q
         go Unborn e h k same = absurd h
         go Waiting e h k same = apart Waiting e tt k
@@ -314,8 +319,8 @@ module _ (f : ℕ → Payload) (w : World) (s : Sound f w) where
             (grows (s.good q) (s.within _) (λ c h i. handed q c (sym (extends_last f w.log p x) ∙ h) i));
         kept = kept_same (w.attempt q);
       }) where
-    handed : (q : CmdId) (c : Command) → p ≡ Write c → c.id ≡ q → IsOf (w.attempt q) c
-    handed q c e i = subst (λ r. IsOf (w.attempt r) c) i (subst (MayCommit w) e may)
+        handed : (q : CmdId) (c : Command) → p ≡ Write c → c.id ≡ q → IsOf (w.attempt q) c
+        handed q c e i = subst (λ r. IsOf (w.attempt r) c) i (subst (MayCommit w) e may)
 
 -- the list of a range after an event begins with its list before
 pub extends_before : (f : ℕ → Payload) (w : World) (e : Event) → Extends f (happens w e).log → Extends f w.log

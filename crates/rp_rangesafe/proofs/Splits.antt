@@ -1,27 +1,20 @@
 -- Each right range is opened by one split, and each split that is taken opens its right range.
-use Rattle.std.proofs.Common.{◌≡◌, ℕ, zero, suc, ◌+◌, ◌-◌, ◌^◌, ◌<◌, ◌≤◌, Bool, true, false, cond, ◌⊎◌, inl, inr, List, [], ◌∷◌, ◌++◌, length, Option, Some, None, Result, Ok, Err, refl, sym, ap, subst, ◌∙◌, arith}
-use Rattle.std.proofs.Math.ListN.{get_or-append}
+use Rattle.std.proofs.Common.{◌≡◌, ℕ, zero, suc, ◌+◌, ◌^◌, ◌<◌, ◌≤◌, Bool, true, false, cond, ◌⊎◌, inl, inr, List, [], ◌∷◌, ◌++◌, length, Option, Some, None, refl, sym, ap, subst, ◌∙◌, arith}
 use Rattle.std.proofs.Math.Seq.{get_or-append_seam}
 use Rattle.std.proofs.lemmas.List.{length-append}
 use Rattle.std.proofs.lemmas.Bool.{cases_lt, cases_order}
-use Rattle.rp_base.specs.Splits.{split_of}
-use Rattle.rp_base.specs.declared.ids.CmdId.{CmdId}
-use Rattle.rp_base.specs.declared.ranges.Desc.{Desc}
 use Rattle.rp_base.proofs.SplitLaws.{AreParts, parts}
 use Rattle.rp_request.specs.declared.commands.Payload.{Payload}
-use Rattle.rp_request.specs.declared.commands.Payload.TheVariants.{Nothing, Write, Lease}
-use Rattle.rp_request.specs.declared.commands.Command.{Command}
-use Rattle.rp_request.specs.declared.requests.Request.TheVariants.{Split}
+use Rattle.rp_request.specs.declared.commands.Payload.TheVariants.{Nothing}
 use Rattle.rp_request.specs.Starts.{left_range}
-use Rattle.rp_apply.specs.Applied.{AppliedState, command_verdict, written, after, desc_after, left_of}
-use Rattle.rp_apply.specs.declared.verdicts.Verdict.TheVariants.{Took}
-use Rattle.rp_rangesafe.specs.Along.{entry, state}
-use Rattle.rp_rangesafe.specs.World.{World, begin, state_at, Event, Admit, Flush, Return, Refuse, Commit, Apply, Snapshot, Remove, Restart, Lawful, happens, with_node}
-use Rattle.rp_rangesafe.specs.Places.{IsLater, IsOnward}
+use Rattle.rp_apply.specs.Applied.{AppliedState, written, after, desc_after, left_of}
+use Rattle.rp_rangesafe.specs.Along.{entry}
+use Rattle.rp_rangesafe.specs.World.{World, begin, state_at, Admit, Flush, Return, Refuse, Commit, Apply, Snapshot, Remove, Restart, happens, with_node}
+use Rattle.rp_rangesafe.specs.Places.{IsLater}
 use Rattle.rp_rangesafe.specs.Ranges.{Ranges, first_applied, at_first, Step, In, Turn_away, IsLawfulIn, IsLawful, right_of, with_right, within, after_event, after_step, AreLawful, after_steps, AreReached}
 use Rattle.rp_rangesafe.proofs.Tables.{node_same, at_with_node}
 use Rattle.rp_rangesafe.proofs.OneRange.{numbers_rise}
-use Rattle.rp_rangesafe.proofs.Whole.{Whole, Onto, whole_first, whole_step, onto_step, onto_in, onto_right, whole_in, whole_reached, onto_steps}
+use Rattle.rp_rangesafe.proofs.Whole.{Whole, Onto, whole_first, whole_step, onto_step, onto_in, onto_right, whole_in, whole_reached}
 use Rattle.rp_rangesafe.proofs.Rights.{later_entry, later_state, Opens, opens_it, IsOrigin, Source, sources_reached, number_along, left_is}
 
 -- where the description is split its level rises
@@ -87,9 +80,11 @@ module _ (w : Ranges) (reach : AreReached w) where
   one_origin q r j k s t hj hk e f same = (ranges, go (cases_order j k)) where
     ranges : q ≡ r
     ranges = sym (came_from q j s hj e) ∙ ap left_range same ∙ came_from r k t hk f
+
     here : (i : ℕ) (u : AppliedState) → i < length (w.range q).log → right_of (state_at (w.range q) i) (entry (w.range q).log i) ≡ Some u
         → (i < length (w.range r).log) × (right_of (state_at (w.range r) i) (entry (w.range r).log i) ≡ Some u)
     here i u h x = (subst (λ z. i < length (w.range z).log) ranges h, subst (λ z. right_of (state_at (w.range z) i) (entry (w.range z).log i) ≡ Some u) ranges x)
+
     go : (j ≡ k) ⊎ ((j < k) ⊎ (k < j)) → j ≡ k
     go (inl eq) = eq
     go (inr (inl lt)) = let x = here j s hj e in absurd (same_index r j k s t x.0 hk x.1 f same lt)
@@ -122,6 +117,7 @@ short_in w r v l = at_with_node (λ q (u : World). length u.log ≤ length (w.ra
 module _ (w : Ranges) (h : Whole w) (x : AllOpened w) (r : ℕ) (p : Payload) (l : IsLawfulIn w r (Commit p)) where
   abbrev grown : Ranges
   grown = within w r (Commit p)
+
   abbrev now : AppliedState
   now = state_at (w.range r) (length (w.range r).log)
 
@@ -135,28 +131,30 @@ module _ (w : Ranges) (h : Whole w) (x : AllOpened w) (r : ℕ) (p : Payload) (l
     opened_in_grown q = at_with_node (λ z (u : World). (k : ℕ) (s : AppliedState) → k < length u.log → right_of (state_at u k) (entry u.log k) ≡ Some s → v.opened s.desc.id ≡ true)
         w.range r (happens (w.range r) (Commit p)) (λ k s m e. go k s m e (cases_lt k (length (w.range r).log)))
         (λ z _ k s m e. onto.opened s.desc.id (x.opened z k s m e)) q where
-      go : (k : ℕ) (s : AppliedState) → k < length ((w.range r).log ++ p ∷ []) → right_of (state_at (happens (w.range r) (Commit p)) k) (entry ((w.range r).log ++ p ∷ []) k) ≡ Some s
-          → (k < length (w.range r).log) ⊎ (length (w.range r).log ≤ k) → v.opened s.desc.id ≡ true
-      go k s m e (inl lt) = onto.opened s.desc.id (x.opened r k s lt
-          (ap (λ t. right_of t (entry (w.range r).log k)) (later_state (w.range r) (happens (w.range r) (Commit p)) one k (omega arith))
-          ∙ ap (right_of (state_at (happens (w.range r) (Commit p)) k)) (later_entry (w.range r) (happens (w.range r) (Commit p)) one k lt) ∙ e)) where
-        one : IsLater (w.range r) (happens (w.range r) (Commit p))
-        one = record { events = Commit p ∷ []; lawful = (l.lawful, tt); reached = refl }
-      go k s m e (inr ge) =
-          let long = length-append (w.range r).log (p ∷ []) in
-          let same : length (w.range r).log ≡ k = omega arith in
-          let one : IsLater (w.range r) (happens (w.range r) (Commit p)) = record { events = Commit p ∷ []; lawful = (l.lawful, tt); reached = refl } in
-          all s (ap (right_of now) (sym (get_or-append_seam (w.range r).log p [] Nothing))
-          ∙ ap (λ t. right_of t (entry ((w.range r).log ++ p ∷ []) (length (w.range r).log))) (later_state (w.range r) (happens (w.range r) (Commit p)) one (length (w.range r).log) (omega arith))
-          ∙ subst (λ i. right_of (state_at (happens (w.range r) (Commit p)) i) (entry ((w.range r).log ++ p ∷ []) i) ≡ Some s) (sym same) e)
+          go : (k : ℕ) (s : AppliedState) → k < length ((w.range r).log ++ p ∷ []) → right_of (state_at (happens (w.range r) (Commit p)) k) (entry ((w.range r).log ++ p ∷ []) k) ≡ Some s
+              → (k < length (w.range r).log) ⊎ (length (w.range r).log ≤ k) → v.opened s.desc.id ≡ true
+          go k s m e (inl lt) = onto.opened s.desc.id (x.opened r k s lt
+              (ap (λ t. right_of t (entry (w.range r).log k)) (later_state (w.range r) (happens (w.range r) (Commit p)) one k (omega arith))
+              ∙ ap (right_of (state_at (happens (w.range r) (Commit p)) k)) (later_entry (w.range r) (happens (w.range r) (Commit p)) one k lt) ∙ e)) where
+                one : IsLater (w.range r) (happens (w.range r) (Commit p))
+                one = record { events = Commit p ∷ []; lawful = (l.lawful, tt); reached = refl }
+          go k s m e (inr ge) =
+              let long = length-append (w.range r).log (p ∷ []) in
+              let same : length (w.range r).log ≡ k = omega arith in
+              let one : IsLater (w.range r) (happens (w.range r) (Commit p)) = record { events = Commit p ∷ []; lawful = (l.lawful, tt); reached = refl } in
+              all s (ap (right_of now) (sym (get_or-append_seam (w.range r).log p [] Nothing))
+              ∙ ap (λ t. right_of t (entry ((w.range r).log ++ p ∷ []) (length (w.range r).log))) (later_state (w.range r) (happens (w.range r) (Commit p)) one (length (w.range r).log) (omega arith))
+              ∙ subst (λ i. right_of (state_at (happens (w.range r) (Commit p)) i) (entry ((w.range r).log ++ p ∷ []) i) ≡ Some s) (sym same) e)
 
     opened_grown : AllOpened v
-    opened_grown = record { opened = λ q k s m e.
-        let less = short q in
-        let there : grown.opened q ≡ true = by q k (omega arith) in
-        opened_in_grown q k s (omega arith)
-        (ap (λ t. right_of t (entry (grown.range q).log k)) (later_state (grown.range q) (v.range q) (onto.later q there) k (omega arith))
-        ∙ ap (right_of (state_at (v.range q) k)) (later_entry (grown.range q) (v.range q) (onto.later q there) k (omega arith)) ∙ e) } where
+    opened_grown = record {
+      opened = λ q k s m e.
+          let less = short q in
+          let there : grown.opened q ≡ true = by q k (omega arith) in
+          opened_in_grown q k s (omega arith)
+          (ap (λ t. right_of t (entry (grown.range q).log k)) (later_state (grown.range q) (v.range q) (onto.later q there) k (omega arith))
+          ∙ ap (right_of (state_at (v.range q) k)) (later_entry (grown.range q) (v.range q) (onto.later q there) k (omega arith)) ∙ e);
+    } where
       by : (q k : ℕ) → k < length (grown.range q).log → grown.opened q ≡ true
       by q k m = is_there grown (whole_in w h r (Commit p) l.lawful l.there (λ z k. k)) q k m
 
@@ -167,6 +165,7 @@ module _ (w : Ranges) (h : Whole w) (x : AllOpened w) (r : ℕ) (p : Payload) (l
     right (Some s) e onto = go (w.opened s.desc.id) refl onto where
       same : (t : AppliedState) → right_of now p ≡ Some t → s ≡ t
       same t f = cc
+
       go : (b : Bool) → w.opened s.desc.id ≡ b → Onto grown (cond b grown (record grown { range = with_node grown.range s.desc.id (begin s); opened = with_node w.opened s.desc.id true }))
           → AllOpened (cond b grown (record grown { range = with_node grown.range s.desc.id (begin s); opened = with_node w.opened s.desc.id true }))
       go true b onto = opened_grown grown onto (λ q. omega arith) (λ t f. subst (λ (u : AppliedState). w.opened u.desc.id ≡ true) (same t f) b)
@@ -198,13 +197,15 @@ pub split_opens : (w : Ranges) → AreReached w → (r k : ℕ) (s : AppliedStat
 split_opens w reach r k s l e = (there, go source.origin) where
   there : w.opened s.desc.id ≡ true
   there = (all_opened w reach).opened r k s l e
+
   source : Source w s.desc.id
   source = sources_reached w reach s.desc.id there
+
   go : ((s.desc.id ≡ 0) × ((w.range s.desc.id).start ≡ first_applied)) ⊎ IsOrigin w (w.range s.desc.id).start → (w.range s.desc.id).start ≡ s
   go (inl p) = let n = numbered w reach r k s l e in let b = own_below w reach r k s l e in let z = p.0 in absurd (omega arith)
   go (inr x) =
       let one = one_origin w reach x.left r x.index k (w.range s.desc.id).start s x.below l x.opens e source.numbered in
       let same : right_of (state_at (w.range r) k) (entry (w.range r).log k) ≡ Some (w.range s.desc.id).start =
-          subst (λ i. right_of (state_at (w.range r) i) (entry (w.range r).log i) ≡ Some (w.range s.desc.id).start) one.1
-          (subst (λ z. right_of (state_at (w.range z) x.index) (entry (w.range z).log x.index) ≡ Some (w.range s.desc.id).start) one.0 x.opens) in
+      subst (λ i. right_of (state_at (w.range r) i) (entry (w.range r).log i) ≡ Some (w.range s.desc.id).start) one.1
+      (subst (λ z. right_of (state_at (w.range z) x.index) (entry (w.range z).log x.index) ≡ Some (w.range s.desc.id).start) one.0 x.opens) in
       cc

@@ -1,14 +1,12 @@
 -- What one entry does to an applied state, as far as the numbers go. Beside the laws on tables and descriptions this is
 -- all that the other proofs know of the check and the step.
-use Rattle.std.proofs.Common.{◌≡◌, ℕ, ◌+◌, ◌<◌, ◌≤◌, Bool, true, false, cond, ◌==◌, nat_le, nat_lt, ◌⊎◌, inl, inr, Option, Some, None, Result, Ok, Err, refl, sym, ap, subst, ◌∙◌, arith}
+use Rattle.std.proofs.Common.{◌≡◌, ℕ, ◌<◌, ◌≤◌, Bool, true, false, cond, ◌==◌, nat_le, nat_lt, inl, inr, Some, None, Err, refl, ap, subst, ◌∙◌, arith}
 use Rattle.std.proofs.lemmas.Bool.Decides.{nat_tests}
 use Rattle.rp_base.specs.declared.ranges.Desc.{Desc}
-use Rattle.rp_base.specs.declared.ranges.SplitFault.{SplitFault}
 use Rattle.rp_base.specs.declared.ranges.SplitFault.TheVariants.{NotInside}
-use Rattle.rp_base.specs.declared.leases.Lease as lease_type
 use Rattle.rp_base.specs.declared.leases.LeaseAsk.{LeaseAsk}
-use Rattle.rp_base.specs.Leases.{lease_after, extended, moved}
-use Rattle.rp_base.specs.Splits.{split_of, parts_of, left_part}
+use Rattle.rp_base.specs.Leases.{extended, moved}
+use Rattle.rp_base.specs.Splits.{split_of, parts_of}
 use Rattle.rp_request.specs.declared.requests.Request.{Request}
 use Rattle.rp_request.specs.declared.requests.Request.TheVariants.{Put, Add, CPut, Del, Wipe, Move, Split}
 use Rattle.rp_request.specs.declared.commands.Payload.{Payload}

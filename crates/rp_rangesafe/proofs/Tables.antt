@@ -1,5 +1,5 @@
 -- A table of attempts, or of what nodes have, that is changed.
-use Rattle.std.proofs.Common.{◌≡◌, ℕ, cond, ◌&&◌, eqb, Bool, true, false, ◌⊎◌, inl, inr, refl, sym, ap, subst, ◌∙◌, eqb-true, ⊎_elim}
+use Rattle.std.proofs.Common.{◌≡◌, ℕ, ◌&&◌, eqb, Bool, true, false, ◌⊎◌, inl, inr, refl, sym, ap, subst, eqb-true, ⊎_elim}
 use Rattle.std.proofs.lemmas.Bool.{cond_both, eqb-false, and_parts, and_cases}
 use Rattle.rp_base.specs.declared.ids.CmdId.{CmdId}
 use Rattle.rp_rangesafe.specs.Attempts.{Stage, Attempt, Attempts, same_id, with_attempt, at_node, staged}

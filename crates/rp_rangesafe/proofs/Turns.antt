@@ -1,24 +1,24 @@
 -- One attempt while its node applies an entry or takes in a snapshot, while it is handed out, while the list grows, and as
 -- it is admitted.
-use Rattle.std.proofs.Common.{◌≡◌, ℕ, zero, suc, ◌<◌, ◌≤◌, Bool, true, false, cond, ◌==◌, nat_le, ◌⊎◌, inl, inr, List, [], ◌∷◌, refl, sym, ap, subst, ◌∙◌, arith}
-use Rattle.std.proofs.lemmas.Bool.{cases_order, cases_lt, cases_eq}
+use Rattle.std.proofs.Common.{◌≡◌, ℕ, suc, ◌<◌, ◌≤◌, Bool, true, false, cond, ◌==◌, nat_le, ◌⊎◌, inl, inr, [], refl, sym, ap, subst, ◌∙◌, arith}
+use Rattle.std.proofs.lemmas.Bool.{cases_order, cases_lt}
 use Rattle.std.proofs.lemmas.Bool.Decides.{nat_tests}
 use Rattle.rp_base.specs.declared.ids.CmdId.{CmdId}
 use Rattle.rp_request.specs.declared.commands.Payload.{Payload}
-use Rattle.rp_request.specs.declared.commands.Payload.TheVariants.{Nothing, Write, Lease}
+use Rattle.rp_request.specs.declared.commands.Payload.TheVariants.{Write}
 use Rattle.rp_request.specs.declared.commands.Command.{Command}
 use Rattle.rp_request.specs.declared.outcomes.Reply.{Reply}
 use Rattle.rp_apply.specs.Applied.{AppliedState, verdict, IsBlocked}
 use Rattle.rp_apply.specs.declared.verdicts.Verdict.{Verdict}
 use Rattle.rp_apply.specs.declared.verdicts.Verdict.TheVariants.{Took, OldLease, OldIndex, LeaseMoved}
 use Rattle.rp_apply.specs.declared.verdicts.Verdict.TheVariants as verdicts
-use Rattle.rp_rangesafe.specs.Attempts.{Body, Stage, Unborn, Waiting, Proposed, Success, Refused, Overtaken, Removed, Restarted, Attempt, IsBorn, IsClosed, IsOpen, IsUntaken, IsAmong, IsOf, staged, handed_out}
+use Rattle.rp_rangesafe.specs.Attempts.{Body, Stage, Unborn, Waiting, Proposed, Success, Refused, Overtaken, Removed, Restarted, Attempt, IsBorn, IsOpen, IsUntaken, IsAmong, IsOf, handed_out}
 use Rattle.rp_rangesafe.specs.Along.{state, Takes}
-use Rattle.rp_rangesafe.specs.World.{IsEvaluated, told, by_verdict, overtaken, removed, restarted, unborn}
-use Rattle.rp_rangesafe.proofs.Steps.{onward_same, old_lease, old_index, no_lease_moved, no_void}
-use Rattle.rp_rangesafe.proofs.Numbers.{onward, max_once, lai_from, lai_after, blocked_later, blocked_never}
-use Rattle.rp_rangesafe.proofs.One.{PlaceOf, Placed, Made, Good, one_open, place_open, one_place, no_maximum}
-use Rattle.rp_rangesafe.proofs.Moves.{Move, good_moved, stays, shuts, seq_behind}
+use Rattle.rp_rangesafe.specs.World.{IsEvaluated, told, by_verdict, overtaken, unborn}
+use Rattle.rp_rangesafe.proofs.Steps.{old_lease, old_index, no_lease_moved, no_void}
+use Rattle.rp_rangesafe.proofs.Numbers.{onward, lai_from, lai_after}
+use Rattle.rp_rangesafe.proofs.One.{PlaceOf, Placed, Made, Good, place_open, no_maximum}
+use Rattle.rp_rangesafe.proofs.Moves.{Move, stays, shuts, seq_behind}
 
 -- two commands that stand at one index are one
 pub same_command : (f : ℕ → Payload) (k : ℕ) (c d : Command) → f k ≡ Write c → f k ≡ Write d → c ≡ d
@@ -199,6 +199,7 @@ module _ {b : AppliedState} {f : ℕ → Payload} {n p : ℕ} {alive : Bool} {ba
     old : (m : ℕ) → IsOpen a.stage m ⊎ IsBlocked (state b f p) a.seq m → (m ≡ max) ⊎ IsBlocked (state b f p) a.seq m
     old m (inl h) = let no : ⊥ = subst (λ y. IsOpen y m) e h in absurd no
     old m (inr h) = inr h
+
     blocked : (m : ℕ) → (m ≡ max) ⊎ IsAmong a.maxima m → (m ≡ max) ⊎ IsBlocked (state b f p) a.seq m
     blocked m (inl h) = inl h
     blocked m (inr h) = old m (x.blocked m h)
@@ -231,6 +232,7 @@ module _ {b : AppliedState} {f : ℕ → Payload} {n p : ℕ} {alive : Bool} {ba
     is_born c o (Overtaken own passed) e = tt
     is_born c o (Removed own) e = tt
     is_born c o (Restarted own) e = tt
+
     go : (k : ℕ) (c : Command) → f k ≡ Write c → c.id ≡ id → (k < n) ⊎ (n ≤ k) → k < suc n → Made a k c
     go k c e i (inl l) h = x.entries k c l e i
     go k c e i (inr ge) h =

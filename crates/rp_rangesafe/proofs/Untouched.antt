@@ -1,7 +1,7 @@
 -- Between its evaluation and its place nothing is taken that an attempt's keys touch: what it read there it would read here.
 -- Of requests this uses that an effect reads and changes only what the request covers, that each request covers a key and
 -- that a split covers every key.
-use Rattle.std.proofs.Common.{◌≡◌, ℕ, zero, suc, ◌<◌, ◌≤◌, Bool, true, false, IsTrue, IsFalse, IfOk, ◌⊎◌, inl, inr, List, [], ◌∷◌, length, Option, Some, None, Result, Ok, Err, refl, sym, ap, subst, ◌∙◌, arith}
+use Rattle.std.proofs.Common.{◌≡◌, ℕ, zero, suc, ◌<◌, ◌≤◌, Bool, IsTrue, IfOk, ◌⊎◌, inl, inr, length, Option, Some, None, Result, refl, sym, ap, subst, ◌∙◌, arith}
 use Rattle.std.proofs.lemmas.Bool.{cases_lt}
 use Rattle.std.specs.FinMap.{retain_keys}
 use Rattle.rp_base.specs.declared.ids.CmdId.{CmdId}
@@ -12,28 +12,25 @@ use Rattle.rp_request.specs.declared.commands.Payload.TheVariants.{Nothing, Writ
 use Rattle.rp_request.specs.declared.commands.Command.{Command}
 use Rattle.rp_request.specs.declared.requests.Request.{Request}
 use Rattle.rp_request.specs.declared.requests.Request.TheVariants.{Put, Add, CPut, Del, Wipe, Move, Split}
-use Rattle.rp_request.specs.Table.{Table}
 use Rattle.rp_request.specs.Covers.{covers, Apart}
-use Rattle.rp_request.specs.Effect.{Effect, effect}
+use Rattle.rp_request.specs.Effect.{Effect}
 use Rattle.rp_request.specs.declared.outcomes.Refusal.{Refusal}
 use Rattle.rp_request.proofs.Locality.{leaves}
 use Rattle.rp_request.proofs.Covering.{some_key}
-use Rattle.rp_eval.specs.Evaluations.{evaluated, Does}
 use Rattle.rp_eval.proofs.ReadParts.{evaluated_reads}
 use Rattle.rp_eval.proofs.Does.{evaluated_does}
-use Rattle.rp_apply.specs.Applied.{AppliedState, verdict, command_verdict, asked, written, leased, taken, after, desc_after, IsBlocked}
+use Rattle.rp_apply.specs.Applied.{AppliedState, command_verdict, asked, written, leased, taken, after, desc_after}
 use Rattle.rp_apply.specs.declared.verdicts.Verdict.{Verdict}
 use Rattle.rp_apply.specs.declared.verdicts.Verdict.TheVariants.{Took, OldLease, OldIndex, LeaseMoved}
 use Rattle.rp_apply.specs.declared.verdicts.Verdict.TheVariants as verdicts
-use Rattle.rp_rangesafe.specs.Attempts.{Body, Stage, Attempt, IsBorn, IsOf}
+use Rattle.rp_rangesafe.specs.Attempts.{Attempt, IsBorn}
 use Rattle.rp_rangesafe.specs.Along.{state, Takes}
 use Rattle.rp_rangesafe.specs.World.{World, IsEvaluated}
-use Rattle.rp_rangesafe.specs.Places.{IsOnward, body_of}
+use Rattle.rp_rangesafe.specs.Places.{body_of}
 use Rattle.rp_rangesafe.proofs.Tables.{id_cases}
-use Rattle.rp_rangesafe.proofs.Steps.{timely}
 use Rattle.rp_rangesafe.proofs.Numbers.{onward, one_holder, timely_at, blocked_never}
-use Rattle.rp_rangesafe.proofs.One.{PlaceOf, Made, Good, one_place, born_with}
-use Rattle.rp_rangesafe.proofs.Worlds.{Done, Pair, Sound}
+use Rattle.rp_rangesafe.proofs.One.{Made, one_place, born_with}
+use Rattle.rp_rangesafe.proofs.Worlds.{Done, Sound}
 
 -- two states look alike to what covers these keys
 pub record Alike (p : ℕ → Bool) (s t : AppliedState) : Type 0 where
@@ -65,8 +62,8 @@ alike_taken : (r : Request) (s : AppliedState) (e : Command) → Apart (covers r
 alike_taken r s e apart h =
     let does = evaluated_does s.table s.desc e.request (record { batch = e.batch; reply = e.reply }) h.evaluation in
     let rest : retain_keys does.left.table (covers r) ≡ retain_keys s.table (covers r) =
-        subst (λ (x : Result Effect Refusal). IfOk x (λ (y : Effect). retain_keys y.table (covers r) ≡ retain_keys s.table (covers r)))
-        does.takes (leaves s.table s.desc e.request (covers r) apart) in
+    subst (λ (x : Result Effect Refusal). IfOk x (λ (y : Effect). retain_keys y.table (covers r) ≡ retain_keys s.table (covers r)))
+    does.takes (leaves s.table s.desc e.request (covers r) apart) in
     record {
       table = sym rest ∙ sym (ap (λ t. retain_keys t (covers r)) does.table);
       desc = no_split (covers r) (some_key r).0 (some_key r).1 e.request apart s.desc;
@@ -75,8 +72,10 @@ alike_taken r s e apart h =
 module _ (f : ℕ → Payload) (w : World) (s : Sound f w) where
   abbrev b : AppliedState
   b = w.start
+
   abbrev n : ℕ
   n = length w.log
+
   abbrev at : CmdId → Attempt
   at = w.attempt
 
@@ -100,10 +99,13 @@ module _ (f : ℕ → Payload) (w : World) (s : Sound f w) where
   untouched k j d e hk lo hi t u = go (id_cases d.id e.id) where
     hj : j < n
     hj = omega arith
+
     md : Made (at d.id) k d
     md = made k d hk t
+
     me : Made (at e.id) j e
     me = made j e hj u
+
     -- all under one sequence
     level : (state b f (at d.id).from).lease.seq ≡ (state b f j).lease.seq
     level =
@@ -113,16 +115,19 @@ module _ (f : ℕ → Payload) (w : World) (s : Sound f w) where
         let one = up.seq in
         let two = on.seq in
         omega arith
+
     seqs : (at d.id).seq ≡ (at e.id).seq
     seqs =
         let x = (s.good d.id).seq (born k d hk t) in
         let y = (s.good e.id).seq (born j e hj u) in
         sym x ∙ level ∙ sym (seq_at j e hj u) ∙ y
+
     nodes : (at d.id).node ≡ (at e.id).node
     nodes =
         let x = (s.good d.id).holder (born k d hk t) in
         let y = (s.good e.id).holder (born j e hj u) in
         sym x ∙ one_holder b f (at d.id).from (at e.id).from (level ∙ sym (seq_at j e hj u)) ∙ y
+
     parts : Apart (covers (at d.id).body.request) (covers (at e.id).body.request) ⊎ (Done b f (at d.id) (at e.id).from ⊎ Done b f (at e.id) (at d.id).from)
         → Apart (covers d.request) (covers e.request)
     parts (inl a) = subst (λ r. Apart (covers d.request) (covers r)) (sym me.of.request) (subst (λ r. Apart (covers r) (covers (at e.id).body.request)) (sym md.of.request) a)
@@ -130,6 +135,7 @@ module _ (f : ℕ → Payload) (w : World) (s : Sound f w) where
         let past = me.behind in
         absurd (blocked_never b f (at e.id).from k d (at d.id).seq (omega arith) md.of.seq (done.blocked d.max md.of.max) t)
     parts (inr (inr done)) = absurd (blocked_never b f (at d.id).from j e (at e.id).seq lo me.of.seq (done.blocked e.max me.of.max) u)
+
     go : (d.id ≡ e.id) ⊎ (d.id ≡ e.id → ⊥) → Apart (covers d.request) (covers e.request)
     go (inl same) =
         let one = one_place (s.good d.id) k j d e hk hj (record { takes = t; named = refl }) (record { takes = u; named = sym same }) in
@@ -150,6 +156,7 @@ module _ (f : ℕ → Payload) (w : World) (s : Sound f w) where
       by e h (OldIndex lai) v = alike_itself _ _
       by e h LeaseMoved v = alike_itself _ _
       by e h verdicts.Nothing v = alike_itself _ _
+
       go : (y : Payload) → f i ≡ y → Alike (covers d.request) (state b f i) (after (state b f i) y)
       go Nothing h = alike_itself _ _
       go (Write e) h = by e h (command_verdict (state b f i) e) refl

@@ -1,17 +1,14 @@
 -- What holds of the ranges together at any time.
-use Rattle.std.proofs.Common.{◌≡◌, ℕ, zero, suc, ◌+◌, ◌-◌, ◌<◌, ◌≤◌, Bool, true, false, cond, ◌==◌, IsTrue, ◌⊎◌, inl, inr, List, [], ◌∷◌, ◌++◌, length, Option, Some, None, Result, Ok, Err, refl, sym, ap, subst, ◌∙◌, arith}
-use Rattle.std.proofs.lemmas.Bool.{cases_lt, cases_eq, cases_order, cond_both}
-use Rattle.std.proofs.lemmas.Bool.Decides.{nat_tests}
+use Rattle.std.proofs.Common.{◌≡◌, ℕ, ◌-◌, ◌<◌, ◌≤◌, Bool, true, false, cond, ◌⊎◌, inl, inr, List, [], ◌∷◌, length, Option, Some, None, refl, sym, ap, subst, ◌∙◌, arith}
+use Rattle.std.proofs.lemmas.Bool.{cases_lt, cond_both}
 use Rattle.rp_base.specs.declared.ids.CmdId.{CmdId}
-use Rattle.rp_request.specs.declared.commands.Payload.{Payload}
-use Rattle.rp_request.specs.declared.commands.Command.{Command}
 use Rattle.rp_apply.specs.Applied.{AppliedState}
-use Rattle.rp_rangesafe.specs.Attempts.{Stage, Unborn, Refused, Attempt, Attempts, IsBorn, IsEnded, same_id}
-use Rattle.rp_rangesafe.specs.World.{World, begin, state_at, unborn, Event, Admit, Flush, Return, Refuse, Commit, Apply, Snapshot, Remove, Restart, Lawful, AllLawful, happens, run, with_node}
+use Rattle.rp_rangesafe.specs.Attempts.{Unborn, Refused, Attempt, IsBorn, IsEnded, same_id}
+use Rattle.rp_rangesafe.specs.World.{World, begin, state_at, Event, Admit, Flush, Return, Refuse, Commit, Apply, Snapshot, Remove, Restart, Lawful, happens, with_node}
 use Rattle.rp_rangesafe.specs.Places.{IsReached, IsLater}
-use Rattle.rp_rangesafe.specs.Ranges.{Owner, Nobody, Turned, At, Ranges, first_applied, at_first, Step, In, Turn_away, IsMade, IsRefusedAt, IsRefused, previous, MayBegin, Begins, IsLawfulIn, IsLawful, right_of, with_right, with_owner, within, after_event, after_step, AreLawful, after_steps, AreReached, AreLater}
-use Rattle.rp_rangesafe.proofs.Tables.{id_by, same_id_is, other_id, id_cases, node_same, node_other, at_with_node, at_attempt}
-use Rattle.rp_rangesafe.proofs.Growth.{Grown, Admits, made_before}
+use Rattle.rp_rangesafe.specs.Ranges.{Owner, Nobody, Turned, At, Ranges, first_applied, at_first, Step, In, Turn_away, IsMade, IsRefusedAt, IsRefused, previous, MayBegin, IsLawfulIn, IsLawful, right_of, with_right, with_owner, within, after_event, after_step, AreLawful, after_steps, AreReached, AreLater}
+use Rattle.rp_rangesafe.proofs.Tables.{id_by, same_id_is, other_id, id_cases, node_other, at_with_node}
+use Rattle.rp_rangesafe.proofs.Growth.{Admits, made_before}
 use Rattle.rp_rangesafe.proofs.Runs.{later_itself, later_further, later_reached, later_grown}
 
 -- what holds of the changed owner and of each other one
@@ -131,9 +128,9 @@ module _ (w : Ranges) (h : Whole w) (r : ℕ) (e : Event) (may : Lawful (w.range
   made_in : (q : ℕ) (x : CmdId) → IsBorn ((changed q).attempt x).stage → IsBorn ((w.range q).attempt x).stage ⊎ ((q ≡ r) × Admits e x)
   made_in q x = at_with_node (λ p v. IsBorn (v.attempt x).stage → IsBorn ((w.range p).attempt x).stage ⊎ ((p ≡ r) × Admits e x)) w.range r (happens (w.range r) e)
       (λ b. go (made_before (w.range r) e may x b)) (λ p _ b. inl b) q where
-    go : IsBorn ((w.range r).attempt x).stage ⊎ Admits e x → IsBorn ((w.range r).attempt x).stage ⊎ ((r ≡ r) × Admits e x)
-    go (inl b) = inl b
-    go (inr a) = inr (refl, a)
+        go : IsBorn ((w.range r).attempt x).stage ⊎ Admits e x → IsBorn ((w.range r).attempt x).stage ⊎ ((r ≡ r) × Admits e x)
+        go (inl b) = inl b
+        go (inr a) = inr (refl, a)
 
   -- an event that admits nothing
   pub whole_in : ((x : CmdId) → Admits e x → ⊥) → Whole (within w r e)
@@ -298,8 +295,10 @@ owner_step w x l id o e m = go x l where
   right : (v : Ranges) (t : Option AppliedState) → (with_right v t).owner id ≡ v.owner id
   right v None = refl
   right v (Some s) = cond_both (v.opened s.desc.id) v _ (λ (u : Ranges). u.owner id ≡ v.owner id) (λ _. refl) (λ _. refl)
+
   begun : (q : CmdId) (p : Owner) → MayBegin w q → with_owner w.owner q p id ≡ o
   begun q p b = at_owner (λ z y. w.owner z ≡ o → y ≡ o) w.owner q p (λ k. let new = b.new in absurd (subst IsMade (sym k ∙ new) m)) (λ z _ k. k) id e
+
   go : (x : Step) → IsLawful w x → (after_step w x).owner id ≡ o
   go (In r (Admit q node body)) l = begun q (At r) l.begins
   go (In r (Flush q max)) l = e

@@ -1,5 +1,5 @@
 -- A worked run, lawful and computed: the laws do not speak of ranges in which nothing happens.
-use Rattle.std.proofs.Common.{◌≡◌, ℕ, zero, suc, ◌+◌, ◌-◌, ◌<◌, ◌≤◌, Bool, true, false, ◌⊎◌, inl, inr, List, [], ◌∷◌, ◌++◌, length, Option, Some, None, Ok, Err, cond, nat_lt, nat_le, unwrap_or, refl, ap, ◌∙◌, arith}
+use Rattle.std.proofs.Common.{◌≡◌, ℕ, ◌+◌, true, inl, inr, List, [], ◌∷◌, ◌++◌, Some, None, Ok, Err, cond, nat_lt, nat_le, unwrap_or, refl, ap, ◌∙◌, arith}
 use Rattle.std.specs.Ordering.{nat_cmp}
 use Rattle.std.specs.FinMap.{empty, get, insert, get-empty}
 use Rattle.rp_base.specs.Splits.{first_desc}
@@ -13,18 +13,15 @@ use Rattle.rp_eval.specs.Evaluations.{evaluated, with_batch}
 use Rattle.rp_request.specs.declared.commands.Op.TheVariants.{Set}
 use Rattle.rp_request.specs.declared.commands.Command.{Command}
 use Rattle.rp_request.specs.declared.commands.Payload.TheVariants.{Nothing, Write}
-use Rattle.rp_request.specs.declared.items.Place.{Place}
 use Rattle.rp_request.specs.declared.items.Place.TheVariants as places
 use Rattle.rp_request.specs.declared.items.Record.TheVariants as records
 use Rattle.rp_request.specs.declared.items.Why.TheVariants as reasons
-use Rattle.rp_request.specs.declared.outcomes.Reply.{Reply}
 use Rattle.rp_request.specs.declared.outcomes.Reply.TheVariants.{Old, Now, Range}
-use Rattle.rp_request.specs.declared.requests.Request.{Request}
 use Rattle.rp_request.specs.declared.requests.Request.TheVariants.{Put, Add, Split}
 use Rattle.rp_apply.specs.Applied.{command_verdict, records_of}
-use Rattle.rp_rangesafe.specs.Attempts.{Body, Stage, Unborn, Waiting, Proposed, Success, Refused, Overtaken, Removed, Restarted, Attempt, Attempts, IsPending, with_attempt, at_node}
-use Rattle.rp_rangesafe.specs.World.{World, Admit, Flush, Return, Refuse, Commit, Apply, Snapshot, Remove, Restart, with_node}
-use Rattle.rp_rangesafe.specs.Ranges.{Ranges, Owner, Nobody, Turned, At, at_first, Step, In, Turn_away, after_step, AreLawful, after_steps, AreReached, with_owner, lists}
+use Rattle.rp_rangesafe.specs.Attempts.{Body, Success, Overtaken, Attempt, Attempts, IsPending, with_attempt, at_node}
+use Rattle.rp_rangesafe.specs.World.{Admit, Flush, Commit, Apply, Snapshot, Restart, with_node}
+use Rattle.rp_rangesafe.specs.Ranges.{Ranges, Turned, at_first, Step, In, Turn_away, after_step, AreLawful, after_steps, AreReached, with_owner, lists}
 use Rattle.rp_rangesafe.proofs.Tables.{at_attempt}
 
 abbrev one : CmdId

@@ -1,5 +1,5 @@
 -- What holds of a range at any time, by the list as it will be.
-use Rattle.std.proofs.Common.{◌≡◌, ℕ, zero, suc, ◌+◌, ◌<◌, ◌≤◌, Bool, true, false, IsTrue, IsFalse, ◌⊎◌, inl, inr, List, [], ◌∷◌, ◌++◌, length, get_or, refl, sym, ap, subst, ◌∙◌, arith}
+use Rattle.std.proofs.Common.{◌≡◌, ℕ, suc, ◌<◌, ◌≤◌, Bool, true, false, IsFalse, ◌⊎◌, inl, inr, List, [], ◌∷◌, ◌++◌, length, refl, sym, ap, subst, ◌∙◌, arith}
 use Rattle.std.proofs.Math.ListN.{get_or-append}
 use Rattle.std.proofs.Math.Seq.{get_or-append_seam}
 use Rattle.std.proofs.lemmas.List.{length-append}
@@ -84,6 +84,7 @@ pub pair_kept : (b : AppliedState) (f : ℕ → Payload) (x y x' y' : Attempt) �
 pair_kept b f x y x' y' h k l = record { apart = λ hx hy e s. go (h.apart (k.born hx) (l.born hy) (k.node ∙ e ∙ sym l.node) (k.seq ∙ s ∙ sym l.seq)) } where
   bodies : Apart (covers x.body.request) (covers y.body.request) → Apart (covers x'.body.request) (covers y'.body.request)
   bodies a = subst (λ (r : Body). Apart (covers x'.body.request) (covers r.request)) l.body (subst (λ (r : Body). Apart (covers r.request) (covers y.body.request)) k.body a)
+
   go : Apart (covers x.body.request) (covers y.body.request) ⊎ (Done b f x y.from ⊎ Done b f y x.from)
       → Apart (covers x'.body.request) (covers y'.body.request) ⊎ (Done b f x' y'.from ⊎ Done b f y' x'.from)
   go (inl a) = inl (bodies a)

@@ -1,5 +1,5 @@
 -- What is said of a range: places, what may come later, dead maxima, honest outcomes.
-use Rattle.std.specs.Prelude.{◌≡◌, ℕ, ◌<◌, ◌≤◌, ◌⊎◌, IsTrue, List, length, take, Some, Ok}
+use Rattle.std.specs.Prelude.{◌≡◌, ℕ, ◌<◌, ◌≤◌, ◌⊎◌, List, length, take}
 use Rattle.rp_base.specs.declared.ids.CmdId.{CmdId}
 use Rattle.rp_request.specs.declared.commands.Command.{Command}
 use Rattle.rp_request.specs.declared.outcomes.Reply.{Reply}
@@ -7,8 +7,8 @@ use Rattle.rp_request.specs.declared.items.Place.{Place}
 use Rattle.rp_request.specs.Items as items
 use Rattle.rp_request.specs.Records.{applied}
 use Rattle.rp_apply.specs.Applied.{AppliedState, records_of, IsBlocked}
-use Rattle.rp_rangesafe.specs.Attempts.{Body, Stage, Refused, Success, Overtaken, Removed, Restarted, Attempt, IsOf, IsAmong, IsOpen, IsUntaken}
-use Rattle.rp_rangesafe.specs.Along.{entry, state, Takes}
+use Rattle.rp_rangesafe.specs.Attempts.{Body, IsOf, IsAmong, IsOpen, IsUntaken}
+use Rattle.rp_rangesafe.specs.Along.{entry, Takes}
 use Rattle.rp_rangesafe.specs.World.{World, IsEvaluated, state_at, here, begin, Event, AllLawful, run}
 
 -- a range as it can be: lawful events lead to it from its start
