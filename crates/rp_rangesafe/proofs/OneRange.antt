@@ -1,5 +1,5 @@
 -- Laws of one range.
-use Rattle.std.proofs.Common.{◌≡◌, ℕ, ◌<◌, ◌≤◌, ◌⊎◌, inl, inr, length, Some, refl, sym, ap, subst, ◌∙◌, arith}
+use Rattle.std.proofs.Common.{[], ◌≡◌, ℕ, ◌<◌, ◌≤◌, ◌⊎◌, inl, inr, length, Some, refl, sym, ap, subst, ◌∙◌, arith}
 use Rattle.std.proofs.lemmas.Bool.{cases_lt}
 use Rattle.rp_base.specs.declared.ids.CmdId.{CmdId}
 use Rattle.rp_request.specs.declared.commands.Command.{Command}
@@ -7,7 +7,7 @@ use Rattle.rp_request.specs.declared.outcomes.Reply.{Reply}
 use Rattle.rp_request.specs.Items as items
 use Rattle.rp_eval.specs.Evaluations.{Does}
 use Rattle.rp_apply.specs.Applied.{IsBlocked}
-use Rattle.rp_rangesafe.specs.Attempts.{Stage, Success, Refused, Overtaken, Restarted, Attempt, IsEnded, IsOpen, IsUntaken, IsAmong}
+use Rattle.rp_rangesafe.specs.Attempts.{Stage, Unborn, Success, Refused, Overtaken, Restarted, Attempt, IsEnded, IsOpen, IsUntaken, IsAmong}
 use Rattle.rp_rangesafe.specs.Along.{entry, state, Takes}
 use Rattle.rp_rangesafe.specs.World.{World, state_at}
 use Rattle.rp_rangesafe.specs.Places.{IsReached, IsLater, IsOnward, IsPlace, IsDeadByStage, IsDeadForGood, HasNever, IsPlacedWith, IsLawfulPlace, shown, items_to}
@@ -128,3 +128,12 @@ effect_at_place w r id k c p = folds.does_on (state_at w k) c (place_evaluated (
 
 pub fold_is_state : (w : World) → IsReached w → (i : ℕ) → i ≤ length w.log → items.fold (shown w.start) (items_to w i) ≡ Some (shown (state_at w i))
 fold_is_state w r = folds.fold_is_state w (λ k c l t. place_evaluated (entry w.log) w (itself w r) k c l t)
+
+pub stands_within : (w : World) → IsReached w → (node : ℕ) → w.index node ≤ length w.log
+stands_within w r = (itself w r).within
+
+pub none_unborn : (w : World) → IsReached w → (id : CmdId) → (w.attempt id).stage ≡ Unborn → (w.attempt id).maxima ≡ []
+none_unborn w r id = ((itself w r).good id).fresh
+
+pub ended_stays : (w : World) (later : World) → IsLater w later → (id : CmdId) → IsEnded (w.attempt id).stage → w.attempt id ≡ later.attempt id
+ended_stays w later l id h = (later_grown w later l id).ended h

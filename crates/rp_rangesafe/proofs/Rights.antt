@@ -22,45 +22,15 @@ use Rattle.rp_apply.specs.Applied.{AppliedState, command_verdict, record_of, ite
 use Rattle.rp_apply.specs.declared.verdicts.Verdict.{Verdict}
 use Rattle.rp_apply.specs.declared.verdicts.Verdict.TheVariants.{Took, OldLease, OldIndex, LeaseMoved}
 use Rattle.rp_apply.specs.declared.verdicts.Verdict.TheVariants as verdicts
-use Rattle.rp_rangesafe.specs.Along.{entry, state}
-use Rattle.rp_rangesafe.specs.World.{World, begin, state_at, Event, Admit, Flush, Return, Refuse, Commit, Apply, Snapshot, Remove, Restart, happens, run, with_node}
-use Rattle.rp_rangesafe.specs.Places.{IsLater, shown, items_to}
+use Rattle.rp_rangesafe.specs.Along.{entry}
+use Rattle.rp_rangesafe.specs.World.{World, begin, state_at, Admit, Flush, Return, Refuse, Commit, Apply, Snapshot, Remove, Restart, happens, with_node}
+use Rattle.rp_rangesafe.specs.Places.{shown, items_to}
 use Rattle.rp_rangesafe.specs.Ranges.{Ranges, first_applied, at_first, Step, In, Turn_away, IsLawfulIn, IsLawful, right_with, right_by_request, right_by, right_of, with_right, within, after_event, after_step, AreLawful, after_steps, AreReached, lists}
 use Rattle.rp_rangesafe.proofs.Tables.{node_same, at_with_node}
-use Rattle.rp_rangesafe.proofs.Worlds.{Extends, extends_itself, state_so_far}
-use Rattle.rp_rangesafe.proofs.Runs.{later_extends, later_start}
+use Rattle.rp_rangesafe.proofs.Runs.{later_start, later_longer, later_entry, later_state}
 use Rattle.rp_rangesafe.proofs.Folds.{one_more}
 use Rattle.rp_rangesafe.proofs.OneRange.{numbers_rise, fold_is_state}
 use Rattle.rp_rangesafe.proofs.Whole.{Whole, Onto, whole_first, whole_step, onto_step, onto_in, onto_right, whole_in, whole_reached}
-
--- a list only grows
-longer : (w : World) (e : Event) → length w.log ≤ length (happens w e).log
-longer w (Admit id node body) = omega arith
-longer w (Flush id max) = omega arith
-longer w (Return id) = omega arith
-longer w (Refuse id) = omega arith
-longer w (Commit p) = let e = length-append w.log (p ∷ []) in omega arith
-longer w (Apply node) = omega arith
-longer w (Snapshot node to) = omega arith
-longer w (Remove node) = omega arith
-longer w (Restart node) = omega arith
-
-longer_run : (w : World) (es : List Event) → length w.log ≤ length (run w es).log
-longer_run w [] = omega arith
-longer_run w (e ∷ es) = let a = longer w e in let b = longer_run (happens w e) es in omega arith
-
-module _ (w later : World) (l : IsLater w later) where
-  pub later_longer : length w.log ≤ length later.log
-  later_longer = subst (λ (v : World). length w.log ≤ length v.log) l.reached (longer_run w l.events)
-
-  so_far : Extends (entry later.log) w.log
-  so_far = later_extends (entry later.log) w later l (extends_itself later.log)
-
-  pub later_entry : (k : ℕ) → k < length w.log → entry w.log k ≡ entry later.log k
-  later_entry k h = sym (so_far.at k h)
-
-  pub later_state : (i : ℕ) → i ≤ length w.log → state_at w i ≡ state_at later i
-  later_state i h = state_so_far (entry later.log) w so_far i h ∙ ap (λ b. state b (entry later.log) i) (sym (later_start w later l))
 
 -- what opens a right range
 pub record Opens (s : AppliedState) (p : Payload) (t : AppliedState) : Type 0 where

@@ -1,13 +1,16 @@
 -- What holds after each list of lawful events.
-use Rattle.std.proofs.Common.{◌≡◌, ℕ, List, [], ◌∷◌, ◌++◌, refl, sym, ap, subst, ◌∙◌}
+use Rattle.std.proofs.Common.{◌≡◌, ℕ, ◌<◌, ◌≤◌, List, [], ◌∷◌, ◌++◌, length, refl, sym, ap, subst, ◌∙◌, arith}
+use Rattle.std.proofs.lemmas.List.{length-append}
 use Rattle.rp_base.specs.declared.ids.CmdId.{CmdId}
 use Rattle.rp_request.specs.declared.commands.Payload.{Payload}
+use Rattle.rp_request.specs.declared.commands.Payload.TheVariants.{Write}
 use Rattle.rp_request.specs.declared.commands.Command.{Command}
-use Rattle.rp_rangesafe.specs.Along.{entry, Takes}
-use Rattle.rp_rangesafe.specs.World.{World, begin, Event, Admit, Flush, Return, Refuse, Commit, Apply, Snapshot, Remove, Restart, AllLawful, happens, run}
+use Rattle.rp_apply.specs.Applied.{verdict}
+use Rattle.rp_rangesafe.specs.Along.{entry, state, Takes}
+use Rattle.rp_rangesafe.specs.World.{World, state_at, begin, Event, Admit, Flush, Return, Refuse, Commit, Apply, Snapshot, Remove, Restart, AllLawful, happens, run}
 use Rattle.rp_rangesafe.specs.Places.{IsReached, IsLater, IsPlace}
 use Rattle.rp_rangesafe.proofs.One.{PlaceOf}
-use Rattle.rp_rangesafe.proofs.Worlds.{Extends, extends_itself, Sound, sound_begin}
+use Rattle.rp_rangesafe.proofs.Worlds.{Extends, extends_itself, state_so_far, Sound, sound_begin}
 use Rattle.rp_rangesafe.proofs.Sounds.{extends_before, sound_step}
 use Rattle.rp_rangesafe.proofs.Growth.{Grown, grown_run}
 
@@ -95,3 +98,46 @@ place_of w id k c h = record { takes = h.takes; named = h.named }
 -- a place of what comes later, from the start that is the same
 pub place_from : (w later : World) → later.start ≡ w.start → (id : CmdId) (k : ℕ) (c : Command) → IsPlace later id k c → PlaceOf w.start (entry later.log) id k c
 place_from w later e id k c h = record { takes = subst (λ b. Takes b (entry later.log) k c) e h.takes; named = h.named }
+
+-- a list only grows
+longer : (w : World) (e : Event) → length w.log ≤ length (happens w e).log
+longer w (Admit id node body) = omega arith
+longer w (Flush id max) = omega arith
+longer w (Return id) = omega arith
+longer w (Refuse id) = omega arith
+longer w (Commit p) = let e = length-append w.log (p ∷ []) in omega arith
+longer w (Apply node) = omega arith
+longer w (Snapshot node to) = omega arith
+longer w (Remove node) = omega arith
+longer w (Restart node) = omega arith
+
+longer_run : (w : World) (es : List Event) → length w.log ≤ length (run w es).log
+longer_run w [] = omega arith
+longer_run w (e ∷ es) = let a = longer w e in let b = longer_run (happens w e) es in omega arith
+
+module _ (w later : World) (l : IsLater w later) where
+  pub later_longer : length w.log ≤ length later.log
+  later_longer = subst (λ (v : World). length w.log ≤ length v.log) l.reached (longer_run w l.events)
+
+  so_far : Extends (entry later.log) w.log
+  so_far = later_extends (entry later.log) w later l (extends_itself later.log)
+
+  pub later_entry : (k : ℕ) → k < length w.log → entry w.log k ≡ entry later.log k
+  later_entry k h = sym (so_far.at k h)
+
+  pub later_state : (i : ℕ) → i ≤ length w.log → state_at w i ≡ state_at later i
+  later_state i h = state_so_far (entry later.log) w so_far i h ∙ ap (λ b. state b (entry later.log) i) (sym (later_start w later l))
+
+-- a place stays
+pub place_stays : (w later : World) → IsLater w later → (id : CmdId) (k : ℕ) (c : Command) → IsPlace w id k c → IsPlace later id k c
+place_stays w later l id k c p =
+    let within = p.within in
+    let long = later_longer w later l in
+    record {
+      within = omega arith;
+      takes = record {
+        here = sym (later_entry w later l k within) ∙ p.takes.here;
+        taken = ap (λ s. verdict s (Write c)) (sym (later_state w later l k (omega arith))) ∙ p.takes.taken;
+      };
+      named = p.named;
+    }

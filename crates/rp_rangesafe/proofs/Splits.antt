@@ -15,7 +15,8 @@ use Rattle.rp_rangesafe.specs.Ranges.{Ranges, first_applied, at_first, Step, In,
 use Rattle.rp_rangesafe.proofs.Tables.{node_same, at_with_node}
 use Rattle.rp_rangesafe.proofs.OneRange.{numbers_rise}
 use Rattle.rp_rangesafe.proofs.Whole.{Whole, Onto, whole_first, whole_step, onto_step, onto_in, onto_right, whole_in, whole_reached}
-use Rattle.rp_rangesafe.proofs.Rights.{later_entry, later_state, Opens, opens_it, IsOrigin, Source, sources_reached, number_along, left_is}
+use Rattle.rp_rangesafe.proofs.Runs.{later_entry, later_state}
+use Rattle.rp_rangesafe.proofs.Rights.{Opens, opens_it, IsOrigin, Source, sources_reached, number_along, left_is}
 
 -- where the description is split its level rises
 split_rises : (s : AppliedState) (p : Payload) (t : AppliedState) → Opens s p t → (after s p).desc.level ≡ s.desc.level + 1

@@ -1,6 +1,6 @@
 //! Laws of the range machine, for every list of lawful events. No program calls these functions.
 
-ghost use Rattle.std.specs.Prelude.{◌≡◌, ℕ, ◌<◌, ◌≤◌, true, Some, length, slice_get};
+ghost use Rattle.std.specs.Prelude.{◌≡◌, ℕ, ◌<◌, ◌≤◌, true, Some, [], length, slice_get};
 ghost use Rattle.rp_base.specs.declared.ids.CmdId.{CmdId};
 ghost use Rattle.rp_request.specs.declared.commands.Command.{Command};
 ghost use Rattle.rp_request.specs.declared.outcomes.Reply.{Reply};
@@ -10,7 +10,7 @@ ghost use Rattle.rp_request.specs.Places.{IsOnceInAll};
 ghost use Rattle.rp_request.specs.Starts.{IsStart};
 ghost use Rattle.rp_eval.specs.Evaluations.{Does};
 ghost use Rattle.rp_apply.specs.Applied.{AppliedState, item, records_of};
-ghost use Rattle.rp_rangesafe.specs.Attempts.{Unborn, Success, Refused, Overtaken, Restarted, IsBorn, IsAmong, IsOpen};
+ghost use Rattle.rp_rangesafe.specs.Attempts.{Unborn, Success, Refused, Overtaken, Restarted, IsBorn, IsEnded, IsAmong, IsOpen};
 ghost use Rattle.rp_rangesafe.specs.Along.{entry};
 ghost use Rattle.rp_rangesafe.specs.World.{World, state_at};
 ghost use Rattle.rp_rangesafe.specs.Places.{IsReached, IsLater, IsOnward, IsPlace, IsDeadByStage, IsDeadForGood, HasNever, IsPlacedWith, IsLawfulPlace, shown, items_to};
@@ -155,4 +155,27 @@ pub fn a_place_is_recorded()
         → slice_get (records_of w.start w.log) k ≡ Some (kept.Took (item (state_at w k).desc c)) }
     ensures listed { (w : World) (id : CmdId) (k : ℕ) (c : Command) → IsPlace w id k c
         → slice_get (items_to w (length w.log)) (length (items_to w k)) ≡ Some (item (state_at w k).desc c) }
+{}
+
+/// A range's list only grows: later it has the same entries, and the same states up to them.
+pub fn a_list_only_grows()
+    ensures length { (w : World) (later : World) → IsLater w later → length w.log ≤ length later.log }
+    ensures entries { (w : World) (later : World) → IsLater w later → (k : ℕ) → k < length w.log → entry w.log k ≡ entry later.log k }
+    ensures states { (w : World) (later : World) → IsLater w later → (i : ℕ) → i ≤ length w.log → state_at w i ≡ state_at later i }
+{}
+
+/// A place stays, whatever comes.
+pub fn a_place_stays()
+    ensures { (w : World) (later : World) → IsLater w later → (id : CmdId) (k : ℕ) (c : Command) → IsPlace w id k c → IsPlace later id k c }
+{}
+
+/// An attempt that has ended stays as it is, whatever comes.
+pub fn an_ended_attempt_stays()
+    ensures { (w : World) (later : World) → IsLater w later → (id : CmdId) → IsEnded (w.attempt id).stage → w.attempt id ≡ later.attempt id }
+{}
+
+/// A node has applied no more entries than the list has, and an attempt that was not made has no maximum.
+pub fn a_node_stands_in_the_list()
+    ensures within { (w : World) → IsReached w → (node : ℕ) → w.index node ≤ length w.log }
+    ensures maxima { (w : World) → IsReached w → (id : CmdId) → (w.attempt id).stage ≡ Unborn → (w.attempt id).maxima ≡ [] }
 {}
