@@ -21,7 +21,7 @@ pub record Barred (f : ℕ → Payload) (w : World) : Type 0 where
 module _ (f : ℕ → Payload) (w : World) (s : Sound f w) (x : Extends f w.log) (h : Barred f w) where
   goes_on : (node to : ℕ) → w.index node ≤ to → (m : ℕ) → w.barrier m ≤ (state w.start f (with_node w.index node to m)).lease.seq
   goes_on node to l = at_with_node (λ m i. w.barrier m ≤ (state w.start f i).lease.seq) w.index node to
-      (let up = (onward w.start f (w.index node) to l).seq in let b = h.below node in omega arith) (λ m _. h.below m)
+      (let up = (onward w.start f (w.index node) to l).numbers.seq in let b = h.below node in omega arith) (λ m _. h.below m)
 
   here_is : (node : ℕ) → (here w node).lease.seq ≡ (state w.start f (w.index node)).lease.seq
   here_is node = ap (λ (t : AppliedState). t.lease.seq) (state_so_far f w x (w.index node) (s.within node))

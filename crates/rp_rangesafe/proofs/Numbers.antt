@@ -5,8 +5,8 @@ use Rattle.rp_request.specs.declared.commands.Payload.{Payload}
 use Rattle.rp_request.specs.declared.commands.Command.{Command}
 use Rattle.rp_apply.specs.Applied.{AppliedState, after, IsBlocked}
 use Rattle.rp_rangesafe.specs.Along.{state, Takes}
-use Rattle.rp_rangesafe.specs.Places.{IsOnward}
-use Rattle.rp_rangesafe.proofs.Steps.{onward_same, onward_trans, onward_next, IsTimely, timely, taken_lai, blocked_onward, blocked_untaken}
+use Rattle.rp_rangesafe.specs.Places.{IsFurther}
+use Rattle.rp_rangesafe.proofs.Steps.{further_same, further_trans, further_one, IsTimely, timely, taken_lai, blocked_further, blocked_untaken}
 
 -- a list that agrees with another below an index comes to the same state there
 pub same_state : (b : AppliedState) (f g : ℕ → Payload) (i : ℕ) → ((k : ℕ) → k < i → f k ≡ g k) → state b f i ≡ state b g i
@@ -14,19 +14,19 @@ same_state b f g zero h = refl
 same_state b f g (suc i) h = ap (λ s. after s (f i)) (same_state b f g i (λ k l. h k (omega arith))) ∙ ap (after (state b g i)) (h i (omega arith))
 
 module _ (b : AppliedState) (f : ℕ → Payload) where
-  pub onward : (i j : ℕ) → i ≤ j → IsOnward (state b f i) (state b f j)
-  onward i zero l = let e : i ≡ 0 = omega arith in subst (λ k. IsOnward (state b f k) (state b f 0)) (sym e) (onward_same (state b f 0))
+  pub onward : (i j : ℕ) → i ≤ j → IsFurther (state b f i) (state b f j)
+  onward i zero l = let e : i ≡ 0 = omega arith in subst (λ k. IsFurther (state b f k) (state b f 0)) (sym e) (further_same (state b f 0))
   onward i (suc j) l = go (cases_lt i (suc j)) (λ k. onward i j k) where
-    go : (i < suc j) ⊎ (suc j ≤ i) → ((i ≤ j) → IsOnward (state b f i) (state b f j)) → IsOnward (state b f i) (state b f (suc j))
-    go (inl lt) ih = onward_trans _ _ _ (ih (omega arith)) (onward_next (state b f j) (f j))
-    go (inr ge) ih = let e : i ≡ suc j = omega arith in subst (λ k. IsOnward (state b f k) (state b f (suc j))) (sym e) (onward_same (state b f (suc j)))
+    go : (i < suc j) ⊎ (suc j ≤ i) → ((i ≤ j) → IsFurther (state b f i) (state b f j)) → IsFurther (state b f i) (state b f (suc j))
+    go (inl lt) ih = further_trans _ _ _ (ih (omega arith)) (further_one (state b f j) (f j))
+    go (inr ge) ih = let e : i ≡ suc j = omega arith in subst (λ k. IsFurther (state b f k) (state b f (suc j))) (sym e) (further_same (state b f (suc j)))
 
   -- one lease sequence at two indexes has one holder
   pub one_holder : (i j : ℕ) → (state b f i).lease.seq ≡ (state b f j).lease.seq → (state b f i).lease.holder ≡ (state b f j).lease.holder
   one_holder i j e = go (cases_lt i j) where
     go : (i < j) ⊎ (j ≤ i) → (state b f i).lease.holder ≡ (state b f j).lease.holder
-    go (inl lt) = (onward i j (omega arith)).holder e
-    go (inr ge) = sym ((onward j i ge).holder (sym e))
+    go (inl lt) = sym ((onward i j (omega arith)).numbers.holder (sym e))
+    go (inr ge) = (onward j i ge).numbers.holder e
 
   -- a place is timely
   pub timely_at : (k : ℕ) (c : Command) → Takes b f k c → IsTimely (state b f k) c
@@ -53,7 +53,7 @@ module _ (b : AppliedState) (f : ℕ → Payload) where
 
   -- what is blocked stays so
   pub blocked_later : (i j : ℕ) (seq max : ℕ) → i ≤ j → IsBlocked (state b f i) seq max → IsBlocked (state b f j) seq max
-  blocked_later i j seq max l = blocked_onward (state b f i) (state b f j) seq max (onward i j l)
+  blocked_later i j seq max l = blocked_further (state b f i) (state b f j) seq max (onward i j l)
 
   -- and has no place from there on
   pub blocked_never : (i k : ℕ) (c : Command) (seq : ℕ) → i ≤ k → c.seq ≡ seq → IsBlocked (state b f i) seq c.max → Takes b f k c → ⊥

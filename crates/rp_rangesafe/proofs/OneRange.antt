@@ -10,7 +10,7 @@ use Rattle.rp_apply.specs.Applied.{IsBlocked}
 use Rattle.rp_rangesafe.specs.Attempts.{Stage, Unborn, Success, Refused, Overtaken, Restarted, Attempt, IsEnded, IsOpen, IsUntaken, IsAmong}
 use Rattle.rp_rangesafe.specs.Along.{entry, state, Takes}
 use Rattle.rp_rangesafe.specs.World.{World, state_at}
-use Rattle.rp_rangesafe.specs.Places.{IsReached, IsLater, IsOnward, IsPlace, IsDeadByStage, IsDeadForGood, HasNever, IsPlacedWith, IsLawfulPlace, shown, items_to}
+use Rattle.rp_rangesafe.specs.Places.{IsReached, IsLater, IsFurther, IsPlace, IsDeadByStage, IsDeadForGood, HasNever, IsPlacedWith, IsLawfulPlace, shown, items_to}
 use Rattle.rp_rangesafe.proofs.Numbers.{onward, one_holder, timely_at, blocked_never}
 use Rattle.rp_rangesafe.proofs.One.{Good, one_place, never, place_open, born_with}
 use Rattle.rp_rangesafe.proofs.Worlds.{extends_itself, Sound}
@@ -18,7 +18,7 @@ use Rattle.rp_rangesafe.proofs.Untouched.{seq_at, place_evaluated, place_desc}
 use Rattle.rp_rangesafe.proofs.Folds as folds
 use Rattle.rp_rangesafe.proofs.Runs.{sound_reached, later_grown, Ahead, look_ahead, place_of, place_from}
 
-pub numbers_rise : (w : World) (i j : ℕ) → i ≤ j → IsOnward (state_at w i) (state_at w j)
+pub numbers_rise : (w : World) (i j : ℕ) → i ≤ j → IsFurther (state_at w i) (state_at w j)
 numbers_rise w = onward w.start (entry w.log)
 
 pub holder_by_sequence : (w : World) (i j : ℕ) → (state_at w i).lease.seq ≡ (state_at w j).lease.seq → (state_at w i).lease.holder ≡ (state_at w j).lease.holder

@@ -105,7 +105,7 @@ module _ {b : AppliedState} {f : ℕ → Payload} {n p : ℕ} {alive : Bool} {ba
         open_own o h = subst (λ y. IsOpen y o) e h
 
         lai_up : (state b f p).lai ≤ (state b f (suc p)).lai
-        lai_up = (onward b f p (suc p) (omega arith)).lai
+        lai_up = (onward b f p (suc p) (omega arith)).numbers.lai
 
         -- its own entry, under its own maximum
         ended : (g : Stage) → ((o : ℕ) → IsOpen g o → ⊥) → (g ≡ Unborn → ⊥)
@@ -129,7 +129,7 @@ module _ {b : AppliedState} {f : ℕ → Payload} {n p : ℕ} {alive : Bool} {ba
             (λ o q r. cc)
         judged same (OldLease now') h = ended Refused (λ o h. h) (λ h. cc)
             (let s = seq_behind x (subst IsBorn (sym e) tt) in
-            let up = (onward b f p (suc p) (omega arith)).seq in
+            let up = (onward b f p (suc p) (omega arith)).numbers.seq in
             let ne = old_lease now c now' h in
             let is = made.of.seq in
             inr (less (cases_order a.seq (state b f p).lease.seq) s up (λ k. ne (is ∙ k))))

@@ -112,8 +112,8 @@ module _ (f : ℕ → Payload) (w : World) (s : Sound f w) where
         let x = seq_at k d hk t in
         let up = onward b f (at d.id).from j lo in
         let on = onward b f j k (omega arith) in
-        let one = up.seq in
-        let two = on.seq in
+        let one = up.numbers.seq in
+        let two = on.numbers.seq in
         omega arith
 
     seqs : (at d.id).seq ≡ (at e.id).seq

@@ -7,6 +7,7 @@ use Rattle.rp_request.specs.declared.items.Place.{Place}
 use Rattle.rp_request.specs.Items as items
 use Rattle.rp_request.specs.Records.{applied}
 use Rattle.rp_apply.specs.Applied.{AppliedState, records_of, IsBlocked}
+use Rattle.rp_apply.specs.Onward.{IsOnward}
 use Rattle.rp_rangesafe.specs.Attempts.{Body, IsOf, IsAmong, IsOpen, IsUntaken}
 use Rattle.rp_rangesafe.specs.Along.{entry, Takes}
 use Rattle.rp_rangesafe.specs.World.{World, IsEvaluated, state_at, here, begin, Event, AllLawful, run}
@@ -24,13 +25,11 @@ pub record IsLater (w later : World) : Type 0 where
   pub lawful : AllLawful w events
   pub reached : run w events ≡ later
 
--- from the one state on to the other no number fell, the range kept its number, and one lease sequence has one holder
-pub record IsOnward (s t : AppliedState) : Type 0 where
-  pub lai : s.lai ≤ t.lai
-  pub seq : s.lease.seq ≤ t.lease.seq
+-- from the one state on to the other no number fell, one lease sequence has one holder, and the range kept its number
+pub record IsFurther (s t : AppliedState) : Type 0 where
+  pub numbers : IsOnward s t
   pub level : s.desc.level ≤ t.desc.level
   pub id : s.desc.id ≡ t.desc.id
-  pub holder : s.lease.seq ≡ t.lease.seq → s.lease.holder ≡ t.lease.holder
 
 -- the attempt has a place: the entry with this index is a command of it, and is taken
 pub record IsPlace (w : World) (id : CmdId) (k : ℕ) (c : Command) : Type 0 where

@@ -13,13 +13,13 @@ ghost use Rattle.rp_apply.specs.Applied.{AppliedState, item, records_of};
 ghost use Rattle.rp_rangesafe.specs.Attempts.{Unborn, Success, Refused, Overtaken, Restarted, IsBorn, IsEnded, IsAmong, IsOpen};
 ghost use Rattle.rp_rangesafe.specs.Along.{entry};
 ghost use Rattle.rp_rangesafe.specs.World.{World, state_at};
-ghost use Rattle.rp_rangesafe.specs.Places.{IsReached, IsLater, IsOnward, IsPlace, IsDeadByStage, IsDeadForGood, HasNever, IsPlacedWith, IsLawfulPlace, shown, items_to};
+ghost use Rattle.rp_rangesafe.specs.Places.{IsReached, IsLater, IsFurther, IsPlace, IsDeadByStage, IsDeadForGood, HasNever, IsPlacedWith, IsLawfulPlace, shown, items_to};
 ghost use Rattle.rp_rangesafe.specs.Ranges.{Ranges, AreReached, AreLater, IsRefused, IsTheOnePlace, HasNowhere, lists, right_of};
 
 /// Along a range's list the lease applied index, the lease sequence and the level of its description never fall, and it
 /// keeps its number.
 pub fn numbers_never_fall()
-    ensures { (w : World) (i : ℕ) (j : ℕ) → i ≤ j → IsOnward (state_at w i) (state_at w j) }
+    ensures { (w : World) (i : ℕ) (j : ℕ) → i ≤ j → IsFurther (state_at w i) (state_at w j) }
 {}
 
 /// At any two indexes of a list at which the lease sequence is the same, so is the lease's holder.
