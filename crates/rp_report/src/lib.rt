@@ -3,9 +3,11 @@
 
 mod items;
 mod outcomes;
+mod summaries;
 mod texts;
 mod views;
 mod words;
 
+pub use summaries::write_summary;
 pub use texts::write_text;
 pub use views::{RangeView, ReplicaView, Row, View};
