@@ -1,2 +1,4 @@
 pub mod Joined
 pub mod CommandCounts
+pub mod WordLaws
+pub mod RequestWords

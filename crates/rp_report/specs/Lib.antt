@@ -4,3 +4,4 @@ pub mod Outcomes
 pub mod Shown
 pub mod Report
 pub mod Summary
+pub mod Told
