@@ -25,7 +25,7 @@ use Rattle.rp_script.proofs.SpanEnds.{span_read}
 use Rattle.rp_report.specs.Words.{value_text}
 use Rattle.rp_report.specs.Items.{request_text, span_end_text}
 use Rattle.rp_report.specs.Told.{IsRequest}
-use Rattle.rp_report.proofs.WordLaws.{IsWord, AreWords, spoken, words_spoken, number_word, key_word}
+use Rattle.rp_report.proofs.WordLaws.{IsWord, AreWords, literal_word, spoken, words_spoken, number_word, key_word}
 
 -- where a span of keys ends, as a word
 abbrev pub end_word : Option ℕ → List ℕ
@@ -56,23 +56,23 @@ request_spoken (requests.Wipe span) = wiped (key_text span.start) span.end
 request_spoken (requests.Move from to by) = simp append_assoc
 request_spoken (requests.Split key) = refl
 
-value_word : (v : Option ℕ) → IfSome v (λ n. n < 2 ^ 64) → IsWord (value_text v)
-value_word None h = record { some = refl; letters = search }
+pub value_word : (v : Option ℕ) → IfSome v (λ n. n < 2 ^ 64) → IsWord (value_text v)
+value_word None h = literal_word (codes "none") refl
 value_word (Some n) h = number_word n h
 
 end_is_word : (end : Option ℕ) → IfSome end IsKey → IsWord (end_word end)
-end_is_word None h = record { some = refl; letters = search }
+end_is_word None h = literal_word (codes "~") refl
 end_is_word (Some key) h = key_word key h
 
 -- and they are words
 pub request_are_words : (q : Request) → IsRequest q → AreWords (request_words q)
-request_are_words (requests.Put key value) h = (record { some = refl; letters = search }, (key_word key h.0, (number_word value h.1, tt)))
-request_are_words (requests.Add key by) h = (record { some = refl; letters = search }, (key_word key h.0, (number_word by h.1, tt)))
-request_are_words (requests.CPut key expect value) h = (record { some = refl; letters = search }, (key_word key h.0, (value_word expect h.1, (number_word value h.2, tt))))
-request_are_words (requests.Del key) h = (record { some = refl; letters = search }, (key_word key h, tt))
-request_are_words (requests.Wipe span) h = (record { some = refl; letters = search }, (key_word span.start h.0, (end_is_word span.end h.1, tt)))
-request_are_words (requests.Move from to by) h = (record { some = refl; letters = search }, (key_word from h.0, (key_word to h.1, (number_word by h.2, tt))))
-request_are_words (requests.Split key) h = (record { some = refl; letters = search }, (key_word key h, tt))
+request_are_words (requests.Put key value) h = (literal_word (codes "put") refl, (key_word key h.0, (number_word value h.1, tt)))
+request_are_words (requests.Add key by) h = (literal_word (codes "add") refl, (key_word key h.0, (number_word by h.1, tt)))
+request_are_words (requests.CPut key expect value) h = (literal_word (codes "cput") refl, (key_word key h.0, (value_word expect h.1, (number_word value h.2, tt))))
+request_are_words (requests.Del key) h = (literal_word (codes "del") refl, (key_word key h, tt))
+request_are_words (requests.Wipe span) h = (literal_word (codes "wipe") refl, (key_word span.start h.0, (end_is_word span.end h.1, tt)))
+request_are_words (requests.Move from to by) h = (literal_word (codes "move") refl, (key_word from h.0, (key_word to h.1, (number_word by h.2, tt))))
+request_are_words (requests.Split key) h = (literal_word (codes "split") refl, (key_word key h, tt))
 
 -- a text of bytes that pass is no word that begins with one that does not
 other_word : (p : ℕ → Bool) (w : List ℕ) (c : ℕ) (cs : List ℕ) → p c ≡ false → 0 < length w → prefix_len p w ≡ length w → bytes_eq w (c ∷ cs) ≡ false
@@ -82,7 +82,7 @@ other_word p (b ∷ w) c cs stops some whole =
     let other : (b == c) ≡ false = ⊎_elim (λ (same : b ≡ c). absurd (let t = parts.0 ∙ refl in let u : p b ≡ p c = ap p same in cc)) (λ apart. grind (arith, nat_tests)) (cases_eq b c) in
     rw other refl
 
-number_is_no_word : (n c : ℕ) (cs : List ℕ) → n < 2 ^ 64 → is_ascii_digit c ≡ false → bytes_eq (decimal n) (c ∷ cs) ≡ false
+pub number_is_no_word : (n c : ℕ) (cs : List ℕ) → n < 2 ^ 64 → is_ascii_digit c ≡ false → bytes_eq (decimal n) (c ∷ cs) ≡ false
 number_is_no_word n c cs fits stops =
     let w = Writes-from_ok (decimal n) n (read_as_written n fits) in
     other_word is_ascii_digit (decimal n) c cs stops w.some w.digits

@@ -1,10 +1,22 @@
 -- What a text tells of what is written.
 use Rattle.std.specs.Prelude.{◌≡◌, ℕ, ◌<◌, ◌^◌, Option, Some, None, IfSome}
-use Rattle.rp_base.specs.Keys.{IsKey}
+use Rattle.rp_base.specs.Keys.{IsKey, IsShown}
+use Rattle.rp_base.specs.Spans.{whole}
+use Rattle.rp_base.specs.declared.CmdId.{CmdId}
 use Rattle.rp_request.specs.declared.requests.Request.{Request}
 use Rattle.rp_request.specs.declared.requests.Request.TheVariants as requests
 use Rattle.rp_request.specs.declared.outcomes.Reply.{Reply}
 use Rattle.rp_request.specs.declared.outcomes.Reply.TheVariants.{Old, Now, Set, Count, Range}
+use Rattle.rp_request.specs.declared.outcomes.Refusal.{Refusal}
+use Rattle.rp_request.specs.declared.outcomes.Refusal.TheVariants.{NoReplica, NotLeaseHolder, RangeMismatch, Latched, ConditionFailed, Overflow, Short, TooWide, NotInside, SplitLimit}
+use Rattle.rp_request.specs.declared.outcomes.Ambiguity.TheVariants.{Snapshot, Removed}
+use Rattle.rp_request.specs.declared.outcomes.Outcome.TheVariants.{Success, Refused, Ambiguous, Pending}
+use Rattle.rp_request.specs.declared.outcomes.End.{End}
+use Rattle.rp_request.specs.declared.outcomes.End.TheVariants as ends
+use Rattle.rp_request.specs.declared.items.Place.{Place}
+use Rattle.rp_request.specs.declared.items.Place.TheVariants as places
+use Rattle.rp_request.specs.declared.items.Record.{Record}
+use Rattle.rp_request.specs.declared.items.Record.TheVariants.{Took, Passed}
 
 -- the numbers and keys of a request are those of its types
 abbrev pub IsRequest : Request → Type 0
@@ -15,3 +27,84 @@ IsRequest (requests.Del key) = IsKey key
 IsRequest (requests.Wipe span) = IsKey span.start × IfSome span.end IsKey
 IsRequest (requests.Move from to by) = IsKey from × IsKey to × (by < 2 ^ 64)
 IsRequest (requests.Split key) = IsKey key
+
+-- a number of 64 bits
+abbrev pub Fits : ℕ → Type 0
+Fits n = n < 2 ^ 64
+
+-- the numbers of a reply have 64 bits
+abbrev pub IsReply : Reply → Type 0
+IsReply (Old value) = IfSome value Fits
+IsReply (Now value) = Fits value
+IsReply Set = Unit {0}
+IsReply (Count count) = Fits count
+IsReply (Range right) = Fits right
+
+-- a reply as its text tells it: a number alone, without what it counts
+abbrev pub told_reply : Reply → Reply
+told_reply (Old (Some value)) = Now value
+told_reply (Count count) = Now count
+told_reply reply = reply
+
+-- the numbers of an attempt have 64 bits
+abbrev pub IsAttempt : CmdId → Type 0
+IsAttempt id = Fits id.client × Fits id.seq × Fits id.attempt
+
+-- the numbers of a refusal have 64 bits, and its bounds are shown
+abbrev pub IsRefusal : Refusal → Type 0
+IsRefusal NoReplica = Unit {0}
+IsRefusal (NotLeaseHolder lease) = Fits lease.holder × Fits lease.seq
+IsRefusal (RangeMismatch desc) = Fits desc.id × IsShown desc.start × IsShown desc.end × Fits desc.level
+IsRefusal (Latched by held) = IsAttempt by
+IsRefusal (ConditionFailed actual) = IfSome actual Fits
+IsRefusal (Overflow actual) = Fits actual
+IsRefusal (Short actual) = Fits actual
+IsRefusal (TooWide count) = Fits count
+IsRefusal NotInside = Unit {0}
+IsRefusal (SplitLimit level) = Fits level
+
+-- a refusal as its text tells it: without the tick at which a lease expires, and without the span that is held
+abbrev pub told_refusal : Refusal → Refusal
+told_refusal (NotLeaseHolder lease) = NotLeaseHolder (record { holder = lease.holder; seq = lease.seq; expires = 0 })
+told_refusal (Latched by held) = Latched by whole
+told_refusal refusal = refusal
+
+-- the numbers of the end of an attempt have 64 bits, and its bounds are shown
+abbrev pub IsEnd : End → Type 0
+IsEnd (ends.Outcome (Success reply)) = IsReply reply
+IsEnd (ends.Outcome (Refused refusal)) = IsRefusal refusal
+IsEnd (ends.Outcome (Ambiguous (Snapshot own passed))) = Fits own × Fits passed
+IsEnd (ends.Outcome (Ambiguous (Removed own))) = Fits own
+IsEnd (ends.Outcome Pending) = Unit {0}
+IsEnd (ends.Tries last) = IsRefusal last
+IsEnd ends.Unsent = Unit {0}
+
+-- the end of an attempt as its text tells it
+abbrev pub told_end : End → End
+told_end (ends.Outcome (Success reply)) = ends.Outcome (Success (told_reply reply))
+told_end (ends.Outcome (Refused refusal)) = ends.Outcome (Refused (told_refusal refusal))
+told_end (ends.Outcome (Ambiguous ambiguity)) = ends.Outcome (Ambiguous ambiguity)
+told_end (ends.Outcome Pending) = ends.Outcome Pending
+told_end (ends.Tries last) = ends.Tries (told_refusal last)
+told_end ends.Unsent = ends.Unsent
+
+-- the numbers of an item have 64 bits, and its keys are keys
+abbrev pub IsItem : Place → Type 0
+IsItem (places.Write id request seq reply) = IsAttempt id × IsRequest request × Fits seq × IsReply reply
+IsItem (places.Split id key right seq) = IsAttempt id × IsKey key × Fits right × Fits seq
+IsItem (places.Lease lease) = Fits lease.holder × Fits lease.seq × Fits lease.expires
+
+-- an item as its text tells it
+abbrev pub told_item : Place → Place
+told_item (places.Write id request seq reply) = places.Write id request seq (told_reply reply)
+told_item item = item
+
+-- a record as its line tells it
+abbrev pub told_record : Record → Record
+told_record (Took item) = Took (told_item item)
+told_record (Passed why) = Passed why
+
+-- the numbers of a record have 64 bits, and its keys are keys
+abbrev pub IsRecord : Record → Type 0
+IsRecord (Took item) = IsItem item
+IsRecord (Passed why) = Unit {0}
