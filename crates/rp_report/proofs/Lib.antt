@@ -2,3 +2,5 @@ pub mod Joined
 pub mod CommandCounts
 pub mod WordLaws
 pub mod RequestWords
+pub mod EndWords
+pub mod ItemWords

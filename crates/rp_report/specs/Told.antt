@@ -9,6 +9,7 @@ use Rattle.rp_request.specs.declared.outcomes.Reply.{Reply}
 use Rattle.rp_request.specs.declared.outcomes.Reply.TheVariants.{Old, Now, Set, Count, Range}
 use Rattle.rp_request.specs.declared.outcomes.Refusal.{Refusal}
 use Rattle.rp_request.specs.declared.outcomes.Refusal.TheVariants.{NoReplica, NotLeaseHolder, RangeMismatch, Latched, ConditionFailed, Overflow, Short, TooWide, NotInside, SplitLimit}
+use Rattle.rp_request.specs.declared.outcomes.Ambiguity.{Ambiguity}
 use Rattle.rp_request.specs.declared.outcomes.Ambiguity.TheVariants.{Snapshot, Removed}
 use Rattle.rp_request.specs.declared.outcomes.Outcome.TheVariants.{Success, Refused, Ambiguous, Pending}
 use Rattle.rp_request.specs.declared.outcomes.End.{End}
@@ -69,12 +70,16 @@ told_refusal (NotLeaseHolder lease) = NotLeaseHolder (record { holder = lease.ho
 told_refusal (Latched by held) = Latched by whole
 told_refusal refusal = refusal
 
+-- the numbers of an ambiguity have 64 bits
+abbrev pub IsAmbiguity : Ambiguity → Type 0
+IsAmbiguity (Snapshot own passed) = Fits own × Fits passed
+IsAmbiguity (Removed own) = Fits own
+
 -- the numbers of the end of an attempt have 64 bits, and its bounds are shown
 abbrev pub IsEnd : End → Type 0
 IsEnd (ends.Outcome (Success reply)) = IsReply reply
 IsEnd (ends.Outcome (Refused refusal)) = IsRefusal refusal
-IsEnd (ends.Outcome (Ambiguous (Snapshot own passed))) = Fits own × Fits passed
-IsEnd (ends.Outcome (Ambiguous (Removed own))) = Fits own
+IsEnd (ends.Outcome (Ambiguous ambiguity)) = IsAmbiguity ambiguity
 IsEnd (ends.Outcome Pending) = Unit {0}
 IsEnd (ends.Tries last) = IsRefusal last
 IsEnd ends.Unsent = Unit {0}

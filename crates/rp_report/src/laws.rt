@@ -1,10 +1,15 @@
 //! Laws of the texts, for the proofs above. No program calls these functions.
 ghost use Rattle.std.specs.Prelude.{◌≡◌, Ok};
 ghost use Rattle.rp_request.specs.declared.requests.Request.{Request};
+ghost use Rattle.rp_request.specs.declared.outcomes.Reply.{Reply};
+ghost use Rattle.rp_request.specs.declared.outcomes.Refusal.{Refusal};
+ghost use Rattle.rp_request.specs.declared.outcomes.End.{End};
+ghost use Rattle.rp_request.specs.declared.items.Place.{Place};
 ghost use Rattle.rp_script.specs.Words.{words_of};
 ghost use Rattle.rp_script.specs.Requests.{request};
-ghost use Rattle.rp_report.specs.Items.{request_text};
-ghost use Rattle.rp_report.specs.Told.{IsRequest};
+ghost use Rattle.rp_report.specs.Items.{request_text, reply_text, item_text};
+ghost use Rattle.rp_report.specs.Outcomes.{refusal_text, end_text};
+ghost use Rattle.rp_report.specs.Told.{IsRequest, IsReply, told_reply, IsRefusal, told_refusal, IsEnd, told_end, IsItem, told_item};
 
 /// A request is spelled as in a `send` line: a script reads its words as this request.
 #[tactic(auto, using(crate::proofs::RequestWords::read_back))]
@@ -16,4 +21,29 @@ pub fn requests_are_read_back()
 #[tactic(auto, using(crate::proofs::RequestWords::one_request))]
 pub fn requests_are_told_apart()
     ensures { (p : Request) (q : Request) → IsRequest p → IsRequest q → request_text p ≡ request_text q → p ≡ q }
+{}
+
+/// Replies with one text are the same but for what their number counts.
+#[tactic(auto, using(crate::proofs::EndWords::one_reply))]
+pub fn replies_are_told_apart()
+    ensures { (r : Reply) (s : Reply) → IsReply r → IsReply s → reply_text r ≡ reply_text s → told_reply r ≡ told_reply s }
+{}
+
+/// Refusals with one text are the same but for the tick at which a lease expires and the span that is
+/// held.
+#[tactic(auto, using(crate::proofs::EndWords::one_refusal))]
+pub fn refusals_are_told_apart()
+    ensures { (p : Refusal) (q : Refusal) → IsRefusal p → IsRefusal q → refusal_text p ≡ refusal_text q → told_refusal p ≡ told_refusal q }
+{}
+
+/// Ends of attempts with one text are the same but for what the texts of replies and refusals leave out.
+#[tactic(auto, using(crate::proofs::EndWords::one_end))]
+pub fn ends_are_told_apart()
+    ensures { (a : End) (b : End) → IsEnd a → IsEnd b → end_text a ≡ end_text b → told_end a ≡ told_end b }
+{}
+
+/// Items with one text are the same but for what the number of a reply counts.
+#[tactic(auto, using(crate::proofs::ItemWords::one_item))]
+pub fn items_are_told_apart()
+    ensures { (i : Place) (j : Place) → IsItem i → IsItem j → item_text i ≡ item_text j → told_item i ≡ told_item j }
 {}
