@@ -3,6 +3,7 @@ use Rattle.std.proofs.Common.{◌≡◌, ℕ, ◌<◌, ◌==◌, ◌^◌, Bool, 
 use Rattle.std.specs.Prelude.{codes, if◌then◌else◌}
 use Rattle.std.specs.Fmt.{decimal}
 use Rattle.std.specs.Str.{bytes_eq}
+use Rattle.std.proofs.lemmas.List.{append_cancel_right}
 use Rattle.rp_base.specs.Keys.{key_text}
 use Rattle.rp_base.specs.declared.CmdId.{CmdId}
 use Rattle.rp_base.specs.declared.Lease.{Lease}
@@ -205,3 +206,64 @@ items_by_words i j hi hj same = items_alike i j hi hj (sym (item_kind_known i) �
 pub one_item : (i j : Place) → IsItem i → IsItem j → item_text i ≡ item_text j → told_item i ≡ told_item j
 one_item i j hi hj same =
     items_by_words i j hi hj (same_words (item_words i) (item_words j) (item_are_words i hi) (item_are_words j hj) (sym (item_spoken i) ∙ same ∙ item_spoken j))
+
+abbrev pub record_words : ℕ → Record → List (List ℕ)
+record_words index (Took item) = codes "place" ∷ decimal index ∷ item_words item
+record_words index (Passed why) = codes "pass" ∷ decimal index ∷ why_text why ∷ []
+
+record_grouped : (p w n i e : List ℕ) → w ++ (p ++ n) ++ p ++ i ++ e ≡ (w ++ (p ++ (n ++ (p ++ i)))) ++ e
+record_grouped p w n i e = simp append_assoc
+
+-- the line of a record is its words
+pub record_spoken : (index : ℕ) (r : Record) → record_line index r ≡ spoken (record_words index r) ++ newline
+record_spoken index (Took item) =
+    record_grouped (codes " ") (codes "place") (decimal index) (item_text item) newline
+    ∙ ap (λ t. (codes "place" ++ 32 ∷ (decimal index ++ 32 ∷ t)) ++ newline) (item_spoken item)
+    ∙ ap (λ t. t ++ newline) (sym (spoken_append (codes "place" ∷ decimal index ∷ []) (item_words item) refl (item_are_some item)
+    ∙ append_assoc (codes "place") (32 ∷ decimal index) (32 ∷ spoken (item_words item))))
+record_spoken index (Passed why) = record_grouped (codes " ") (codes "pass") (decimal index) (why_text why) newline
+
+why_word : (why : Why) → IsWord (why_text why)
+why_word Nothing = literal_word (codes "nothing") refl
+why_word OldLease = literal_word (codes "old-lease") refl
+why_word OldIndex = literal_word (codes "old-index") refl
+why_word LeaseMoved = literal_word (codes "lease-moved") refl
+
+pub record_are_words : (index : ℕ) (r : Record) → index < 2 ^ 64 → IsRecord r → AreWords (record_words index r)
+record_are_words index (Took item) fits h = (literal_word (codes "place") refl, (number_word index fits, item_are_words item h))
+record_are_words index (Passed why) fits h = (literal_word (codes "pass") refl, (number_word index fits, (why_word why, tt)))
+
+-- why an entry was passed over, by its word
+abbrev why_of : List ℕ → Why
+why_of w = if bytes_eq w (codes "nothing") then Nothing
+    else (if bytes_eq w (codes "old-lease") then OldLease
+    else (if bytes_eq w (codes "old-index") then OldIndex
+    else LeaseMoved))
+
+why_read : (why : Why) → why_of (why_text why) ≡ why
+why_read Nothing = refl
+why_read OldLease = refl
+why_read OldIndex = refl
+why_read LeaseMoved = refl
+
+abbrev is_place_word : List ℕ → Bool
+is_place_word w = bytes_eq w (codes "place")
+
+records_by_words : (m n : ℕ) (r s : Record) → m < 2 ^ 64 → n < 2 ^ 64 → IsRecord r → IsRecord s → record_words m r ≡ record_words n s
+    → (m ≡ n) × (told_record r ≡ told_record s)
+records_by_words m n (Took i) (Took j) hm hn hr hs same =
+    let words : item_words i ≡ item_words j = cc in
+    (number_same m n hm hn (cc), ap Took (items_by_words i j hr hs words))
+records_by_words m n (Took i) (Passed why) hm hn hr hs same = absurd (let e = ap (λ ws. is_place_word (first_of ws)) same in cc)
+records_by_words m n (Passed why) (Took i) hm hn hr hs same = absurd (let e = ap (λ ws. is_place_word (first_of ws)) same in cc)
+records_by_words m n (Passed v) (Passed w) hm hn hr hs same =
+    let words : why_text v ≡ why_text w = cc in
+    (number_same m n hm hn (cc), ap Passed (sym (why_read v) ∙ ap why_of words ∙ why_read w))
+
+-- records with one line are told alike, and stand at one index
+pub one_record : (m n : ℕ) (r s : Record) → m < 2 ^ 64 → n < 2 ^ 64 → IsRecord r → IsRecord s → record_line m r ≡ record_line n s
+    → (m ≡ n) × (told_record r ≡ told_record s)
+one_record m n r s hm hn hr hs same =
+    records_by_words m n r s hm hn hr hs
+    (same_words (record_words m r) (record_words n s) (record_are_words m r hm hr) (record_are_words n s hn hs)
+    (append_cancel_right (spoken (record_words m r)) (spoken (record_words n s)) newline (sym (record_spoken m r) ∙ same ∙ record_spoken n s)))

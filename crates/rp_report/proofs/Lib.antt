@@ -4,3 +4,4 @@ pub mod WordLaws
 pub mod RequestWords
 pub mod EndWords
 pub mod ItemWords
+pub mod ReportLines

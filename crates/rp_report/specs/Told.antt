@@ -1,8 +1,10 @@
 -- What a text tells of what is written.
-use Rattle.std.specs.Prelude.{◌≡◌, ℕ, ◌<◌, ◌^◌, Option, Some, None, IfSome}
+use Rattle.std.specs.Prelude.{◌≡◌, ℕ, ◌+◌, ◌<◌, ◌^◌, ◌==◌, false, List, [], ◌∷◌, ◌++◌, length, Option, Some, None, IfSome}
 use Rattle.rp_base.specs.Keys.{IsKey, IsShown}
 use Rattle.rp_base.specs.Spans.{whole}
 use Rattle.rp_base.specs.declared.CmdId.{CmdId}
+use Rattle.rp_base.specs.declared.Desc.{Desc}
+use Rattle.rp_base.specs.declared.Lease.{Lease}
 use Rattle.rp_request.specs.declared.requests.Request.{Request}
 use Rattle.rp_request.specs.declared.requests.Request.TheVariants as requests
 use Rattle.rp_request.specs.declared.outcomes.Reply.{Reply}
@@ -18,6 +20,14 @@ use Rattle.rp_request.specs.declared.items.Place.{Place}
 use Rattle.rp_request.specs.declared.items.Place.TheVariants as places
 use Rattle.rp_request.specs.declared.items.Record.{Record}
 use Rattle.rp_request.specs.declared.items.Record.TheVariants.{Took, Passed}
+use Rattle.rp_request.specs.declared.notes.Note.{Note}
+use Rattle.rp_request.specs.declared.notes.Answer.{Answer}
+use Rattle.rp_report.specs.declared.views.Row.{Row}
+use Rattle.rp_report.specs.declared.views.ReplicaView.{ReplicaView}
+use Rattle.rp_report.specs.declared.views.ReplicaView.TheVariants.{Live, Removed, Absent}
+use Rattle.rp_report.specs.declared.views.RangeView.{RangeView}
+use Rattle.rp_report.specs.declared.views.View.{View}
+use Rattle.rp_report.specs.Report.{attempt_of}
 
 -- the numbers and keys of a request are those of its types
 abbrev pub IsRequest : Request → Type 0
@@ -113,3 +123,55 @@ told_record (Passed why) = Passed why
 abbrev pub IsRecord : Record → Type 0
 IsRecord (Took item) = IsItem item
 IsRecord (Passed why) = Unit {0}
+
+-- the records of a range, each with its index
+abbrev pub entries_of : ℕ → List Record → List (ℕ × Record)
+entries_of index [] = []
+entries_of index (r ∷ records) = (index, r) ∷ entries_of (index + 1) records
+
+-- the records of all ranges, range after range
+abbrev pub entries_in : List RangeView → List (ℕ × Record)
+entries_in [] = []
+entries_in (r ∷ ranges) = entries_of r.first r.records ++ entries_in ranges
+
+-- a record with its index, as its line tells it
+abbrev pub told_entry : ℕ × Record → ℕ × Record
+told_entry e = (e.0, told_record e.1)
+
+-- no byte is the end of a line
+abbrev pub IsOneLine : List ℕ → Type 0
+IsOneLine [] = Unit {0}
+IsOneLine (b ∷ bytes) = ((b == 10) ≡ false) × IsOneLine bytes
+
+abbrev pub IsNote : Note → Type 0
+IsNote note = Fits note.line × IsOneLine note.text
+
+abbrev pub IsAnswer : Answer → Type 0
+IsAnswer answer = IsAttempt (attempt_of answer) × IsEnd answer.end
+
+abbrev pub IsRow : Row → Type 0
+IsRow row = IsKey row.key × Fits row.value
+
+-- each of a list is so
+abbrev pub Each : {X : Type 0} → (X → Type 0) → List X → Type 0
+Each P [] = Unit {0}
+Each P (x ∷ xs) = P x × Each P xs
+
+abbrev pub IsReplica : ReplicaView → Type 0
+IsReplica (Live term applied lai rows) = Fits term × Fits applied × Fits lai × Each IsRow rows
+IsReplica (Removed applied) = Fits applied
+IsReplica Absent = Unit {0}
+
+abbrev pub IsRangeLine : Desc → Lease → Type 0
+IsRangeLine desc lease = Fits desc.id × IsShown desc.start × IsShown desc.end × Fits desc.level × Fits lease.holder × Fits lease.seq × Fits lease.expires
+
+abbrev pub IsRange : RangeView → Type 0
+IsRange range = IsRangeLine range.desc range.lease × (range.first + length range.records < 2 ^ 64) × Each IsRecord range.records
+    × (1 + length range.replicas < 2 ^ 64) × Each IsReplica range.replicas
+
+-- the numbers of a view have 64 bits, its keys are keys, its bounds are shown, and each note is one line
+pub record IsView (view : View) : Type 0 where
+  pub nodes : Fits view.nodes
+  pub notes : Each IsNote view.notes
+  pub replies : Each IsAnswer view.replies
+  pub ranges : Each IsRange view.ranges

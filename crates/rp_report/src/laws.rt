@@ -1,15 +1,18 @@
 //! Laws of the texts, for the proofs above. No program calls these functions.
-ghost use Rattle.std.specs.Prelude.{◌≡◌, Ok};
+ghost use Rattle.std.specs.Prelude.{map, ◌≡◌, ℕ, ◌<◌, ◌^◌, Ok};
 ghost use Rattle.rp_request.specs.declared.requests.Request.{Request};
 ghost use Rattle.rp_request.specs.declared.outcomes.Reply.{Reply};
 ghost use Rattle.rp_request.specs.declared.outcomes.Refusal.{Refusal};
 ghost use Rattle.rp_request.specs.declared.outcomes.End.{End};
 ghost use Rattle.rp_request.specs.declared.items.Place.{Place};
+ghost use Rattle.rp_request.specs.declared.items.Record.{Record};
 ghost use Rattle.rp_script.specs.Words.{words_of};
 ghost use Rattle.rp_script.specs.Requests.{request};
-ghost use Rattle.rp_report.specs.Items.{request_text, reply_text, item_text};
+ghost use Rattle.rp_report.specs.Items.{request_text, reply_text, item_text, record_line};
 ghost use Rattle.rp_report.specs.Outcomes.{refusal_text, end_text};
-ghost use Rattle.rp_report.specs.Told.{IsRequest, IsReply, told_reply, IsRefusal, told_refusal, IsEnd, told_end, IsItem, told_item};
+ghost use Rattle.rp_report.specs.Report.{report};
+ghost use Rattle.rp_report.specs.declared.views.View.{View};
+ghost use Rattle.rp_report.specs.Told.{IsRequest, IsReply, told_reply, IsRefusal, told_refusal, IsEnd, told_end, IsItem, told_item, IsRecord, told_record, entries_in, told_entry, IsView};
 
 /// A request is spelled as in a `send` line: a script reads its words as this request.
 #[tactic(auto, using(crate::proofs::RequestWords::read_back))]
@@ -46,4 +49,16 @@ pub fn ends_are_told_apart()
 #[tactic(auto, using(crate::proofs::ItemWords::one_item))]
 pub fn items_are_told_apart()
     ensures { (i : Place) (j : Place) → IsItem i → IsItem j → item_text i ≡ item_text j → told_item i ≡ told_item j }
+{}
+
+/// Records with one line stand at one index and are the same, but for what the number of a reply counts.
+pub fn records_are_told_apart()
+    ensures { (m : ℕ) (n : ℕ) (r : Record) (s : Record) → m < 2 ^ 64 → n < 2 ^ 64 → IsRecord r → IsRecord s
+        → record_line m r ≡ record_line n s → (m ≡ n) × (told_record r ≡ told_record s) }
+{}
+
+/// Views with one report have the same records at the same indexes in the same order.
+pub fn reports_tell_their_records()
+    ensures { (v : View) (w : View) → IsView v → IsView w → report v ≡ report w
+        → map told_entry (entries_in v.ranges) ≡ map told_entry (entries_in w.ranges) }
 {}
