@@ -5,3 +5,4 @@ pub mod RequestWords
 pub mod EndWords
 pub mod ItemWords
 pub mod ReportLines
+pub mod Untold

@@ -62,3 +62,12 @@ pub fn reports_tell_their_records()
     ensures { (v : View) (w : View) → IsView v → IsView w → report v ≡ report w
         → map told_entry (entries_in v.ranges) ≡ map told_entry (entries_in w.ranges) }
 {}
+
+/// What the texts tell is all that they show: with the rest left out they are the same.
+pub fn texts_show_what_they_tell()
+    ensures replies { (r : Reply) → reply_text (told_reply r) ≡ reply_text r }
+    ensures refusals { (r : Refusal) → refusal_text (told_refusal r) ≡ refusal_text r }
+    ensures ends { (e : End) → end_text (told_end e) ≡ end_text e }
+    ensures items { (i : Place) → item_text (told_item i) ≡ item_text i }
+    ensures records { (index : ℕ) (r : Record) → record_line index (told_record r) ≡ record_line index r }
+{}
