@@ -1,8 +1,8 @@
 -- A set of the commands that answers name has as many keys as there are different commands.
-use Rattle.std.proofs.Common.{◌≡◌, ℕ, ◌+◌, ◌<◌, ◌≤◌, ◌==◌, ◌&&◌, ◌||◌, Bool, true, false, cond, List, [], ◌∷◌, ◌++◌, length, map, take, get_or, refl, ap, sym, ◌∙◌, arith}
-use Rattle.std.specs.BTreeSet.{BTreeSet, btree_set_len, contains, IsOrdered, IsFromIterResult, Updates}
+use Rattle.std.proofs.Common.{◌≡◌, ℕ, ◌+◌, ◌<◌, ◌≤◌, ◌||◌, Bool, true, false, cond, List, [], ◌∷◌, ◌++◌, length, map, take, get_or, refl, ap, sym, ◌∙◌, arith}
+use Rattle.std.specs.BTreeSet.{BTreeSet, btree_set_len, contains, IsOrdered, Updates}
 use Rattle.std.specs.List.{list_any}
-use Rattle.std.specs.Set.{unique_keys, is_member, distinct_count}
+use Rattle.std.specs.Set.{unique_keys, is_member}
 use Rattle.std.specs.declared.cmp.Ordering.{Ordering}
 use Rattle.std.specs.Ordering.{nat_cmp, ordering_then, eq_by_cmp}
 use Rattle.std.specs.Cmp.{IsTotalOrder}

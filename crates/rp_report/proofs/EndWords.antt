@@ -1,9 +1,9 @@
 -- Replies, refusals and ends of attempts: what their words tell.
-use Rattle.std.proofs.Common.{◌≡◌, ℕ, ◌<◌, ◌==◌, ◌^◌, Bool, true, false, cond, List, [], ◌∷◌, ◌++◌, Option, Some, None, IfSome, refl, ap, sym, subst, ◌∙◌, lit<, arith, append_assoc, Result, Ok, Err}
+use Rattle.std.proofs.Common.{◌≡◌, ℕ, ◌<◌, ◌^◌, true, List, [], ◌∷◌, ◌++◌, Option, Some, None, IfSome, refl, ap, sym, ◌∙◌, lit<, arith, append_assoc, Result, Ok, Err}
 use Rattle.std.specs.Prelude.{codes, if◌then◌else◌}
 use Rattle.std.specs.Fmt.{decimal}
 use Rattle.std.specs.Str.{bytes_eq}
-use Rattle.rp_base.specs.Keys.{bound_text, IsShown}
+use Rattle.rp_base.specs.Keys.{bound_text}
 use Rattle.rp_base.specs.Numbers.{u64_of}
 use Rattle.rp_base.specs.declared.CmdId.{CmdId}
 use Rattle.rp_base.specs.declared.NumberFault.{NumberFault}
@@ -24,7 +24,7 @@ use Rattle.rp_report.specs.Words.{value_text}
 use Rattle.rp_report.specs.Items.{reply_text}
 use Rattle.rp_report.specs.Outcomes.{refusal_text, ambiguity_text, end_text}
 use Rattle.rp_report.specs.Told.{IsReply, told_reply, IsAttempt, IsRefusal, told_refusal, IsAmbiguity, IsEnd, told_end}
-use Rattle.rp_report.proofs.WordLaws.{IsWord, AreWords, literal_word, spoken, are_some, spoken_append, words_append, same_words, number_word, bound_word, dotted_word, number_same, dotted_same}
+use Rattle.rp_report.proofs.WordLaws.{AreWords, literal_word, spoken, are_some, spoken_append, same_words, number_word, bound_word, dotted_word, number_same, dotted_same}
 use Rattle.rp_report.proofs.RequestWords.{value_word, number_is_no_word}
 
 abbrev pub reply_words : Reply → List (List ℕ)

@@ -1,11 +1,10 @@
 -- Items and records: what their texts tell.
-use Rattle.std.proofs.Common.{◌≡◌, ℕ, ◌<◌, ◌==◌, ◌^◌, Bool, true, false, cond, List, [], ◌∷◌, ◌++◌, length, refl, ap, sym, ◌∙◌, arith, append_assoc}
+use Rattle.std.proofs.Common.{◌≡◌, ℕ, ◌<◌, ◌^◌, Bool, true, List, [], ◌∷◌, ◌++◌, length, refl, ap, sym, ◌∙◌, arith, append_assoc}
 use Rattle.std.specs.Prelude.{codes, if◌then◌else◌}
 use Rattle.std.specs.Fmt.{decimal}
 use Rattle.std.specs.Str.{bytes_eq}
 use Rattle.std.proofs.lemmas.List.{append_cancel_right}
 use Rattle.rp_base.specs.Keys.{key_text}
-use Rattle.rp_base.specs.declared.CmdId.{CmdId}
 use Rattle.rp_base.specs.declared.Lease.{Lease}
 use Rattle.rp_request.specs.declared.requests.Request.{Request}
 use Rattle.rp_request.specs.declared.requests.Request.TheVariants as requests
@@ -18,7 +17,7 @@ use Rattle.rp_request.specs.declared.items.Record.{Record}
 use Rattle.rp_request.specs.declared.items.Record.TheVariants.{Took, Passed}
 use Rattle.rp_report.specs.Words.{newline}
 use Rattle.rp_report.specs.Items.{request_text, item_text, why_text, record_line}
-use Rattle.rp_report.specs.Told.{IsRequest, IsReply, told_reply, IsAttempt, IsItem, told_item, IsRecord, told_record}
+use Rattle.rp_report.specs.Told.{IsRequest, told_reply, IsItem, told_item, IsRecord, told_record}
 use Rattle.rp_report.proofs.WordLaws.{IsWord, AreWords, literal_word, spoken, are_some, spoken_append, words_append, same_words, number_word, key_word, dotted_word, number_same, key_same}
 use Rattle.rp_report.proofs.RequestWords.{request_words, request_spoken, request_are_words, one_request}
 use Rattle.rp_report.proofs.EndWords.{reply_words, reply_spoken, reply_are_some, reply_are_words, replies_by_words, command_word, attempts_by_words}

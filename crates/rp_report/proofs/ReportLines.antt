@@ -20,9 +20,9 @@ use Rattle.rp_report.specs.declared.views.View.{View}
 use Rattle.rp_report.specs.Words.{newline, spaced, spaced_bound, attempt_text, lease_text}
 use Rattle.rp_report.specs.Items.{record_line}
 use Rattle.rp_report.specs.Outcomes.{end_text}
-use Rattle.rp_report.specs.Report.{note_line, attempt_of, answer_line, range_line, record_lines, row_line, live_text, state_text, replica_lines_of, replica_lines, range_lines, report}
+use Rattle.rp_report.specs.Report.{note_line, attempt_of, answer_line, range_line, record_lines, row_line, live_text, replica_lines_of, replica_lines, range_lines, report}
 use Rattle.rp_report.specs.Told.{Fits, IsRecord, told_record, entries_of, entries_in, told_entry, IsOneLine, IsNote, IsAnswer, IsRow, Each, IsReplica, IsRangeLine, IsRange, IsView}
-use Rattle.rp_report.proofs.WordLaws.{IsWord, AreLetters, AreWords, literal_word, spoken, number_word, key_word, bound_word}
+use Rattle.rp_report.proofs.WordLaws.{AreLetters, AreWords, spoken, number_word, key_word, bound_word}
 use Rattle.rp_report.proofs.EndWords.{end_words, end_spoken, end_are_words}
 use Rattle.rp_report.proofs.ItemWords.{record_words, record_spoken, record_are_words, one_record}
 

@@ -1,11 +1,10 @@
 -- A request is spelled by words that a script reads as this request.
-use Rattle.std.proofs.Common.{◌≡◌, ℕ, ◌<◌, ◌≤◌, ◌==◌, ◌^◌, ◌-◌, ◌&&◌, Bool, true, false, cond, nat_le, List, [], ◌∷◌, ◌++◌, length, Option, Some, None, IfSome, refl, ap, sym, ◌∙◌, ⊎_elim, arith, append_assoc, Result, Ok}
+use Rattle.std.proofs.Common.{◌≡◌, ℕ, ◌<◌, ◌==◌, ◌^◌, ◌-◌, ◌&&◌, Bool, true, false, nat_le, List, [], ◌∷◌, ◌++◌, length, Option, Some, None, IfSome, refl, ap, sym, ◌∙◌, ⊎_elim, arith, append_assoc, Ok}
 use Rattle.std.specs.Prelude.{codes}
 use Rattle.std.specs.Fmt.{decimal}
 use Rattle.std.specs.Str.{bytes_eq}
 use Rattle.std.proofs.lemmas.Bool.Decides.{nat_tests}
-use Rattle.rp_base.specs.Keys.{key_text, key_of, IsKey, end_of}
-use Rattle.rp_base.specs.Numbers.{u64_of}
+use Rattle.rp_base.specs.Keys.{key_text, IsKey}
 use Rattle.rp_base.specs.declared.KeySpan.{KeySpan}
 use Rattle.rp_base.specs.Keys.{is_key_byte}
 use Rattle.rp_base.proofs.KeyBytes.{passes_whole}
@@ -17,10 +16,9 @@ use Rattle.rp_base.proofs.NumberLaws.{read_as_written, Writes-from_ok}
 use Rattle.rp_request.specs.declared.requests.Request.{Request}
 use Rattle.rp_request.specs.declared.requests.Request.TheVariants as requests
 use Rattle.rp_script.specs.Words.{words_of}
-use Rattle.rp_script.specs.Readers.{number_in, value_at, number_at, key_in, key_at, expect_at, bound_in, given, spanned, span_of, span_at}
+use Rattle.rp_script.specs.Readers.{number_in, number_at, key_in, key_at, expect_at, bound_in, span_at}
 use Rattle.rp_script.specs.Requests.{request, request_of, put, add, cput, del, wipe, moving, split}
 use Rattle.rp_script.specs.Keywords.{request_word_of}
-use Rattle.rp_script.specs.declared.faults.BadWord.{BadWord}
 use Rattle.rp_script.proofs.SpanEnds.{span_read}
 use Rattle.rp_report.specs.Words.{value_text}
 use Rattle.rp_report.specs.Items.{request_text, span_end_text}

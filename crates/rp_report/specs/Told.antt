@@ -1,5 +1,5 @@
 -- What a text tells of what is written.
-use Rattle.std.specs.Prelude.{◌≡◌, ℕ, ◌+◌, ◌<◌, ◌^◌, ◌==◌, false, List, [], ◌∷◌, ◌++◌, length, Option, Some, None, IfSome}
+use Rattle.std.specs.Prelude.{◌≡◌, ℕ, ◌+◌, ◌<◌, ◌^◌, ◌==◌, false, List, [], ◌∷◌, ◌++◌, length, Some, IfSome}
 use Rattle.rp_base.specs.Keys.{IsKey, IsShown}
 use Rattle.rp_base.specs.Spans.{whole}
 use Rattle.rp_base.specs.declared.CmdId.{CmdId}
