@@ -12,3 +12,6 @@ mod words;
 pub use summaries::write_summary;
 pub use texts::write_text;
 pub use views::{RangeView, ReplicaView, Row, View};
+
+#[cfg(test)]
+mod tests;
