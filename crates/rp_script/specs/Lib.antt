@@ -5,3 +5,6 @@ pub mod Requests
 pub mod Bounds
 pub mod Forms
 pub mod Seen
+pub mod Meaning
+pub mod Reading
+pub mod Gives
