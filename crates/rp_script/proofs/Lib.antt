@@ -3,3 +3,5 @@ pub mod SpanEnds
 pub mod Counts
 pub mod WordCount
 pub mod ReadsLines
+pub mod Refusals
+pub mod Rules

@@ -8,3 +8,4 @@ pub mod Seen
 pub mod Meaning
 pub mod Reading
 pub mod Gives
+pub mod Causes
