@@ -4,7 +4,7 @@
 mod faults;
 mod forms;
 mod keywords;
-mod laws;
+pub mod laws;
 mod lines;
 mod readers;
 mod requests;
