@@ -1,19 +1,17 @@
 -- Each refusal of a line has its cause.
-use Rattle.std.proofs.Common.{◌≡◌, ◌≢◌, ◌⊎◌, inl, inr, ℕ, zero, suc, ◌+◌, ◌-◌, ◌^◌, ◌&&◌, Bool, true, false, List, [], ◌∷◌, length, take, Option, Some, None, Result, Ok, Err, refl, ap, ◌∙◌, sym, subst, arith, nat_le, nat_lt}
-use Rattle.std.specs.Prelude.{IsOk, IsErr, IfErr, IsSome, IsNone, IsTrue, IsFalse, codes, if◌then◌else◌}
+use Rattle.std.proofs.Common.{◌≡◌, ℕ, suc, ◌+◌, ◌-◌, ◌^◌, ◌&&◌, Bool, true, false, List, [], ◌∷◌, take, Option, None, Result, Ok, Err, refl, ap, sym, subst, arith, nat_le, nat_lt}
+use Rattle.std.specs.Prelude.{IsOk, IsErr, IfErr, codes, if◌then◌else◌}
 use Rattle.std.specs.Str.{bytes_eq}
 use Rattle.rp_base.specs.Numbers.{u64_of}
 use Rattle.rp_base.specs.Keys.{key_of, end_of}
 use Rattle.rp_base.specs.declared.BadKey.{BadKey}
 use Rattle.rp_base.specs.declared.NumberFault.{NumberFault}
 use Rattle.rp_base.specs.declared.NumberFault.TheVariants as numbers
-use Rattle.rp_request.specs.declared.Request.{Request}
-use Rattle.rp_script.specs.Keywords.{request_word_of, is_barred_in_race}
-use Rattle.rp_script.specs.Readers.{Reader, bad_word, bad, going_on, behind, ◌>>=◌, is_whole, whole, word_at, in_range, number_in, number_at, sent_of, seq_at, as_key, key_in, key_at, given, expect_at, bound_in, span_of, spanned, span_at}
+use Rattle.rp_script.specs.Keywords.{request_word_of}
+use Rattle.rp_script.specs.Readers.{Reader, bad, going_on, behind, ◌>>=◌, whole, word_at, in_range, number_in, number_at, sent_of, seq_at, as_key, key_in, key_at, given, expect_at, bound_in, span_of, spanned, span_at}
 use Rattle.rp_script.specs.Requests.{put, add, cput, del, wipe, moving, split, request_of, request}
-use Rattle.rp_script.specs.Forms.{cluster, send, admit, again, draw, publish, ask, transfer, flush, apply, cut, remove, tick, deliver, peek, loss, settle, ending, form}
-use Rattle.rp_script.specs.Seen.{Seen, later_line, placed_by, placed}
-use Rattle.rp_script.specs.Causes.{HasWord, IsNoNumber, IsNumber, IsCause, IsFront, Refuses, reader_by, IsRule, RulesRefuse, RefusalsHaveCauses}
+use Rattle.rp_script.specs.Forms.{cluster, send, admit, again, draw, publish, ask, transfer, flush, apply, cut, remove, tick, deliver, peek, loss, settle, form}
+use Rattle.rp_script.specs.Causes.{IsNoNumber, IsNumber, IsCause, IsFront, Refuses}
 use Rattle.rp_script.specs.declared.faults.BadWord.{BadWord}
 use Rattle.rp_script.specs.declared.faults.LineKind.{LineKind}
 use Rattle.rp_script.specs.declared.faults.LineKind.TheVariants as kinds

@@ -1,18 +1,16 @@
 -- The rules on the first word of a line, and the causes of its refusals.
-use Rattle.std.proofs.Common.{◌≡◌, ◌≢◌, ◌⊎◌, inl, inr, ℕ, ◌&&◌, Bool, true, false, List, [], ◌∷◌, Option, Some, None, Result, Ok, Err, refl, ap, ◌∙◌, sym, subst}
-use Rattle.std.specs.Prelude.{IfErr, IsSome, IsNone, IsTrue, IsFalse, if◌then◌else◌}
+use Rattle.std.proofs.Common.{◌≡◌, ◌≢◌, ◌⊎◌, inl, inr, ℕ, ◌&&◌, Bool, true, false, List, Option, Some, None, refl, ap, ◌∙◌, sym, subst}
+use Rattle.std.specs.Prelude.{IfErr, IsSome, IsNone, if◌then◌else◌}
 use Rattle.rp_script.specs.Keywords.{is_barred_in_race}
 use Rattle.rp_script.specs.Readers.{bad}
 use Rattle.rp_script.specs.Forms.{form}
 use Rattle.rp_script.specs.Seen.{Seen, placed_by, placed}
 use Rattle.rp_script.specs.Causes.{Refuses, reader_by, IsRule, RulesRefuse, RefusalsHaveCauses}
 use Rattle.rp_script.specs.declared.faults.BadWord.{BadWord}
-use Rattle.rp_script.specs.declared.faults.LineKind.{LineKind}
 use Rattle.rp_script.specs.declared.faults.LineKind.TheVariants as kinds
 use Rattle.rp_script.specs.declared.keywords.Keyword.{Keyword}
 use Rattle.rp_script.specs.declared.keywords.Keyword.TheVariants as keywords
-use Rattle.rp_script.specs.declared.lines.ScriptLine.{ScriptLine}
-use Rattle.rp_script.proofs.Refusals.{Tells, IsKnown, if_err, tells_cluster, tells_form}
+use Rattle.rp_script.proofs.Refusals.{if_err, tells_cluster, tells_form}
 
 abbrev is_cluster : Keyword → Bool
 is_cluster keywords.Cluster = true

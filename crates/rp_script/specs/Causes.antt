@@ -1,5 +1,5 @@
 -- Where each kind of refusal comes.
-use Rattle.std.specs.Prelude.{◌≡◌, ℕ, zero, suc, ◌+◌, List, [], ◌∷◌, length, take, Option, Some, None, Result, Ok, Err, IsOk, IsErr, IfErr, IsSome, IsNone, IsTrue, IsFalse, ◌⊎◌, ◌≢◌}
+use Rattle.std.specs.Prelude.{◌≡◌, ℕ, zero, suc, ◌+◌, List, [], ◌∷◌, length, take, Option, Some, None, Result, Err, IsOk, IsErr, IfErr, IsSome, IsNone, IsTrue, IsFalse, ◌⊎◌, ◌≢◌}
 use Rattle.rp_base.specs.Numbers.{u64_of}
 use Rattle.rp_base.specs.Keys.{key_of}
 use Rattle.rp_base.specs.declared.NumberFault.{NumberFault}

@@ -1,7 +1,7 @@
-ghost use Rattle.std.specs.Prelude.{◌≡◌, ◌+◌, ◌≤◌, ◌<◌, [], length, IfOk, OnOk};
+ghost use Rattle.std.specs.Prelude.{◌≡◌, ◌+◌, ◌≤◌, ◌<◌, length, IfOk, OnOk};
 ghost use Rattle.rp_script.specs.Gives.{Gives};
 ghost use Rattle.rp_script.specs.Meaning.{meaning};
-ghost use Rattle.rp_script.specs.Reading.{unread, line_ended, fed, fed_all, closed, finished, verdict, weight};
+ghost use Rattle.rp_script.specs.Reading.{unread, line_ended, fed, fed_all, closed, finished, weight};
 
 use crate::faults::{LineKind, ScriptFault, ScriptStop};
 use crate::lines::NumberedLine;
