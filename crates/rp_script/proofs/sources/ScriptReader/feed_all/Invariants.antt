@@ -1,6 +1,6 @@
 use Rattle.std.proofs.Common.{◌≡◌, ◌+◌, ◌≤◌, drop}
-use Rattle.rp_top.specs.Reading.{fed_all, weight}
-use Rattle.rp_top.proofs.script.reader.Reader.feed_all.Given as goal
+use Rattle.rp_script.specs.Reading.{fed_all, weight}
+use Rattle.rp_script.proofs.sources.ScriptReader.feed_all.Given as goal
 
 -- what is left of the piece leads from here where all of it led from the start
 abbrev pub invariant-loop-byte : goal.invariant-loop-byte
