@@ -1,6 +1,6 @@
 //! Laws of the range machine, for every list of lawful events. No program calls these functions.
 
-ghost use Rattle.std.specs.Prelude.{◌≡◌, ℕ, ◌<◌, ◌≤◌, true, Some, [], length, slice_get};
+ghost use Rattle.std.specs.Prelude.{◌≡◌, ℕ, ◌<◌, ◌≤◌, true, Some, [], length, take, slice_get};
 ghost use Rattle.rp_base.specs.declared.ids.CmdId.{CmdId};
 ghost use Rattle.rp_request.specs.declared.commands.Command.{Command};
 ghost use Rattle.rp_request.specs.declared.outcomes.Reply.{Reply};
@@ -9,7 +9,7 @@ ghost use Rattle.rp_request.specs.Items.{fold};
 ghost use Rattle.rp_request.specs.Places.{IsOnce, IsOnceInAll};
 ghost use Rattle.rp_request.specs.Starts.{IsStart};
 ghost use Rattle.rp_eval.specs.Evaluations.{Does};
-ghost use Rattle.rp_apply.specs.Applied.{AppliedState, item, records_of};
+ghost use Rattle.rp_apply.specs.Applied.{AppliedState, item, records_of, after_all};
 ghost use Rattle.rp_rangesafe.specs.Attempts.{Unborn, Success, Refused, Overtaken, Restarted, IsBorn, IsEnded, IsAmong, IsOpen};
 ghost use Rattle.rp_rangesafe.specs.Along.{entry};
 ghost use Rattle.rp_rangesafe.specs.World.{World, state_at, here};
@@ -181,4 +181,9 @@ pub fn an_ended_attempt_stays()
 pub fn a_node_stands_in_the_list()
     ensures within { (w : World) → IsReached w → (node : ℕ) → w.index node ≤ length w.log }
     ensures maxima { (w : World) → IsReached w → (id : CmdId) → (w.attempt id).stage ≡ Unborn → (w.attempt id).maxima ≡ [] }
+{}
+
+/// A range's state at an index is the one that so many entries of its list make of its start, one after the other.
+pub fn a_state_is_that_of_its_entries()
+    ensures { (w : World) (i : ℕ) → i ≤ length w.log → state_at w i ≡ after_all w.start (take i w.log) }
 {}
