@@ -1,3 +1,5 @@
+pub mod NextWord
+pub mod ReadsLines
 pub mod ReadsSource
 pub mod Sent
 pub mod Rows

@@ -1,11 +1,15 @@
-//! The meaning of a script's bytes, as far as its lines are played.
+//! The meaning of a script's bytes.
 
 mod clients;
-mod groups;
+mod faults;
+mod lines;
+mod reader;
 mod source;
 mod stops;
+mod words;
 
 pub use clients::Client;
-pub use groups::Group;
+pub use faults::{Fault, LineKind};
+pub use lines::Group;
 pub use source::read_script;
 pub use stops::Stop;

@@ -1,6 +1,6 @@
 use Rattle.std.proofs.Common.{arith}
 use Rattle.rp_top.proofs.ReadsSource.{any_script, came_further, came_stopped, came_whole}
-use Rattle.rp_top.proofs.script.source.read_source.Goals as goal
+use Rattle.rp_top.proofs.script.source.read_script.Goals as goal
 
 pub returns-in_default-clause-script : goal.returns-in_default-clause-script
 returns-in_default-clause-script g c = any_script _
@@ -14,6 +14,6 @@ returns-in-Err-clause-script g c = came_stopped _ _ _ _ _ _ c.loop-n.invariant.c
 
 pub loop-n-preserved : goal.loop-n-preserved
 loop-n-preserved g c = record {
-  came = came_further _ _ _ _ _ _ c.loop-n.invariant.came c.in-Ok.ensures.comes c.in-Ok-feed.ensures.gives;
+  came = came_further _ _ _ _ _ _ c.loop-n.invariant.came c.in-Ok.ensures.comes c.in_default-feed_all.ensures.gives;
   faults = omega arith;
 }

@@ -1,7 +1,7 @@
 use Rattle.std.proofs.Common.{◌-◌, ◌≤◌}
-use Rattle.rp_script.specs.Reading.{weight}
+use Rattle.rp_top.specs.Reading.{weight}
 use Rattle.rp_top.specs.Gives.{HasCome}
-use Rattle.rp_top.proofs.script.source.read_source.Given as goal
+use Rattle.rp_top.proofs.script.source.read_script.Given as goal
 
 abbrev pub invariant-loop-n : goal.invariant-loop-n
 invariant-loop-n g l = record {
