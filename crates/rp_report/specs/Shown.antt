@@ -1,5 +1,5 @@
 -- What can be shown: each bound is the least, the greatest, or a key.
-use Rattle.std.specs.Prelude.{◌+◌, ◌<◌, ◌^◌, All, length}
+use Rattle.std.specs.Prelude.{All}
 use Rattle.rp_base.specs.Keys.{IsShown}
 use Rattle.rp_base.specs.declared.Desc.{Desc}
 use Rattle.rp_request.specs.declared.outcomes.Refusal.{Refusal}
@@ -40,12 +40,7 @@ IsShownAnswer answer = IsShownEnd answer.end
 abbrev pub IsShownRange : RangeView → Type 0
 IsShownRange range = IsShownDesc range.desc
 
--- each index of a record fits its type
-abbrev pub IndexesFit : RangeView → Type 0
-IndexesFit range = range.first + length range.records < 2 ^ 64
-
--- all bounds and indexes of a view can be shown
+-- all bounds of a view can be shown
 pub record IsShownView (view : View) : Type 0 where
   pub replies : All IsShownAnswer view.replies
   pub ranges : All IsShownRange view.ranges
-  pub indexes : All IndexesFit view.ranges

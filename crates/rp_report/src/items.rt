@@ -1,7 +1,9 @@
 ghost use Rattle.std.specs.Prelude.{◌≡◌, ◌++◌, OnOk};
 ghost use Rattle.rp_report.specs.Items.{span_end_text, request_text, reply_text, did_text, item_text, why_text, record_line};
 
-use crate::words::{push_attempt, push_lease, push_spaced, push_spaced_key, push_value};
+use crate::words::{
+    push_attempt, push_lease, push_spaced, push_spaced_key, push_spaced_wide, push_value,
+};
 use rp_base::{CmdId, Key, NoMemory, Text, push_key, push_number, push_word};
 use rp_request::{Place, Record, Reply, Request, Why};
 
@@ -136,20 +138,20 @@ fn why_word(why: Why) -> &'static str
 }
 
 /// The line of the record at an index.
-pub fn push_record(out: &mut Text, index: u64, kept: &Record) -> Result<(), NoMemory>
+pub fn push_record(out: &mut Text, index: u128, kept: &Record) -> Result<(), NoMemory>
     ensures { OnOk result (out.new ≡ out.old ++ record_line index kept.now) }
 {
     match kept {
         Record::Took(item) => {
             push_word(out, "place")?;
-            push_spaced(out, index)?;
+            push_spaced_wide(out, index)?;
             push_word(out, " ")?;
             push_item(out, item)?;
             push_word(out, "\n")
         }
         Record::Passed(why) => {
             push_word(out, "pass")?;
-            push_spaced(out, index)?;
+            push_spaced_wide(out, index)?;
             push_word(out, " ")?;
             push_word(out, why_word(*why))?;
             push_word(out, "\n")

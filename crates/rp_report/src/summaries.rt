@@ -1,9 +1,8 @@
 ghost use Rattle.std.specs.Prelude.{◌≡◌, ◌++◌, count_by, IfOk, OnOk, OnErr};
-ghost use Rattle.std.specs.Fmt.{decimal};
 ghost use Rattle.rp_report.specs.Summary.{commands_among, is_success, is_refused, is_ambiguous, is_pending, ending, is_place, is_pass, records_in, count_line, ending_lines, answer_counts, range_counts, summary};
 
 use crate::views::{RangeView, View};
-use crate::words::push_number_line;
+use crate::words::{push_number_line, push_wide};
 use rp_base::{NoMemory, Text, push_word};
 use rp_request::{Answer, End, Outcome, Record};
 use std::alloc::Global;
@@ -124,14 +123,6 @@ fn passes(ranges: &[RangeView]) -> u128
         total += passes_in(range.records.as_slice()) as u128;
     }
     total
-}
-
-/// The shortest decimal of a wide number.
-fn push_wide(out: &mut Text, n: u128) -> Result<(), NoMemory>
-    ensures { OnOk result (out.new ≡ out.old ++ decimal n) }
-{
-    let digits = n.to_string(out.alloc())?;
-    push_word(out, &digits)
 }
 
 /// A word, a wide number behind a space, and the end of the line.

@@ -1,4 +1,4 @@
-ghost use Rattle.std.specs.Prelude.{◌+◌, ◌<◌, ◌^◌, length, IfOk};
+ghost use Rattle.std.specs.Prelude.{IfOk};
 ghost use Rattle.rp_report.specs.Shown.{IsShownDesc, IsShownEnd, IsShownView};
 
 use crate::{RangeView, ReplicaView, Row, View, write_summary, write_text};
@@ -73,7 +73,6 @@ fn answered(mut view: View, seq: u32, attempt: u16, end: End) -> Result<View, Fa
 fn ranged(mut view: View, range: RangeView) -> Result<View, Fail>
     requires shown { IsShownView view }
     requires desc { IsShownDesc range.desc }
-    requires indexes { range.first + length range.records < 2 ^ 64 }
     ensures { IfOk result (λ v. IsShownView v) }
 {
     view.ranges.push(range)?;
@@ -141,11 +140,7 @@ fn first_range(
     replicas: Vec<ReplicaView>,
 ) -> Result<RangeView, Fail>
     ensures desc { IfOk result (λ r. IsShownDesc r.desc) }
-    ensures indexes { IfOk result (λ r. r.first + length r.records < 2 ^ 64) }
 {
-    if records.len() > 100 {
-        return Err(Fail::new("too many records"));
-    }
     Ok(RangeView {
         desc: whole()?,
         lease,
@@ -310,7 +305,6 @@ fn ends_of_tries_are_counted(rt: HostRuntime) -> Result<(), Fail> {
 /// The part of the key space from `m` on, in range 1.
 fn right_range(alloc: Global) -> Result<RangeView, Fail>
     ensures desc { IfOk result (λ r. IsShownDesc r.desc) }
-    ensures indexes { IfOk result (λ r. r.first + length r.records < 2 ^ 64) }
 {
     let key = Key::read(b"m")?;
     let id = RangeId::new(1).unwrap();

@@ -1,7 +1,7 @@
-ghost use Rattle.std.specs.Prelude.{◌≡◌, ◌+◌, ◌<◌, ◌≤◌, ◌^◌, ◌++◌, length, OnOk, OnErr, flat_map, All};
+ghost use Rattle.std.specs.Prelude.{◌≡◌, ◌≤◌, ◌++◌, OnOk, OnErr, flat_map, All};
 ghost use Rattle.rp_report.specs.Items.{record_line};
 ghost use Rattle.rp_report.specs.Report.{note_line, answer_line, bounds_text, range_line, record_lines, row_line, live_text, state_text, replica_lines_of, replica_lines, range_lines, report};
-ghost use Rattle.rp_report.specs.Shown.{IsShownDesc, IsShownEnd, IsShownAnswer, IsShownRange, IndexesFit, IsShownView};
+ghost use Rattle.rp_report.specs.Shown.{IsShownDesc, IsShownEnd, IsShownAnswer, IsShownRange, IsShownView};
 
 use crate::items::push_record;
 use crate::outcomes::push_end;
@@ -81,10 +81,9 @@ fn push_range_line(out: &mut Text, desc: &Desc, lease: &Lease) -> Result<(), NoM
 }
 
 fn push_records(out: &mut Text, first: u64, records: &[Record]) -> Result<(), NoMemory>
-    requires { first + length records.now < 2 ^ 64 }
     ensures { OnOk result (out.new ≡ out.old ++ record_lines first records.now) }
 {
-    let mut index = first;
+    let mut index = u128::from(first);
     for record in records {
         push_record(out, index, record)?;
         index += 1;
@@ -159,7 +158,6 @@ fn push_replicas(out: &mut Text, replicas: &[ReplicaView]) -> Result<(), NoMemor
 
 fn push_range(out: &mut Text, range: &RangeView) -> Result<(), NoMemory>
     requires shown { IsShownDesc range.now.desc }
-    requires indexes { IndexesFit range.now }
     ensures { OnOk result (out.new ≡ out.old ++ range_lines range.now) }
 {
     push_range_line(out, &range.desc, &range.lease)?;
@@ -169,7 +167,6 @@ fn push_range(out: &mut Text, range: &RangeView) -> Result<(), NoMemory>
 
 fn push_ranges(out: &mut Text, ranges: &[RangeView]) -> Result<(), NoMemory>
     requires shown { All IsShownRange ranges.now }
-    requires indexes { All IndexesFit ranges.now }
     ensures { OnOk result (out.new ≡ out.old ++ flat_map range_lines ranges.now) }
 {
     for range in ranges {
@@ -190,8 +187,7 @@ fn push_lines(out: &mut Text, view: &View) -> Result<(), NoMemory>
     push_word(out, "end\n")
 }
 
-/// Appends the report as text. Each bound of the view is the least, the greatest, or a key, and each
-/// index fits its type.
+/// Appends the report as text. Each bound of the view is the least, the greatest, or a key.
 pub fn write_text(view: &View, out: &mut Text) -> Result<(), NoMemory>
     requires { IsShownView view.now }
     ensures ok { OnOk result (out.new ≡ out.old ++ report view.now) }

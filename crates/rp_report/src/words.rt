@@ -1,4 +1,5 @@
 ghost use Rattle.std.specs.Prelude.{◌≡◌, ◌++◌, OnOk};
+ghost use Rattle.std.specs.Fmt.{decimal};
 ghost use Rattle.rp_base.specs.Keys.{IsShown};
 ghost use Rattle.rp_report.specs.Words.{newline, spaced, spaced_key, spaced_bound, value_text, attempt_text, lease_text};
 
@@ -10,6 +11,22 @@ pub fn push_spaced(out: &mut Text, n: u64) -> Result<(), NoMemory>
 {
     push_word(out, " ")?;
     push_number(out, n)
+}
+
+/// A number of up to 128 bits.
+pub fn push_wide(out: &mut Text, n: u128) -> Result<(), NoMemory>
+    ensures { OnOk result (out.new ≡ out.old ++ decimal n) }
+{
+    let digits = n.to_string(out.alloc())?;
+    push_word(out, &digits)
+}
+
+/// Such a number behind a space.
+pub fn push_spaced_wide(out: &mut Text, n: u128) -> Result<(), NoMemory>
+    ensures { OnOk result (out.new ≡ out.old ++ spaced n) }
+{
+    push_word(out, " ")?;
+    push_wide(out, n)
 }
 
 /// A word, and a number behind a space.

@@ -8,7 +8,7 @@ use Rattle.rp_base.specs.declared.CmdId.{CmdId}
 use Rattle.rp_request.specs.declared.outcomes.Reply.{Reply}
 use Rattle.rp_request.specs.declared.items.Record.TheVariants.{Took}
 use Rattle.rp_request.specs.Table.{Table}
-use Rattle.rp_report.specs.Shown.{IsShownAnswer, IsShownRange, IndexesFit, IsShownView}
+use Rattle.rp_report.specs.Shown.{IsShownAnswer, IsShownRange, IsShownView}
 use Rattle.rp_top.specs.declared.script.lines.Group.{Group}
 use Rattle.rp_top.specs.World.{items_from, items_of, book_from, answer_of, view_of}
 
@@ -20,12 +20,8 @@ length-items_from (g ∷ groups) before t = ap suc (length-items_from groups _ _
 all_answers : (replies : List (CmdId × Reply)) → All (λ e. IsShownAnswer (answer_of e)) replies
 all_answers replies k d h = tt
 
-indexes : (groups : List Group) → length groups ≤ 65536 → 1 + length (map Took (items_of groups)) < 2 ^ 64
-indexes groups few = omega (arith, length-map (items_of groups) Took, length-items_from groups [] empty)
-
 pub shown_view : (groups : List Group) → length groups ≤ 65536 → IsShownView (view_of groups)
 shown_view groups few = record {
   replies = All-map IsShownAnswer answer_of (entries (book_from empty (items_of groups))) (all_answers _);
   ranges = All-cons IsShownRange _ [] (inl refl, inr (inl refl)) (All-nil IsShownRange);
-  indexes = All-cons IndexesFit _ [] (indexes groups few) (All-nil IndexesFit);
 }
