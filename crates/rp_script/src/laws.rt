@@ -22,7 +22,7 @@ pub fn rules_refuse()
 {}
 
 /// A line is refused so alone: at its first word by a rule, or at a later word with its cause, where the
-/// words in front of it are right. So each kind of refusal comes exactly where its cause is the first.
+/// words in front of it are right. The bounds of each number are those of the line's form.
 #[tactic(auto, using(crate::proofs::Rules::refusals_have_causes))]
 pub fn refusals_have_causes()
     ensures { RefusalsHaveCauses }
