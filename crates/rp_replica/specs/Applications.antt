@@ -1,0 +1,93 @@
+-- Application of the next committed entry, and what it tells the node that proposed it (after CockroachDB: the
+-- proposer ends, refuses or proposes its command again by the check's verdict).
+use Rattle.std.specs.Prelude.{ℕ, ◌+◌, ◌==◌, ◌&&◌, nat_le, if◌then◌else◌, Bool, true, false, List, [], ◌∷◌, ◌++◌, Option, None, Some, Result, Ok, Err}
+use Rattle.std.specs.List.{filter}
+use Rattle.rp_base.specs.declared.ids.CmdId.{CmdId}
+use Rattle.rp_base.specs.declared.items.Item.TheVariants as items
+use Rattle.rp_base.specs.declared.leases.Lease as leases
+use Rattle.rp_request.specs.declared.commands.Command.{Command}
+use Rattle.rp_request.specs.declared.commands.Payload.{Payload}
+use Rattle.rp_request.specs.declared.commands.Payload.TheVariants.{Nothing, Write, Lease}
+use Rattle.rp_request.specs.declared.outcomes.Outcome.{Outcome}
+use Rattle.rp_request.specs.declared.outcomes.Outcome.TheVariants as outcomes
+use Rattle.rp_request.specs.declared.outcomes.Refusal.TheVariants.{NotLeaseHolder}
+use Rattle.rp_raftlog.specs.LogState.{entry_at}
+use Rattle.rp_raftlog.specs.declared.entries.Entry.{Entry}
+use Rattle.rp_latch.specs.Holds.{is_of_other}
+use Rattle.rp_codec.specs.Reading.{payload_in, BadField}
+use Rattle.rp_apply.specs.Applied.{command_verdict}
+use Rattle.rp_apply.specs.History as history
+use Rattle.rp_apply.specs.declared.verdicts.Verdict as verdict_type
+use Rattle.rp_apply.specs.declared.verdicts.Verdict.TheVariants as verdicts
+use Rattle.rp_pending.specs.Proposals.{proposal_of, with_changed, without, waiting_again}
+use Rattle.rp_pending.specs.declared.proposals.Proposal.{Proposal}
+use Rattle.rp_pending.specs.declared.proposals.Stage.{Stage}
+use Rattle.rp_pending.specs.declared.proposals.Stage.TheVariants as stages
+use Rattle.rp_replica.specs.declared.events.EventAnswer.TheVariants as answers
+use Rattle.rp_replica.specs.Replicas.{Replica, Done, answers_only, committed}
+
+-- the entry is the proposal's own: proposed, under this maximum
+abbrev pub is_proposed_under : ℕ → Stage → ℕ → Bool
+is_proposed_under max stages.Waiting own = false
+is_proposed_under max stages.Proposed own = own == max
+
+abbrev pub is_own : ℕ → Option Proposal → Bool
+is_own max None = false
+is_own max (Some p) = is_proposed_under max p.stage p.max
+
+-- the attempt ends, and its latches are free
+abbrev pub ended : Replica → CmdId → Outcome → Done
+ended r id outcome = record {
+  replica = record r { latches = filter (is_of_other id) r.latches; pending = without id r.pending };
+  answer = answers.Done;
+  outcomes = record { id = id; outcome = outcome } ∷ [];
+}
+
+-- the attempt waits again, and stands at the inbox's end
+abbrev pub waits_again : Replica → CmdId → Done
+waits_again r id = record {
+  replica = record r { pending = with_changed id waiting_again r.pending; inbox = r.inbox ++ items.Write id ∷ [] };
+  answer = answers.Done;
+  outcomes = [];
+}
+
+-- what the verdict on its own entry makes of a proposal
+abbrev pub told : Replica → leases.Lease → Command → verdict_type.Verdict → Done
+told r lease c verdicts.Took = ended r c.id (outcomes.Success c.reply)
+told r lease c (verdicts.OldLease now) = ended r c.id (outcomes.Refused (NotLeaseHolder lease))
+told r lease c (verdicts.OldIndex lai) = waits_again r c.id
+told r lease c verdicts.LeaseMoved = answers_only r answers.Done
+told r lease c verdicts.Nothing = answers_only r answers.Done
+
+-- the replica once the payload is applied and its record is kept
+abbrev pub recorded : Replica → Payload → Replica
+recorded r p = record r { applied = history.applied r.applied p }
+
+-- a payload is applied, and the proposer is told
+abbrev pub applied_one : Replica → Payload → Done
+applied_one r Nothing = answers_only (recorded r Nothing) answers.Done
+applied_one r (Write c) = if is_own c.max (proposal_of c.id r.pending)
+    then told (recorded r (Write c)) r.applied.state.lease c (command_verdict r.applied.state c)
+    else answers_only (recorded r (Write c)) answers.Done
+applied_one r (Lease ask) = answers_only (recorded r (Lease ask)) answers.Done
+
+-- the payload that an entry carries
+abbrev pub payload_of : Option Entry → Option Payload
+payload_of None = None
+payload_of (Some e) = decoded (payload_in e.payload)
+  where
+    decoded : Result Payload BadField → Option Payload
+    decoded (Ok p) = Some p
+    decoded (Err bad) = None
+
+-- the payload of the next committed entry, where there is one
+abbrev pub next_payload : Replica → Option Payload
+next_payload r = payload_of (entry_at r.log (r.applied.index + 1))
+
+abbrev pub applied_where : Replica → Option Payload → Done
+applied_where r None = answers_only r answers.Nothing
+applied_where r (Some p) = applied_one r p
+
+-- the next committed entry is applied, where there is one
+abbrev pub applied : Replica → Done
+applied r = applied_where r (next_payload r)

@@ -1,0 +1,36 @@
+-- A replica of a range, and what an event makes of it.
+use Rattle.std.specs.Prelude.{ℕ, List, []}
+use Rattle.rp_base.specs.declared.items.Item.{Item}
+use Rattle.rp_raftlog.specs.LogState.{LogState, last_index}
+use Rattle.rp_latch.specs.declared.holds.Hold.{Hold}
+use Rattle.rp_pending.specs.declared.proposals.Proposal.{Proposal}
+use Rattle.rp_apply.specs.History.{History}
+use Rattle.rp_replica.specs.declared.events.Ended.{Ended}
+use Rattle.rp_replica.specs.declared.events.EventAnswer.{EventAnswer}
+use Rattle.rp_replica.specs.declared.events.EventAnswer.TheVariants as answers
+
+-- the node at which it stands, the range's log, what it has applied, the latches that its pending
+-- proposals hold, these proposals in order of admission, the last lease index that it gave, and the
+-- items that its buffer gave and no flush has taken
+pub record Replica : Type 0 where
+  pub node : ℕ
+  pub log : LogState
+  pub applied : History
+  pub latches : List Hold
+  pub pending : List Proposal
+  pub assigned : ℕ
+  pub inbox : List Item
+
+-- the index up to which its log is committed: all of it, for as long as one node holds the log
+abbrev pub committed : Replica → ℕ
+committed r = last_index r.log
+
+-- what an event leaves, what it answers, and the attempts that it ends
+pub record Done : Type 0 where
+  pub replica : Replica
+  pub answer : EventAnswer
+  pub outcomes : List Ended
+
+-- nothing changes
+abbrev pub answers_only : Replica → EventAnswer → Done
+answers_only r answer = record { replica = r; answer = answer; outcomes = [] }
