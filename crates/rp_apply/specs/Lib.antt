@@ -1,2 +1,4 @@
 pub mod Applied
+pub mod History
 pub mod Onward
+pub mod Rooms

@@ -2,7 +2,15 @@
 //! command's lease sequence and lease applied index before a replica applies it).
 #![tactic(auto)]
 
+mod batches;
 pub mod laws;
+mod machines;
+mod pieces;
+mod states;
+#[cfg(test)]
+mod tests;
 mod verdicts;
 
+pub use pieces::Piece;
+pub use states::{ApplyState, check};
 pub use verdicts::Verdict;
