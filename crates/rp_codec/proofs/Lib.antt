@@ -1,1 +1,6 @@
 pub mod Spans
+pub mod Writes
+pub mod Readers
+pub mod FieldLaws
+pub mod PayloadLaws
+pub mod SpellingLaws

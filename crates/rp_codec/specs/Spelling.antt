@@ -41,11 +41,11 @@ span_bytes s = key_bytes s.start ++ end_bytes s.end
 -- a request: its tag, and its fields
 unfoldable pub request_bytes : Request → List ℕ
 request_bytes (requests.Put k v) = 1 ∷ (key_bytes k ++ value_bytes v)
-request_bytes (requests.Add k v) = 2 ∷ (key_bytes k ++ value_bytes v)
-request_bytes (requests.CPut k e v) = 3 ∷ (key_bytes k ++ option_bytes e ++ value_bytes v)
+request_bytes (requests.Add k n) = 2 ∷ (key_bytes k ++ to_be_bytes w64 n)
+request_bytes (requests.CPut k o v) = 3 ∷ (key_bytes k ++ option_bytes o ++ value_bytes v)
 request_bytes (requests.Del k) = 4 ∷ key_bytes k
 request_bytes (requests.Wipe s) = 5 ∷ span_bytes s
-request_bytes (requests.Move k l v) = 6 ∷ (key_bytes k ++ key_bytes l ++ to_be_bytes w64 v)
+request_bytes (requests.Move k l n) = 6 ∷ (key_bytes k ++ key_bytes l ++ to_be_bytes w64 n)
 request_bytes (requests.Split k) = 7 ∷ key_bytes k
 
 -- a reply: its tag, and its field

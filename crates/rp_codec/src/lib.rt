@@ -6,5 +6,10 @@ mod commands;
 mod cursors;
 mod faults;
 mod fields;
+pub mod laws;
+mod reading;
+mod writing;
 
 pub use faults::DecodeFault;
+pub use reading::decode;
+pub use writing::encode;

@@ -1,0 +1,34 @@
+//! Laws of the definitions, for the proofs above. No program calls these functions.
+ghost use Rattle.std.specs.Prelude.{◌≡◌, ℕ, List, [], ◌∷◌, ◌++◌, length, Ok};
+ghost use Rattle.rp_request.specs.declared.Payload.{Payload};
+ghost use Rattle.rp_codec.specs.Fits.{AreBytes, FitsPayload};
+ghost use Rattle.rp_codec.specs.Reading.{bad, payload_in};
+ghost use Rattle.rp_codec.specs.Spelling.{spelling};
+
+/// Each payload's spelling is read, and gives the payload.
+#[tactic(auto, using(crate::proofs::SpellingLaws::read_as_spelled))]
+pub fn what_is_spelled_is_read()
+    ensures { (p : Payload) → FitsPayload p → payload_in (spelling p) ≡ Ok p }
+{}
+
+/// Bytes that are read as a payload are its spelling.
+pub fn what_is_read_is_so_spelled()
+    ensures { (bytes : List ℕ) (p : Payload) → AreBytes bytes → payload_in bytes ≡ Ok p → (bytes ≡ spelling p) × FitsPayload p }
+{}
+
+/// Payloads with one spelling are one payload.
+#[tactic(auto, using(crate::proofs::SpellingLaws::one_spelling))]
+pub fn one_spelling_is_of_one_payload()
+    ensures { (p : Payload) (q : Payload) → FitsPayload p → FitsPayload q → spelling p ≡ spelling q → p ≡ q }
+{}
+
+/// No spelling begins another one.
+pub fn no_spelling_begins_another()
+    ensures { (p : Payload) (q : Payload) (more : List ℕ) → FitsPayload p → FitsPayload q → spelling p ++ more ≡ spelling q → (more ≡ []) × (p ≡ q) }
+{}
+
+/// Bytes behind a payload are bad at the payload's length.
+#[tactic(auto, using(crate::proofs::SpellingLaws::read_past))]
+pub fn bytes_behind_a_payload_are_bad()
+    ensures { (p : Payload) (b : ℕ) (more : List ℕ) → FitsPayload p → payload_in (spelling p ++ b ∷ more) ≡ bad (length (spelling p)) }
+{}
