@@ -33,7 +33,7 @@ last_term log = unwrap_or (term_at log (last_index log)) 0
 abbrev pub suffix : LogState → ℕ → ℕ → List Entry
 suffix log from most = take most (drop (from - log.base - 1) log.entries)
 
--- with an entry more
+-- with these entries behind its own
 abbrev pub appended : LogState → List Entry → LogState
 appended log more = record log { entries = log.entries ++ more }
 

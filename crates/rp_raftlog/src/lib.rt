@@ -2,5 +2,9 @@
 #![tactic(auto)]
 
 mod entries;
+mod logs;
+#[cfg(test)]
+mod tests;
 
 pub use entries::{Entries, Entry};
+pub use logs::{Log, Mismatch};

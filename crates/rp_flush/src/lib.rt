@@ -1,0 +1,6 @@
+//! The order of a flush: which proposals go to Raft, in which order, and the lease index of each.
+#![tactic(auto)]
+
+mod waits;
+
+pub use waits::WaitList;

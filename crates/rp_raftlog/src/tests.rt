@@ -1,0 +1,156 @@
+ghost use Rattle.std.specs.Prelude.{◌≡◌, IfOk};
+
+use crate::{Entries, Entry, Log, Mismatch};
+use rp_base::Seq;
+use std::alloc::Global;
+use std::test::Fail;
+
+/// An entry of a term, with a payload of one byte.
+fn entry(alloc: Global, term: u64, byte: u8) -> Result<Entry, Fail> {
+    let mut payload = Seq::new(alloc);
+    payload.push(byte)?;
+    Ok(Entry { term, payload })
+}
+
+fn entries(alloc: Global, parts: &[(u64, u8)]) -> Result<Entries, Fail> {
+    let mut entries = Seq::new(alloc);
+    for part in parts {
+        entries.push(entry(alloc, part.0, part.1)?)?;
+    }
+    Ok(entries)
+}
+
+fn is(entry: &Entry, part: (u64, u8)) -> bool {
+    entry.term == part.0 && entry.payload.as_slice() == [part.1].as_slice()
+}
+
+/// These are the entries, with their payloads.
+fn are(entries: &Entries, parts: &[(u64, u8)]) -> bool {
+    entries.len() == parts.len()
+        && entries
+            .as_slice()
+            .iter()
+            .zip(parts)
+            .all(|(entry, part)| is(entry, *part))
+}
+
+/// The log holds just these entries behind its base.
+fn holds(log: &Log, parts: &[(u64, u8)]) -> Result<bool, Fail> {
+    let from = log.base().0.checked_add(1).ok_or("an index")?;
+    let held = log.suffix(from, 100)?;
+    Ok(are(&held, parts))
+}
+
+/// Makes room for the entries and takes them in.
+fn accept(
+    alloc: Global,
+    log: &mut Log,
+    prev_index: u32,
+    prev_term: u64,
+    parts: &[(u64, u8)],
+) -> Result<Result<u64, Mismatch>, Fail>
+    ensures { IfOk result (λ _. log.new.log.base ≡ log.old.log.base) }
+{
+    let news = entries(alloc, parts)?;
+    log.make_room(news.len())?;
+    Ok(log.accept(u64::from(prev_index), prev_term, news))
+}
+
+/// A log whose entries follow the index 10 of term 1.
+fn log(alloc: Global, parts: &[(u64, u8)]) -> Result<Log, Fail>
+    ensures { IfOk result (λ log. log.log.base ≡ 10) }
+{
+    let mut log = Log::at(alloc, 10, 1);
+    let taken = accept(alloc, &mut log, 10, 1, parts)?;
+    let _ = taken.ok().ok_or("they match")?;
+    Ok(log)
+}
+
+#[test]
+fn an_empty_log(rt: HostRuntime) -> Result<(), Fail> {
+    let log = Log::at(rt.alloc(), 10, 1);
+    assert!(rt; log.base() == (10, 1));
+    assert!(rt; log.last() == (10, 1));
+    assert!(rt; log.term_at(9).is_none());
+    assert!(rt; log.term_at(10) == Some(1));
+    assert!(rt; log.term_at(11).is_none());
+    assert!(rt; log.entry_at(10).is_none());
+    assert!(rt; holds(&log, &[])?);
+    Ok(())
+}
+
+#[test]
+fn appends_and_reads(rt: HostRuntime) -> Result<(), Fail> {
+    let mut log = Log::at(rt.alloc(), 10, 1);
+    log.make_room(2)?;
+    log.append(entry(rt.alloc(), 1, 7)?);
+    assert!(rt; log.last() == (11, 1));
+    log.append(entry(rt.alloc(), 3, 8)?);
+    assert!(rt; log.last() == (12, 3));
+    assert!(rt; log.term_at(11) == Some(1));
+    assert!(rt; log.term_at(12) == Some(3));
+    assert!(rt; log.term_at(13).is_none());
+    assert!(rt; log.entry_at(12).is_some_and(|last| is(last, (3, 8))));
+    assert!(rt; holds(&log, &[(1, 7), (3, 8)])?);
+    Ok(())
+}
+
+#[test]
+fn suffixes(rt: HostRuntime) -> Result<(), Fail> {
+    let log = log(rt.alloc(), &[(1, 5), (1, 6), (2, 7)])?;
+    assert!(rt; log.last() == (13, 2));
+    assert!(rt; are(&log.suffix(11, 2)?, &[(1, 5), (1, 6)]));
+    assert!(rt; are(&log.suffix(12, 8)?, &[(1, 6), (2, 7)]));
+    assert!(rt; are(&log.suffix(14, 8)?, &[]));
+    Ok(())
+}
+
+#[test]
+fn takes_entries_in(rt: HostRuntime) -> Result<(), Fail> {
+    let mut log = log(rt.alloc(), &[(1, 5), (1, 6), (2, 7)])?;
+    assert!(rt; accept(rt.alloc(), &mut log, 11, 1, &[(1, 6)])? == Ok(12));
+    assert!(rt; holds(&log, &[(1, 5), (1, 6), (2, 7)])?);
+    assert!(rt; accept(rt.alloc(), &mut log, 11, 1, &[(1, 6), (3, 8)])? == Ok(13));
+    assert!(rt; holds(&log, &[(1, 5), (1, 6), (3, 8)])?);
+    Ok(())
+}
+
+#[test]
+fn skips_what_stands_below_the_base(rt: HostRuntime) -> Result<(), Fail> {
+    let mut log = log(rt.alloc(), &[(1, 5)])?;
+    let past = &[(1, 3), (1, 4), (1, 5), (2, 6)];
+    assert!(rt; accept(rt.alloc(), &mut log, 8, 1, past)? == Ok(12));
+    assert!(rt; holds(&log, &[(1, 5), (2, 6)])?);
+    assert!(rt; accept(rt.alloc(), &mut log, 3, 9, &[(9, 9)])? == Ok(10));
+    assert!(rt; holds(&log, &[(1, 5), (2, 6)])?);
+    Ok(())
+}
+
+#[test]
+fn refuses_entries_that_do_not_follow(rt: HostRuntime) -> Result<(), Fail> {
+    let mut log = log(rt.alloc(), &[(1, 5), (2, 6)])?;
+    let late = accept(rt.alloc(), &mut log, 13, 2, &[(2, 7)])?;
+    assert!(rt; late == Err(Mismatch { index: 13 }));
+    let other = accept(rt.alloc(), &mut log, 12, 1, &[(2, 7)])?;
+    assert!(rt; other == Err(Mismatch { index: 12 }));
+    assert!(rt; accept(rt.alloc(), &mut log, 10, 3, &[])?.is_err());
+    assert!(rt; holds(&log, &[(1, 5), (2, 6)])?);
+    Ok(())
+}
+
+#[test]
+fn cuts_and_resets(rt: HostRuntime) -> Result<(), Fail> {
+    let mut log = log(rt.alloc(), &[(1, 5), (2, 6), (3, 7)])?;
+    assert!(rt; log.last() == (13, 3));
+    log.cut_front(12);
+    assert!(rt; log.base() == (12, 2));
+    assert!(rt; log.last() == (13, 3));
+    assert!(rt; holds(&log, &[(3, 7)])?);
+    log.cut_front(13);
+    assert!(rt; log.base() == (13, 3));
+    assert!(rt; holds(&log, &[])?);
+    log.reset(20, 4);
+    assert!(rt; log.last() == (20, 4));
+    assert!(rt; holds(&log, &[])?);
+    Ok(())
+}
