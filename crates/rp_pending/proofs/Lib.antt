@@ -1,0 +1,4 @@
+pub mod Ascending
+pub mod Finding
+pub mod Keeping
+pub mod Reading

@@ -1,0 +1,4 @@
+pub mod Proposals
+pub mod Refreshes
+pub mod Slots
+pub mod Sorting

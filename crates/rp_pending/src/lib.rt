@@ -1,0 +1,12 @@
+//! The proposals of a replica that have not ended: commands that wait for a lease index, and those
+//! that were handed to the log and are proposed again where they were lost.
+#![tactic(auto)]
+
+mod lists;
+mod proposals;
+mod refreshes;
+mod slots;
+
+pub use lists::Pending;
+pub use proposals::{Proposal, Stage};
+pub use refreshes::{Ids, Refresh};

@@ -1,0 +1,137 @@
+ghost use Rattle.std.specs.Prelude.{◌≡◌, ◌≤◌, ◌+◌, [], ◌∷◌, ◌++◌, OnOk, IfOk, IsSome};
+ghost use Rattle.std.specs.Option.{option_copied};
+ghost use Rattle.rp_pending.specs.Refreshes.{first_round, to_refresh, waiting_of};
+ghost use Rattle.rp_pending.specs.Proposals.{proposal_of, without, with_changed, proposed, waiting_again};
+
+use crate::proposals::{Change, Proposal};
+use crate::refreshes::{self, Refresh};
+use crate::slots::{Slots, change, clear, get, put, take, tidy};
+use rp_base::{CmdId, LeaseIndex, NoMemory, Tick};
+use rp_flush::WaitList;
+use std::alloc::Global;
+use std::marker::Model;
+
+/// The pending proposals of a replica. Contracts see the list in order of admission, whose ids are
+/// distinct, and apart from it the spare room: how many can be added without memory.
+#[derive(Drop)]
+pub struct Pending {
+    slots: Slots,
+    count: usize,
+}
+
+impl Model for Pending {
+    ghost use Rattle.rp_base.specs.Kept.{Kept};
+    ghost use Rattle.indexmap.specs.IndexMap.{spare};
+    ghost use Rattle.rp_pending.specs.declared.proposals.Proposal.{Proposal};
+    ghost use Rattle.rp_pending.specs.Slots.{proposals_in, AreSound};
+
+    ghost Value = { Kept Proposal };
+
+    ghost view = { λ p. record { list = proposals_in p.slots.entries; spare = spare p.slots } };
+
+    ghost invariant = { λ p. AreSound p.slots.entries p.count };
+}
+
+impl Pending {
+    /// Nothing is pending. It takes no memory.
+    pub fn new(alloc: Global) -> Pending
+        ensures { result.list ≡ [] }
+    {
+        Pending {
+            slots: Slots::new(alloc),
+            count: 0,
+        }
+    }
+
+    /// Makes room for n proposals more.
+    pub fn make_room(&mut self, n: usize) -> Result<(), NoMemory>
+        ensures list { self.new.list ≡ self.old.list }
+        ensures room { OnOk result (n ≤ self.new.spare) }
+        ensures kept { self.old.spare ≤ self.new.spare }
+    {
+        self.slots.reserve(n)?;
+        Ok(())
+    }
+
+    /// Puts a proposal at the end, without memory.
+    pub fn add(&mut self, proposal: Proposal)
+        requires room { 1 ≤ self.old.spare }
+        requires new_id { proposal_of proposal.id self.old.list ≡ None }
+        ensures list { self.new.list ≡ self.old.list ++ proposal ∷ [] }
+        ensures spare { self.old.spare ≤ self.new.spare + 1 }
+    {
+        let id = proposal.id;
+        // An empty slot of this id would keep its place.
+        clear(&mut self.slots, id, self.count);
+        put(&mut self.slots, id, proposal);
+        self.count += 1;
+    }
+
+    /// The proposal with this id.
+    pub fn find(&self, id: CmdId) -> Option<&Proposal>
+        ensures { option_copied result ≡ proposal_of id self.now.list }
+    {
+        match get(&self.slots, id) {
+            None => None,
+            Some(slot) => slot.as_ref(),
+        }
+    }
+
+    /// Takes the proposal with this id out, where there is one.
+    pub fn finish(&mut self, id: CmdId) -> Option<Proposal>
+        ensures taken { result ≡ proposal_of id self.old.list }
+        ensures list { self.new.list ≡ without id self.old.list }
+        ensures spare { self.old.spare ≤ self.new.spare }
+    {
+        match take(&mut self.slots, id) {
+            None => None,
+            Some(taken) => {
+                self.count -= 1;
+                tidy(&mut self.slots, self.count);
+                Some(taken)
+            }
+        }
+    }
+
+    /// The proposal with this id is proposed under a lease index. The round is kept where it has one.
+    pub fn propose(&mut self, id: CmdId, max: LeaseIndex, now: Tick, round: u64)
+        requires { IsSome (proposal_of id self.old.list) }
+        ensures list { self.new.list ≡ with_changed id (proposed max now round) self.old.list }
+        ensures spare { self.old.spare ≤ self.new.spare }
+    {
+        change(&mut self.slots, id, Change::Propose { max, now, round });
+    }
+
+    /// The proposal with this id waits for a lease index again.
+    pub fn back_to_waiting(&mut self, id: CmdId)
+        requires { IsSome (proposal_of id self.old.list) }
+        ensures list { self.new.list ≡ with_changed id waiting_again self.old.list }
+        ensures spare { self.old.spare ≤ self.new.spare }
+    {
+        change(&mut self.slots, id, Change::WaitAgain);
+    }
+
+    /// The least round at which a pending proposal was flushed first, `None` where none was flushed.
+    pub fn first_round(&self) -> Option<u64>
+        ensures { result ≡ first_round self.now.list }
+    {
+        refreshes::first_round(&self.slots)
+    }
+
+    /// The proposals that wait for a lease index, in order of admission.
+    pub fn waiting(&self) -> Result<WaitList, NoMemory>
+        ensures { IfOk result (λ w. w ≡ waiting_of self.now.list) }
+    {
+        refreshes::waiting(&self.slots)
+    }
+
+    /// What a refresh is to do at a tick, under this lease applied index (CockroachDB's refresh of
+    /// pending commands). Of the Proposed ones, those whose maximum is at or below the index go back
+    /// to wait. Of the others all, or else those that were proposed five ticks ago or more, are
+    /// proposed again. Both lists are by ascending maximum, equal ones in order of admission.
+    pub fn to_refresh(&self, lai: LeaseIndex, now: Tick, all: bool) -> Result<Refresh, NoMemory>
+        ensures { IfOk result (λ r. r ≡ to_refresh lai now all self.now.list) }
+    {
+        refreshes::to_refresh(&self.slots, lai, now, all)
+    }
+}

@@ -1,0 +1,117 @@
+ghost use Rattle.std.specs.Prelude.{◌≡◌, ◌+◌, ◌≤◌, ◌<◌, ◌^◌, [], ◌∷◌, ◌++◌, is_some, Option, filter};
+ghost use Rattle.std.specs.List.{IsDistinct};
+ghost use Rattle.std.specs.Map.{keys_of, remove_entry};
+ghost use Rattle.std.specs.Option.{option_copied, option_flatten, option_map};
+ghost use Rattle.indexmap.specs.IndexMap.{spare};
+ghost use Rattle.rp_pending.specs.declared.proposals.Proposal.{Proposal};
+ghost use Rattle.rp_pending.specs.Proposals.{same_id};
+ghost use Rattle.rp_pending.specs.Slots.{changed, proposals_in, slot_of, with_slot, AreSound};
+
+use crate::proposals::{Change, Proposal};
+use indexmap::IndexMap;
+use rp_base::CmdId;
+
+/// A slot for each id, in order of admission, empty where the proposal has ended.
+pub(crate) type Slots = IndexMap<CmdId, Option<Proposal>>;
+
+/// Changes the proposal of a slot.
+fn change_in(slot: &mut Option<Proposal>, change: Change)
+    ensures { slot.new ≡ option_map (changed change) slot.old }
+{
+    if let Some(proposal) = slot {
+        proposal.change(change);
+    }
+}
+
+/// Changes the proposal with this id.
+pub(crate) fn change(slots: &mut Slots, id: CmdId, change: Change)
+    ensures entries { (slot : Option Proposal) → slot_of id slots.old.entries ≡ Some slot → slots.new.entries ≡ with_slot id slots.old.entries (option_map (changed change) slot) }
+    ensures spare { spare slots.old ≤ spare slots.new }
+{
+    if let Some(slot) = slots.get_mut(&id) {
+        change_in(slot, change);
+    }
+}
+
+/// Empties the slot of this id and gives its proposal.
+#[tactic(auto, using(crate::proofs::Finding::no_slot_stays))]
+pub(crate) fn take(slots: &mut Slots, id: CmdId) -> Option<Proposal>
+    ensures taken { result ≡ option_flatten (slot_of id slots.old.entries) }
+    ensures entries { slots.new.entries ≡ with_slot id slots.old.entries None }
+    ensures spare { spare slots.old ≤ spare slots.new }
+{
+    match slots.get_mut(&id) {
+        None => None,
+        Some(slot) => slot.take(),
+    }
+}
+
+/// The slot of this id, where there is one.
+pub(crate) fn get(slots: &Slots, id: CmdId) -> Option<&Option<Proposal>>
+    ensures { option_copied result ≡ slot_of id slots.now.entries }
+{
+    slots.get(&id)
+}
+
+/// Puts a proposal into a new slot at the end, without memory.
+pub(crate) fn put(slots: &mut Slots, id: CmdId, proposal: Proposal)
+    requires room { 1 ≤ spare slots.old }
+    requires new_id { slot_of id slots.old.entries ≡ None }
+    ensures entries { slots.new.entries ≡ slots.old.entries ++ (id, Some proposal) ∷ [] }
+    ensures distinct { IsDistinct same_id (keys_of slots.new.entries) }
+    ensures spare { spare slots.old ≤ spare slots.new + 1 }
+{
+    slots.insert(id, Some(proposal)).unwrap();
+}
+
+/// Takes the slot of this id out, where there is one.
+fn remove(slots: &mut Slots, id: CmdId)
+    ensures entries { slots.new.entries ≡ remove_entry (same_id id) slots.old.entries }
+    ensures distinct { IsDistinct same_id (keys_of slots.new.entries) }
+    ensures gone { slot_of id slots.new.entries ≡ None }
+    ensures spare { spare slots.old ≤ spare slots.new }
+{
+    slots.shift_remove(&id);
+}
+
+/// Takes an empty slot of this id out. Where no slot is empty, there is none.
+pub(crate) fn clear(slots: &mut Slots, id: CmdId, count: usize)
+    requires sound { AreSound slots.old.entries count }
+    requires new_id { option_flatten (slot_of id slots.old.entries) ≡ None }
+    ensures sound { AreSound slots.new.entries count }
+    ensures same { proposals_in slots.new.entries ≡ proposals_in slots.old.entries }
+    ensures new_id { slot_of id slots.new.entries ≡ None }
+    ensures small { count < 2 ^ 63 }
+    ensures spare { spare slots.old ≤ spare slots.new }
+{
+    if slots.len() == count {
+        return;
+    }
+    remove(slots, id);
+}
+
+/// Takes the empty slots out.
+fn compact(slots: &mut Slots)
+    ensures entries { slots.new.entries ≡ filter (λ s. is_some s.1) slots.old.entries }
+    ensures distinct { IsDistinct same_id (keys_of slots.new.entries) }
+    ensures spare { spare slots.old ≤ spare slots.new }
+{
+    slots.retain(
+        |_id: &CmdId, slot: &mut Option<Proposal>| -> bool
+            ensures { (result ≡ is_some slot.old) × (slot.new ≡ slot.old) }
+        { slot.is_some() },
+    );
+}
+
+/// Takes the empty slots out once they are more than the others. So all that is moved in the end is
+/// at most as much as was taken out.
+pub(crate) fn tidy(slots: &mut Slots, count: usize)
+    requires { AreSound slots.old.entries count }
+    ensures sound { AreSound slots.new.entries count }
+    ensures same { proposals_in slots.new.entries ≡ proposals_in slots.old.entries }
+    ensures spare { spare slots.old ≤ spare slots.new }
+{
+    if slots.len() - count > count {
+        compact(slots);
+    }
+}
