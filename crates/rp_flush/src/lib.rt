@@ -1,6 +1,8 @@
 //! The order of a flush: which proposals go to Raft, in which order, and the lease index of each.
 #![tactic(auto)]
 
+mod assigns;
 mod waits;
 
+pub use assigns::{Assigned, assign};
 pub use waits::WaitList;

@@ -104,7 +104,7 @@ impl Latches {
     }
 
     /// The oldest hold that meets the spans asked. The holds are gone through only where one does.
-    fn conflict(&self, asked: Spans) -> Option<Held>
+    pub fn conflict(&self, asked: Spans) -> Option<Held>
         ensures { result ≡ conflict self.now.list asked }
     {
         if !self.meets_one(asked) {

@@ -14,7 +14,8 @@ use Rattle.rp_request.specs.declared.outcomes.Refusal.TheVariants.{NotLeaseHolde
 use Rattle.rp_raftlog.specs.LogState.{entry_at}
 use Rattle.rp_raftlog.specs.declared.entries.Entry.{Entry}
 use Rattle.rp_latch.specs.Holds.{is_of_other}
-use Rattle.rp_codec.specs.Reading.{payload_in, BadField}
+use Rattle.rp_codec.specs.Reading.{payload_in}
+use Rattle.rp_codec.specs.declared.faults.BadField.{BadField}
 use Rattle.rp_apply.specs.Applied.{command_verdict}
 use Rattle.rp_apply.specs.History as history
 use Rattle.rp_apply.specs.declared.verdicts.Verdict as verdict_type
@@ -23,8 +24,11 @@ use Rattle.rp_pending.specs.Proposals.{proposal_of, with_changed, without, waiti
 use Rattle.rp_pending.specs.declared.proposals.Proposal.{Proposal}
 use Rattle.rp_pending.specs.declared.proposals.Stage.{Stage}
 use Rattle.rp_pending.specs.declared.proposals.Stage.TheVariants as stages
+use Rattle.rp_replica.specs.declared.events.Ended.{Ended}
 use Rattle.rp_replica.specs.declared.events.EventAnswer.TheVariants as answers
-use Rattle.rp_replica.specs.Replicas.{Replica, Done, answers_only, committed}
+use Rattle.rp_replica.specs.declared.plans.Turn.{Turn}
+use Rattle.rp_replica.specs.declared.plans.Turn.TheVariants as turns
+use Rattle.rp_replica.specs.Replicas.{Replica, Done, answers_only}
 
 -- the entry is the proposal's own: proposed, under this maximum
 abbrev pub is_proposed_under : ℕ → Stage → ℕ → Bool
@@ -35,29 +39,42 @@ abbrev pub is_own : ℕ → Option Proposal → Bool
 is_own max None = false
 is_own max (Some p) = is_proposed_under max p.stage p.max
 
--- the attempt ends, and its latches are free
-abbrev pub ended : Replica → CmdId → Outcome → Done
-ended r id outcome = record {
-  replica = record r { latches = filter (is_of_other id) r.latches; pending = without id r.pending };
-  answer = answers.Done;
-  outcomes = record { id = id; outcome = outcome } ∷ [];
-}
+-- what the verdict on its own entry makes of a proposal: it ends, or waits again
+abbrev pub turn : Command → verdict_type.Verdict → Turn
+turn c verdicts.Took = turns.Ends c.id
+turn c (verdicts.OldLease now) = turns.Ends c.id
+turn c (verdicts.OldIndex lai) = turns.WaitsAgain c.id
+turn c verdicts.LeaseMoved = turns.Stays
+turn c verdicts.Nothing = turns.Stays
 
--- the attempt waits again, and stands at the inbox's end
-abbrev pub waits_again : Replica → CmdId → Done
-waits_again r id = record {
-  replica = record r { pending = with_changed id waiting_again r.pending; inbox = r.inbox ++ items.Write id ∷ [] };
-  answer = answers.Done;
-  outcomes = [];
-}
+-- what its client is told: the reply at its place, or the present lease
+abbrev pub told : leases.Lease → Command → verdict_type.Verdict → List Ended
+told lease c verdicts.Took = record { id = c.id; outcome = outcomes.Success c.reply } ∷ []
+told lease c (verdicts.OldLease now) = record { id = c.id; outcome = outcomes.Refused (NotLeaseHolder lease) } ∷ []
+told lease c (verdicts.OldIndex lai) = []
+told lease c verdicts.LeaseMoved = []
+told lease c verdicts.Nothing = []
 
--- what the verdict on its own entry makes of a proposal
-abbrev pub told : Replica → leases.Lease → Command → verdict_type.Verdict → Done
-told r lease c verdicts.Took = ended r c.id (outcomes.Success c.reply)
-told r lease c (verdicts.OldLease now) = ended r c.id (outcomes.Refused (NotLeaseHolder lease))
-told r lease c (verdicts.OldIndex lai) = waits_again r c.id
-told r lease c verdicts.LeaseMoved = answers_only r answers.Done
-told r lease c verdicts.Nothing = answers_only r answers.Done
+-- the entry is a command that the replica itself has proposed, under this maximum
+abbrev pub is_own_command : Replica → Command → Bool
+is_own_command r c = is_own c.max (proposal_of c.id r.pending)
+
+abbrev pub turn_of : Replica → Payload → Turn
+turn_of r Nothing = turns.Stays
+turn_of r (Write c) = if is_own_command r c then turn c (command_verdict r.applied.state c) else turns.Stays
+turn_of r (Lease ask) = turns.Stays
+
+abbrev pub told_of : Replica → Payload → List Ended
+told_of r Nothing = []
+told_of r (Write c) = if is_own_command r c then told r.applied.state.lease c (command_verdict r.applied.state c) else []
+told_of r (Lease ask) = []
+
+-- the proposal turns so: where it ends its latches are free, and where it waits again it stands at the inbox's end
+abbrev pub turned : Replica → Turn → Replica
+turned r turns.Stays = r
+turned r (turns.Ends id) = record r { latches = filter (is_of_other id) r.latches; pending = without id r.pending }
+turned r (turns.WaitsAgain id) =
+    record r { pending = with_changed id waiting_again r.pending; inbox = r.inbox ++ items.Write id ∷ [] }
 
 -- the replica once the payload is applied and its record is kept
 abbrev pub recorded : Replica → Payload → Replica
@@ -65,20 +82,16 @@ recorded r p = record r { applied = history.applied r.applied p }
 
 -- a payload is applied, and the proposer is told
 abbrev pub applied_one : Replica → Payload → Done
-applied_one r Nothing = answers_only (recorded r Nothing) answers.Done
-applied_one r (Write c) = if is_own c.max (proposal_of c.id r.pending)
-    then told (recorded r (Write c)) r.applied.state.lease c (command_verdict r.applied.state c)
-    else answers_only (recorded r (Write c)) answers.Done
-applied_one r (Lease ask) = answers_only (recorded r (Lease ask)) answers.Done
+applied_one r p = record { replica = turned (recorded r p) (turn_of r p); answer = answers.Done; outcomes = told_of r p }
 
 -- the payload that an entry carries
+abbrev pub decoded : Result Payload BadField → Option Payload
+decoded (Ok p) = Some p
+decoded (Err bad) = None
+
 abbrev pub payload_of : Option Entry → Option Payload
 payload_of None = None
 payload_of (Some e) = decoded (payload_in e.payload)
-  where
-    decoded : Result Payload BadField → Option Payload
-    decoded (Ok p) = Some p
-    decoded (Err bad) = None
 
 -- the payload of the next committed entry, where there is one
 abbrev pub next_payload : Replica → Option Payload

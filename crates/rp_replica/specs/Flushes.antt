@@ -1,6 +1,6 @@
 -- Flush: the inbox becomes payloads in the log, each command under a lease index (after CockroachDB's proposal
 -- buffer, whose flush gives the maximum lease indexes under the replica's lock).
-use Rattle.std.specs.Prelude.{ℕ, List, [], ◌∷◌, ◌++◌, map, filter_map, Option}
+use Rattle.std.specs.Prelude.{ℕ, max, List, [], ◌∷◌, ◌++◌, map, filter_map, Option, None, Some}
 use Rattle.std.specs.Option.{option_map}
 use Rattle.std.specs.List.{filter}
 use Rattle.rp_base.specs.declared.ids.CmdId.{CmdId}
@@ -15,8 +15,10 @@ use Rattle.rp_raftlog.specs.declared.entries.Entry.{Entry}
 use Rattle.rp_latch.specs.Holds.{is_of_other}
 use Rattle.rp_latch.specs.declared.holds.Hold.{Hold}
 use Rattle.rp_codec.specs.Spelling.{spelling}
-use Rattle.rp_flush.specs.Assignments.{Assigned, assigned}
-use Rattle.rp_pending.specs.Proposals.{proposal_of, with_changed, without, proposed, waiting_of}
+use Rattle.rp_flush.specs.Assigns.{assigned_of}
+use Rattle.rp_flush.specs.declared.assigns.Assigned.{Assigned}
+use Rattle.rp_pending.specs.Proposals.{proposal_of, with_changed, without, proposed}
+use Rattle.rp_pending.specs.Refreshes.{waiting_of}
 use Rattle.rp_pending.specs.declared.proposals.Proposal.{Proposal}
 use Rattle.rp_replica.specs.declared.events.Ended.{Ended}
 use Rattle.rp_replica.specs.declared.events.EventAnswer.TheVariants as answers
@@ -29,6 +31,11 @@ command_of p max = record { id = p.id; request = p.request; batch = p.batch; rep
 -- the payload of an id that got a lease index
 abbrev pub write_of : List Proposal → CmdId × ℕ → Option Payload
 write_of ps w = option_map (λ p. payloads.Write (command_of p w.1)) (proposal_of w.0 ps)
+
+-- a payload as a list, where there is one
+abbrev pub listed : Option Payload → List Payload
+listed None = []
+listed (Some p) = p ∷ []
 
 -- the payloads of a flush: lease asks first, then commands
 abbrev pub payloads_of : List Proposal → Assigned → List Payload
@@ -77,4 +84,4 @@ flushed_by r a ticks round = record {
 -- a flush, at a tick and in a round of the node
 abbrev pub flushed : Replica → (ticks round : ℕ) → Done
 flushed r ticks round =
-    flushed_by r (assigned r.inbox (waiting_of r.pending) r.applied.state.lease r.applied.state.lai r.assigned) ticks round
+    flushed_by r (assigned_of r.inbox (waiting_of r.pending) r.applied.state.lease.seq (max r.assigned r.applied.state.lai)) ticks round
