@@ -84,8 +84,10 @@ pub fn assign(
         refused: Seq::new(alloc),
         last: LeaseIndex::new(assigned.get().max(lai.get())),
     };
-    for item in inbox.as_slice() {
-        all.take(item, lease.seq, &mut seqs)?;
+    let seq = lease.seq;
+    let items = inbox.as_slice();
+    for item in items {
+        all.take(item, seq, &mut seqs)?;
     }
     Ok(all)
 }
