@@ -1,5 +1,5 @@
 -- Admission at the leaseholder (after CockroachDB: the lease, the bounds, the latches, and then the evaluation).
-use Rattle.std.specs.Prelude.{ℕ, ◌==◌, if◌then◌else◌, List, [], ◌∷◌, ◌++◌, None, Result, Ok, Err, Unit}
+use Rattle.std.specs.Prelude.{ℕ, ◌==◌, if◌then◌else◌, List, [], ◌∷◌, ◌++◌, None, Result, Ok, Err}
 use Rattle.rp_base.specs.declared.ids.CmdId.{CmdId}
 use Rattle.rp_request.specs.Covers.{spans_of, in_bounds}
 use Rattle.rp_request.specs.declared.outcomes.Refusal.{Refusal}

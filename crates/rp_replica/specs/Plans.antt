@@ -1,10 +1,9 @@
 -- What a plan does to a replica, and where it may be committed.
-use Rattle.std.specs.Prelude.{◌≡◌, ℕ, ◌+◌, ◌-◌, ◌≤◌, ◌<◌, ◌^◌, List, [], ◌∷◌, ◌++◌, length, Option, None, Some, Ok, Unit, IsSome}
+use Rattle.std.specs.Prelude.{◌≡◌, ℕ, ◌+◌, ◌-◌, ◌≤◌, ◌<◌, ◌^◌, List, [], ◌∷◌, ◌++◌, length, Option, None, Some, Ok, IsSome}
 use Rattle.std.specs.List.{All}
 use Rattle.rp_base.specs.declared.ids.CmdId.{CmdId}
 use Rattle.rp_request.specs.Covers.{spans_of}
 use Rattle.rp_raftlog.specs.LogState.{appended, last_index}
-use Rattle.rp_raftlog.specs.declared.entries.Entry.{Entry}
 use Rattle.rp_latch.specs.Holds.{answer}
 use Rattle.rp_apply.specs.Rooms.{IsWithin, needed, Fits}
 use Rattle.rp_apply.specs.Rooms as applies
@@ -23,25 +22,15 @@ use Rattle.rp_replica.specs.Flushes.{freed_all, without_all, proposed_all}
 use Rattle.rp_replica.specs.Applications.{recorded, turned}
 use Rattle.rp_replica.specs.Events.{collected}
 
--- entries stand behind the log
-abbrev pub with_entries : Replica → List Entry → Replica
-with_entries r entries = record r { log = appended r.log entries }
-
--- these attempts have ended
-abbrev pub without_attempts : Replica → List CmdId → Replica
-without_attempts r ids = record r { latches = freed_all ids r.latches; pending = without_all ids r.pending }
-
--- these attempts are proposed, each under its lease index
-abbrev pub with_proposed : Replica → List (CmdId × ℕ) → (now round : ℕ) → Replica
-with_proposed r writes now round = record r { pending = proposed_all writes now round r.pending }
-
--- the inbox is empty, and this is the last lease index given
-abbrev pub emptied : Replica → ℕ → Replica
-emptied r last = record r { assigned = last; inbox = [] }
-
 -- the replica after a planned flush
 abbrev pub after_flush : Replica → FlushPlan → Replica
-after_flush r f = emptied (with_proposed (without_attempts (with_entries r f.entries) f.refused) f.writes f.now f.round) f.last
+after_flush r f = record r {
+  log = appended r.log f.entries;
+  latches = freed_all f.refused r.latches;
+  pending = proposed_all f.writes f.now f.round (without_all f.refused r.pending);
+  assigned = f.last;
+  inbox = [];
+}
 
 -- what a plan does
 abbrev pub planned : Replica → ReplicaPlan → Done
@@ -57,10 +46,14 @@ IsKnown ps Stays = Unit {0}
 IsKnown ps (Ends id) = IsSome (proposal_of id ps)
 IsKnown ps (WaitsAgain id) = IsSome (proposal_of id ps)
 
+-- the attempt of each of these commands is pending
+abbrev pub ArePending : List (CmdId × ℕ) → List Proposal → Type 0
+ArePending writes ps = All (λ w. IsSome (proposal_of w.0 ps)) writes
+
 -- a planned flush fits a replica
 pub record FlushFits (r : Replica) (f : FlushPlan) : Type 0 where
   pub index : last_index r.log + length f.entries < 2 ^ 64
-  pub known : All (λ w. IsSome (proposal_of w.0 (without_all f.refused r.pending))) f.writes
+  pub known : ArePending f.writes (without_all f.refused r.pending)
 
 -- a planned application fits a replica
 pub record ApplicationFits (r : Replica) (a : Application) : Type 0 where

@@ -44,6 +44,10 @@ pub record Done : Type 0 where
   pub answer : EventAnswer
   pub outcomes : List Ended
 
+-- a replica, an answer and outcomes are what an event leaves
+abbrev pub leaves : Replica → EventAnswer → List Ended → Done
+leaves r answer outcomes = record { replica = r; answer = answer; outcomes = outcomes }
+
 -- nothing changes
 abbrev pub answers_only : Replica → EventAnswer → Done
 answers_only r answer = record { replica = r; answer = answer; outcomes = [] }

@@ -1,4 +1,4 @@
-ghost use Rattle.std.specs.Prelude.{◌≡◌, ◌≤◌, ◌+◌, IfOk, Result};
+ghost use Rattle.std.specs.Prelude.{◌≡◌, ◌≤◌, ◌+◌, ◌==◌, IfOk, Result};
 ghost use Rattle.rp_request.specs.declared.outcomes.Refusal.{Refusal};
 ghost use Rattle.rp_eval.specs.Evaluations.{Gives, evaluated};
 ghost use Rattle.rp_eval.specs.declared.evaluations.Evaluated.{Evaluated};
@@ -49,20 +49,27 @@ fn proposal(id: CmdId, request: Request, evaluated: Evaluated, seq: LeaseSeq) ->
 }
 
 impl Replica {
+    /// Whether the node holds the applied lease.
+    fn holds_lease(&self) -> bool
+        ensures { result ≡ (self.now.replica.applied.state.lease.holder == self.now.replica.node) }
+    {
+        self.applied.lease().holder == self.node
+    }
+
     /// What the guards let through: the lease, the bounds, the latches, and then the evaluation.
     fn guarded(
         &self,
         alloc: Global,
-        request: Request,
+        request: &Request,
     ) -> Result<Result<Evaluated, Refusal>, NoMemory>
-        ensures { IfOk result (λ g. g ≡ guarded self.now.replica request) }
+        ensures { IfOk result (λ g. g ≡ guarded self.now.replica request.now) }
     {
-        let lease = self.applied.lease();
-        if lease.holder != self.node {
+        if !self.holds_lease() {
+            let lease = self.applied.lease();
             return Ok(Err(Refusal::NotLeaseHolder { lease }));
         }
-        let desc = self.applied.desc();
-        if !in_bounds(desc, &request) {
+        if !in_bounds(self.applied.desc(), request) {
+            let desc = self.applied.desc();
             return Ok(Err(Refusal::RangeMismatch { desc }));
         }
         if let Some(held) = self.latches.conflict(request.spans()) {
@@ -71,7 +78,8 @@ impl Replica {
                 held: held.held,
             }));
         }
-        told(evaluate(alloc, self.applied.table(), desc, request))
+        let desc = self.applied.desc();
+        told(evaluate(alloc, self.applied.table(), desc, *request))
     }
 
     pub(crate) fn plan_admission(
@@ -83,14 +91,16 @@ impl Replica {
         requires { proposal_of id self.now.replica.pending ≡ None }
         ensures { IfOk result (λ p. Makes self.now.replica p (admitted self.now.replica id request)) }
     {
-        match self.guarded(alloc, request)? {
-            Ok(evaluated) => Ok(ReplicaPlan::Admits {
-                proposal: proposal(id, request, evaluated, self.applied.lease().seq),
-            }),
-            Err(refusal) => Ok(ReplicaPlan::Answers {
-                answer: EventAnswer::Refused(refusal),
-            }),
-        }
+        let evaluated = match self.guarded(alloc, &request)? {
+            Ok(evaluated) => evaluated,
+            Err(refusal) => {
+                let answer = EventAnswer::Refused(refusal);
+                return Ok(ReplicaPlan::Answers { answer });
+            }
+        };
+        let seq = self.applied.lease().seq;
+        let proposal = proposal(id, request, evaluated, seq);
+        Ok(ReplicaPlan::Admits { proposal })
     }
 
     pub(crate) fn admit(&mut self, proposal: Proposal)

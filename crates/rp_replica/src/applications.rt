@@ -1,4 +1,5 @@
 ghost use Rattle.std.specs.Prelude.{◌≡◌, ◌≤◌, ◌+◌, IfOk, Some, Option};
+ghost use Rattle.rp_replica.specs.Replicas.{leaves};
 ghost use Rattle.rp_replica.specs.Applications.{applied, applied_one, is_own, is_own_command, payload_of, turn, turn_of, told, told_of, recorded, turned};
 ghost use Rattle.rp_replica.specs.Allows.{MayApply};
 ghost use Rattle.rp_replica.specs.Plans.{Makes, ApplicationFits, HasRoom, IsKnown};
@@ -141,8 +142,8 @@ impl Replica {
         requires fits { ApplicationFits self.old.replica application }
         requires applied { IsWithin (needed application.payload) self.old.room.applied }
         requires inbox { items_of application.turn ≤ self.old.room.inbox }
-        ensures { record { replica = self.new.replica; answer = result.answer; outcomes = result.outcomes }
-            ≡ record { replica = turned (recorded self.old.replica application.payload) application.turn; answer = answers.Done; outcomes = application.outcomes } }
+        ensures { leaves self.new.replica result.answer result.outcomes
+            ≡ leaves (turned (recorded self.old.replica application.payload) application.turn) answers.Done application.outcomes }
     {
         self.applied.commit_one(&application.payload);
         self.turn_so(application.turn);

@@ -1,21 +1,21 @@
-ghost use Rattle.std.specs.Prelude.{◌≡◌, ◌≤◌, ◌+◌, ◌<◌, ◌^◌, ◌++◌, map, filter_map, length, OnOk, IfOk, IsSome};
-ghost use Rattle.std.specs.List.{All};
+ghost use Rattle.std.specs.Prelude.{◌≡◌, ◌≤◌, ◌+◌, ◌<◌, ◌^◌, ◌++◌, map, filter_map, length, OnOk, IfOk};
 ghost use Rattle.rp_request.specs.declared.commands.Payload.TheVariants as payloads;
-ghost use Rattle.rp_pending.specs.Proposals.{proposal_of};
-ghost use Rattle.rp_raftlog.specs.LogState.{last_index};
+ghost use Rattle.rp_raftlog.specs.LogState.{appended, last_index};
 ghost use Rattle.rp_replica.specs.declared.events.EventAnswer.TheVariants as answers;
-ghost use Rattle.rp_replica.specs.Flushes.{command_of, entry_of, flushed, listed, refused_with, write_of};
+ghost use Rattle.rp_replica.specs.Replicas.{leaves};
+ghost use Rattle.rp_replica.specs.Flushes.{command_of, entry_of, flushed, freed_all, listed, proposed_all, refused_with, without_all, write_of};
 ghost use Rattle.rp_replica.specs.Allows.{MayFlush};
-ghost use Rattle.rp_replica.specs.Plans.{Makes, FlushFits, after_flush, with_entries, without_attempts, with_proposed};
+ghost use Rattle.rp_replica.specs.Plans.{Makes, FlushFits, ArePending, after_flush};
 
 use crate::events::{Effects, Ended, EventAnswer, Outcomes};
 use crate::plans::{FlushPlan, ReplicaPlan};
 use crate::replicas::Replica;
-use rp_base::{CmdId, Lease, LeaseAsk, LeaseIndex, NoMemory, Seq, Tick};
+use rp_base::{CmdId, Lease, LeaseAsk, LeaseIndex, NoMemory, Tick};
 use rp_codec::encode;
 use rp_flush::{Assigned, assign};
 use rp_pending::{Pending, Proposal};
-use rp_raftlog::{Entries, Entry};
+use rp_latch::Latches;
+use rp_raftlog::{Entries, Entry, Log};
 use rp_request::{Command, Outcome, Payload, Refusal};
 use std::alloc::Global;
 
@@ -94,18 +94,24 @@ fn push_writes(
     Ok(())
 }
 
-/// What the refused attempts are told: the present lease.
-fn refusals(alloc: Global, refused: &[CmdId], lease: Lease) -> Result<Outcomes, NoMemory>
-    ensures { IfOk result (λ o. o ≡ map (refused_with lease) refused.now) }
+fn refused_with(lease: &Lease, id: CmdId) -> Ended
+    ensures { result ≡ refused_with lease.now id }
 {
-    let told = refused
-        .iter()
-        .map(|id| Ended {
-            id: *id,
-            outcome: Outcome::Refused(Refusal::NotLeaseHolder { lease }),
-        })
-        .collect(alloc)?;
-    Ok(Seq::from_vec(told))
+    Ended {
+        id,
+        outcome: Outcome::Refused(Refusal::NotLeaseHolder { lease: *lease }),
+    }
+}
+
+/// What the refused attempts are told: the present lease.
+fn refusals(alloc: Global, refused: &[CmdId], lease: &Lease) -> Result<Outcomes, NoMemory>
+    ensures { IfOk result (λ o. o ≡ map (refused_with lease.now) refused.now) }
+{
+    let mut told = Outcomes::new(alloc);
+    for id in refused {
+        told.push(refused_with(lease, *id))?;
+    }
+    Ok(told)
 }
 
 /// The entries of a flush: lease asks first, then commands.
@@ -123,6 +129,45 @@ fn entries_of(
     Ok(entries)
 }
 
+/// Puts entries behind the log.
+fn append_all(log: &mut Log, entries: Entries)
+    requires room { length entries ≤ log.old.spare }
+    requires index { last_index log.old.log + length entries < 2 ^ 64 }
+    ensures { log.new.log ≡ appended log.old.log entries }
+{
+    for entry in entries.into_vec() {
+        log.append(entry);
+    }
+}
+
+/// Frees the latches of attempts.
+fn free_all(latches: &mut Latches, ids: &[CmdId])
+    ensures { latches.new.list ≡ freed_all ids.now latches.old.list }
+{
+    for id in ids {
+        latches.free(*id);
+    }
+}
+
+/// Ends attempts.
+fn finish_all(pending: &mut Pending, ids: &[CmdId])
+    ensures { pending.new.list ≡ without_all ids.now pending.old.list }
+{
+    for id in ids {
+        pending.finish(*id);
+    }
+}
+
+/// Proposes commands, each under its lease index.
+fn propose_all(pending: &mut Pending, writes: &[(CmdId, LeaseIndex)], now: Tick, round: u64)
+    requires { ArePending writes.now pending.old.list }
+    ensures { pending.new.list ≡ proposed_all writes.now now round pending.old.list }
+{
+    for write in writes {
+        pending.propose(write.0, write.1, now, round);
+    }
+}
+
 impl Replica {
     pub(crate) fn plan_flush(
         &self,
@@ -133,14 +178,14 @@ impl Replica {
         requires { MayFlush self.now.replica }
         ensures { IfOk result (λ p. Makes self.now.replica p (flushed self.now.replica now round)) }
     {
-        let lease = self.applied.lease();
         let waiting = self.pending.waiting()?;
+        let lai = self.applied.lai();
         let assigned = assign(
             alloc,
             &self.inbox,
             &waiting,
-            lease,
-            self.applied.lai(),
+            self.applied.lease(),
+            lai,
             self.assigned,
         )?;
         let Assigned {
@@ -150,7 +195,8 @@ impl Replica {
             last,
         } = assigned;
         let entries = entries_of(alloc, &self.pending, leases.as_slice(), writes.as_slice())?;
-        let outcomes = refusals(alloc, refused.as_slice(), lease)?;
+        let lease = self.applied.lease();
+        let outcomes = refusals(alloc, refused.as_slice(), &lease)?;
         Ok(ReplicaPlan::Flushes {
             flush: FlushPlan {
                 entries,
@@ -164,42 +210,11 @@ impl Replica {
         })
     }
 
-    /// Puts entries behind the log.
-    fn append_all(&mut self, entries: Entries)
-        requires room { length entries ≤ self.old.room.log }
-        requires index { last_index self.old.replica.log + length entries < 2 ^ 64 }
-        ensures { self.new.replica ≡ with_entries self.old.replica entries }
-    {
-        for entry in entries.into_vec() {
-            self.log.append(entry);
-        }
-    }
-
-    /// Ends refused attempts and frees their latches.
-    fn end_all(&mut self, refused: &[CmdId])
-        ensures { self.new.replica ≡ without_attempts self.old.replica refused.now }
-    {
-        for id in refused {
-            self.latches.free(*id);
-            self.pending.finish(*id);
-        }
-    }
-
-    /// Proposes commands, each under its lease index.
-    fn propose_all(&mut self, writes: &[(CmdId, LeaseIndex)], now: Tick, round: u64)
-        requires { All (λ w. IsSome (proposal_of w.0 self.old.replica.pending)) writes.now }
-        ensures { self.new.replica ≡ with_proposed self.old.replica writes.now now round }
-    {
-        for write in writes {
-            self.pending.propose(write.0, write.1, now, round);
-        }
-    }
-
     pub(crate) fn flush(&mut self, flush: FlushPlan) -> Effects
         requires fits { FlushFits self.old.replica flush }
         requires room { length flush.entries ≤ self.old.room.log }
-        ensures { record { replica = self.new.replica; answer = result.answer; outcomes = result.outcomes }
-            ≡ record { replica = after_flush self.old.replica flush; answer = answers.Done; outcomes = flush.outcomes } }
+        ensures { leaves self.new.replica result.answer result.outcomes
+            ≡ leaves (after_flush self.old.replica flush) answers.Done flush.outcomes }
     {
         let FlushPlan {
             entries,
@@ -210,9 +225,10 @@ impl Replica {
             round,
             outcomes,
         } = flush;
-        self.append_all(entries);
-        self.end_all(refused.as_slice());
-        self.propose_all(writes.as_slice(), now, round);
+        append_all(&mut self.log, entries);
+        free_all(&mut self.latches, refused.as_slice());
+        finish_all(&mut self.pending, refused.as_slice());
+        propose_all(&mut self.pending, writes.as_slice(), now, round);
         self.assigned = last;
         self.inbox.keep_front(0);
         Effects {

@@ -1,5 +1,5 @@
 ghost use Rattle.std.specs.Prelude.{◌≡◌, ◌≤◌, [], ◌∷◌, ◌++◌, OnOk, IfOk};
-ghost use Rattle.rp_replica.specs.Replicas.{Done, committed, started};
+ghost use Rattle.rp_replica.specs.Replicas.{Done, committed, leaves, started};
 ghost use Rattle.rp_replica.specs.Events.{event, peeked};
 ghost use Rattle.rp_replica.specs.Plans.{Makes, PlanFits, HasRoom, IsRoomWithin, planned};
 ghost use Rattle.rp_replica.specs.Allows.{Allows};
@@ -173,9 +173,9 @@ impl Replica {
     pub fn commit(&mut self, alloc: Global, plan: ReplicaPlan) -> Effects
         requires fits { PlanFits self.old.replica plan }
         requires room { HasRoom self.old.room plan }
-        ensures { record { replica = self.new.replica; answer = result.answer; outcomes = result.outcomes } ≡ planned self.old.replica plan }
+        ensures done { leaves self.new.replica result.answer result.outcomes ≡ planned self.old.replica plan }
         ensures made { (d : Done) → Makes self.old.replica plan d
-            → record { replica = self.new.replica; answer = result.answer; outcomes = result.outcomes } ≡ d }
+            → leaves self.new.replica result.answer result.outcomes ≡ d }
     {
         let none = Outcomes::new(alloc);
         match plan {
