@@ -1,12 +1,15 @@
 -- What the check at application tells, and what tells the check.
-use Rattle.std.proofs.Common.{◌≡◌, ◌≢◌, ℕ, ◌∙◌, ◌≤◌, ◌<◌, ◌⊎◌, inl, inr, ◌+◌, Bool, true, false, ◌==◌, eqb, nat_le, cond, Option, Some, None, arith, refl}
+use Rattle.std.proofs.Common.{◌≡◌, ◌≢◌, ℕ, ◌∙◌, ◌≤◌, ◌<◌, ◌⊎◌, ◌↔◌, inl, inr, ◌+◌, Bool, true, false, ◌==◌, eqb, nat_le, cond, Option, Some, None, arith, refl}
 use Rattle.std.proofs.lemmas.Bool.Decides.{nat_tests}
 use Rattle.rp_base.specs.declared.leases.Lease.{Lease}
 use Rattle.rp_base.specs.declared.leases.LeaseAsk.{LeaseAsk}
 use Rattle.rp_base.proofs.LeaseLaws.{lease_follows}
 use Rattle.rp_request.specs.declared.commands.Command.{Command}
+use Rattle.rp_request.specs.declared.commands.Payload.TheVariants as payloads
+use Rattle.rp_request.specs.declared.items.Place.TheVariants as places
+use Rattle.rp_request.specs.declared.items.Record.TheVariants as kept
 use Rattle.rp_apply.specs.declared.verdicts.Verdict.TheVariants.{Took, OldLease, OldIndex}
-use Rattle.rp_apply.specs.Applied.{AppliedState, command_verdict, asked}
+use Rattle.rp_apply.specs.Applied.{AppliedState, command_verdict, asked, ask_record, record_of, verdict}
 
 -- the check of a command, by its two tests
 pub by_tests : (s : AppliedState) (c : Command) (same past : Bool) → eqb c.seq s.lease.seq ≡ same → nat_le c.max s.lai ≡ past
@@ -53,3 +56,16 @@ pub asked_tells : (s : AppliedState) (ask : LeaseAsk) (new : Lease) → asked s 
     ⊎ ((new.holder ≢ s.lease.holder) × (new.seq ≡ s.lease.seq + 1))
 unfolding asked
 asked_tells s ask new h = lease_follows s.lease ask new h
+
+-- the item of an ask that is taken is its lease
+item_is : (new : Option Lease) (lease : Lease) → ask_record new ≡ kept.Took (places.Lease lease) → new ≡ Some lease
+item_is (Some l) lease h = cc
+item_is None lease h = absurd cc
+
+pub item_tells : (s : AppliedState) (ask : LeaseAsk) (new : Lease) → record_of s (payloads.Lease ask) ≡ kept.Took (places.Lease new)
+    → ((new.holder ≡ s.lease.holder) × (new.seq ≡ s.lease.seq) × (s.lease.expires ≤ new.expires))
+    ⊎ ((new.holder ≢ s.lease.holder) × (new.seq ≡ s.lease.seq + 1))
+item_tells s ask new h = asked_tells s ask new (item_is (asked s ask) new h)
+
+pub taken_where : (s : AppliedState) (c : Command) → (verdict s (payloads.Write c) ≡ Took) ↔ ((c.seq ≡ s.lease.seq) × (s.lai < c.max))
+taken_where s c = (took_tells s c, λ x. takes s c x.0 x.1)

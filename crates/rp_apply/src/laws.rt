@@ -1,11 +1,30 @@
 //! Laws of applied states, for the proofs above. No program calls these functions.
-ghost use Rattle.std.specs.Prelude.{◌≡◌, ◌≢◌, ◌++◌, List};
+ghost use Rattle.std.specs.Prelude.{◌≡◌, ◌≢◌, ◌+◌, ◌≤◌, ◌<◌, ◌↔◌, ◌⊎◌, ◌++◌, List};
+ghost use Rattle.rp_base.specs.declared.leases.Lease.{Lease};
+ghost use Rattle.rp_base.specs.declared.leases.LeaseAsk.{LeaseAsk};
 ghost use Rattle.rp_request.specs.declared.commands.Command.{Command};
 ghost use Rattle.rp_request.specs.declared.commands.Payload.{Payload};
 ghost use Rattle.rp_request.specs.declared.commands.Payload.TheVariants as payloads;
+ghost use Rattle.rp_request.specs.declared.items.Place.TheVariants as places;
+ghost use Rattle.rp_request.specs.declared.items.Record.TheVariants as records;
 ghost use Rattle.rp_apply.specs.declared.verdicts.Verdict.TheVariants.{Took};
-ghost use Rattle.rp_apply.specs.Applied.{AppliedState, verdict, after_all, records_of, IsBlocked};
+ghost use Rattle.rp_apply.specs.Applied.{AppliedState, verdict, record_of, after_all, records_of, IsBlocked};
 ghost use Rattle.rp_apply.specs.Onward.{IsOnward};
+
+/// A command is taken exactly where its lease sequence is the present one and its maximum is above the
+/// lease applied index.
+pub fn a_command_is_taken_exactly_where()
+    ensures { (s : AppliedState) (c : Command)
+        → (verdict s (payloads.Write c) ≡ Took) ↔ ((c.seq ≡ s.lease.seq) × (s.lai < c.max)) }
+{}
+
+/// The lease of an ask that is taken: holder and sequence stay and the expiry does not fall, or the
+/// holder is another and the sequence rises by one.
+pub fn a_taken_ask_keeps_or_moves_the_lease()
+    ensures { (s : AppliedState) (ask : LeaseAsk) (new : Lease) → record_of s (payloads.Lease ask) ≡ records.Took (places.Lease new)
+        → ((new.holder ≡ s.lease.holder) × (new.seq ≡ s.lease.seq) × (s.lease.expires ≤ new.expires))
+        ⊎ ((new.holder ≢ s.lease.holder) × (new.seq ≡ s.lease.seq + 1)) }
+{}
 
 /// Along a list of payloads neither the lease applied index nor the lease sequence falls, and where
 /// the sequence is the same, so is the lease's holder.

@@ -103,6 +103,12 @@ fn apply(state: &mut ApplyState, payload: &Payload) -> Option<Verdict> {
     (verdict == checked).then_some(verdict)
 }
 
+/// Whether these are the records at the last indexes, the last one first.
+fn lastly(state: &ApplyState, last: Record, before: Record) -> bool {
+    let mut records = state.records().iter().rev();
+    records.next() == Some(&last) && records.next() == Some(&before)
+}
+
 fn lease(holder: NodeId, seq: u64, expires: u64) -> Lease {
     Lease {
         holder,
@@ -123,21 +129,12 @@ fn a_command_applies_once(rt: HostRuntime) -> Result<(), Fail> {
         (&Payload::Nothing, Verdict::Nothing),
         (&command, Verdict::Took),
         (&command, passed),
-        (&command, passed),
     ] {
         assert!(rt; apply(&mut state, payload) == Some(want));
     }
-    assert!(rt;
-        state.records()
-            == [
-                Record::Passed(Why::Nothing),
-                took(a, 2, 1),
-                Record::Passed(Why::OldIndex),
-                Record::Passed(Why::OldIndex),
-            ]
-            .as_slice()
-    );
-    assert!(rt; state.index() == 4 && state.lai() == LeaseIndex::new(1));
+    assert!(rt; lastly(&state, Record::Passed(Why::OldIndex), took(a, 2, 1)));
+    assert!(rt; state.index() == 3 && state.lai() == LeaseIndex::new(1));
+    assert!(rt; state.before() == 0 && state.records().len() == 3);
     assert!(rt; state.table().len() == 1 && state.table().get(a) == Some(2));
     Ok(())
 }
@@ -173,21 +170,14 @@ fn a_lease_goes_there_and_back(rt: HostRuntime) -> Result<(), Fail> {
     assert!(rt; apply(&mut state, &ask(two, 1, 40)) == Some(Verdict::Took));
     assert!(rt; state.lease() == lease(two, 2, 40));
     assert!(rt; apply(&mut state, &ask(two, 1, 90)) == Some(Verdict::LeaseMoved));
+    let moved = Record::Took(Place::Lease(lease(two, 2, 40)));
+    assert!(rt; lastly(&state, Record::Passed(Why::LeaseMoved), moved));
     assert!(rt; apply(&mut state, &ask(one, 2, 56)) == Some(Verdict::Took));
     assert!(rt; apply(&mut state, &ask(one, 3, 50)) == Some(Verdict::Took));
     assert!(rt; apply(&mut state, &command) == Some(passed));
     assert!(rt; state.lease() == lease(one, 3, 56) && state.lai() == LeaseIndex::new(0));
-    assert!(rt;
-        state.records()
-            == [
-                Record::Took(Place::Lease(lease(two, 2, 40))),
-                Record::Passed(Why::LeaseMoved),
-                Record::Took(Place::Lease(lease(one, 3, 56))),
-                Record::Took(Place::Lease(lease(one, 3, 56))),
-                Record::Passed(Why::OldLease),
-            ]
-            .as_slice()
-    );
+    let held = Record::Took(Place::Lease(lease(one, 3, 56)));
+    assert!(rt; lastly(&state, Record::Passed(Why::OldLease), held));
     Ok(())
 }
 
@@ -202,15 +192,13 @@ fn a_split_keeps_the_left_part(rt: HostRuntime) -> Result<(), Fail> {
     let desc = state.desc();
     assert!(rt; desc.level == 1 && desc.start == 0 && desc.end == m.bound());
     assert!(rt; state.table().len() == 0 && state.lai() == LeaseIndex::new(2));
-    assert!(rt;
-        state.records().get(1)
-            == Some(&Record::Took(Place::Split {
-                id: ID,
-                key: m,
-                right,
-                seq: LeaseSeq::new(1),
-            }),)
-    );
+    let item = Record::Took(Place::Split {
+        id: ID,
+        key: m,
+        right,
+        seq: LeaseSeq::new(1),
+    });
+    assert!(rt; lastly(&state, item, took(z, 9, 1)));
     Ok(())
 }
 
@@ -225,10 +213,11 @@ fn a_snapshot_keeps_records(rt: HostRuntime) -> Result<(), Fail> {
     state.reset(first_desc(), first_lease(), LeaseIndex::new(0), none, 7);
     assert!(rt; state.index() == 7 && state.before() == 7 && state.records().is_empty());
     assert!(rt; apply(&mut state, &command) == Some(Verdict::Took));
-    assert!(rt; state.index() == 8 && state.records() == [took(a, 5, 1)].as_slice());
+    assert!(rt; state.index() == 8 && state.records().first() == Some(&took(a, 5, 1)));
+    assert!(rt; state.records().len() == 1);
     assert!(rt; state.earlier().len() == 1);
     let piece = state.earlier().first().ok_or("a piece")?;
     assert!(rt; piece.before() == 0);
-    assert!(rt; piece.as_slice() == [Record::Passed(Why::Nothing)].as_slice());
+    assert!(rt; piece.as_slice().first() == Some(&Record::Passed(Why::Nothing)));
     Ok(())
 }

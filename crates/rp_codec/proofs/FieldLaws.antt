@@ -11,10 +11,10 @@ use Rattle.rp_base.specs.declared.KeySpan.{KeySpan}
 use Rattle.rp_base.proofs.KeyLaws.{spelled_as_read, read_as_spelled, key_text_len}
 use Rattle.rp_codec.specs.Cursors.{Left, past}
 use Rattle.rp_codec.specs.declared.faults.BadField.{BadField}
-use Rattle.rp_codec.specs.Fits.{FitsValue, FitsOption, FitsEnd, FitsSpan}
+use Rattle.rp_codec.specs.Fits.{AreBytes, FitsValue, FitsOption, FitsEnd, FitsSpan}
 use Rattle.rp_codec.specs.Reading.{Reader, bad, ◌>>=◌, given, refused, as_one_field, bytes_at, first_of, byte_at, byte_parts, byte_in, number_at, value_at, as_key, key_parts, key_at, option_parts, option_at, begins_with, end_where, end_at, span_of, span_parts, span_at}
 use Rattle.rp_codec.specs.Spelling.{value_bytes, key_bytes, option_bytes, end_bytes, span_bytes}
-use Rattle.rp_codec.proofs.Readers.{IsBytes, IsBytes-drop, IsBytes-take, IsBytes-rest, from_place, Again, again_given, again_then, again_last, again_one_field, Taken, Takes, takes_so, takes_given, takes_refused, Then, takes_then, Made, takes_last, takes_one_field, takes_if, found, found_is}
+use Rattle.rp_codec.proofs.Readers.{AreBytes-drop, AreBytes-take, AreBytes-rest, from_place, Again, again_given, again_then, again_last, again_one_field, Taken, Takes, takes_so, takes_given, takes_refused, Then, takes_then, Made, takes_last, takes_one_field, takes_if, found, found_is}
 use Rattle.rp_codec.proofs.Spans.{span_is}
 
 -- ---- so many bytes
@@ -29,7 +29,7 @@ guard_ok : {A : Type 0} (b : Bool) (place : ℕ) (x y : A) → cond b (bad place
 guard_ok true place x y e = absurd cc
 guard_ok false place x y e = (refl, found_is x y e)
 
-pub bytes_take : (n : ℕ) → Takes (bytes_at n) (λ text front. (text ≡ front) × (length text ≡ n) × IsBytes text)
+pub bytes_take : (n : ℕ) → Takes (bytes_at n) (λ text front. (text ≡ front) × (length text ≡ n) × AreBytes text)
 unfolding bytes_at
 bytes_take n left after x fits e =
     let g = guard_ok (ltb (length left.bytes) n) left.place (take n left.bytes, past n left) (x, after) e in
@@ -39,8 +39,8 @@ bytes_take n left after x fits e =
     record {
       text = x;
       parts = rw (← x-is, ← after-is) (sym (take-append-drop n left.bytes));
-      rest_fits = rw (← after-is) (IsBytes-drop n left.bytes fits);
-      says = (refl, ap length (sym x-is) ∙ omega (arith, length-take n left.bytes), rw (← x-is) (IsBytes-take n left.bytes fits));
+      rest_fits = rw (← after-is) (AreBytes-drop n left.bytes fits);
+      says = (refl, ap length (sym x-is) ∙ omega (arith, length-take n left.bytes), rw (← x-is) (AreBytes-take n left.bytes fits));
     }
 
 -- ---- one byte
@@ -49,13 +49,13 @@ pub byte_again : (b : ℕ) → Again byte_at (b ∷ []) b
 unfolding byte_at
 byte_again b place rest = refl
 
-first_taken : (place : ℕ) (bytes : List ℕ) (after : Left) (x : ℕ) → IsBytes bytes → first_of place bytes ≡ Ok (x, after) → (bytes ≡ x ∷ after.bytes) × IsBytes after.bytes × (x < 256)
+first_taken : (place : ℕ) (bytes : List ℕ) (after : Left) (x : ℕ) → AreBytes bytes → first_of place bytes ≡ Ok (x, after) → (bytes ≡ x ∷ after.bytes) × AreBytes after.bytes × (x < 256)
 first_taken place [] after x fits e = absurd cc
 first_taken place (b ∷ bytes) after x fits e =
     let same = found_is (b, from_place (place + 1) bytes) (x, after) e in
     let x-is : b ≡ x = ap (λ (p : ℕ × Left). p.0) same in
     let rest-is : bytes ≡ after.bytes = ap (λ (p : ℕ × Left). p.1.bytes) same in
-    (cc, rw (← rest-is) (IsBytes-rest b bytes fits), rw (← x-is) (fits 0))
+    (cc, rw (← rest-is) (AreBytes-rest b bytes fits), rw (← x-is) (fits 0))
 
 pub byte_takes : Takes byte_at (λ b text. (text ≡ b ∷ []) × (b < 256))
 unfolding byte_at
@@ -85,9 +85,9 @@ byte_in_takes low high =
 
 pub record IsWide (w : Width) (limit : ℕ) : Type 0 where
   pub len : (n : ℕ) → length (to_be_bytes w n) ≡ byte_len w
-  pub back : (bytes : List ℕ) → length bytes ≡ byte_len w → IsBytes bytes → to_be_bytes w (from_be_bytes w bytes) ≡ bytes
+  pub back : (bytes : List ℕ) → length bytes ≡ byte_len w → AreBytes bytes → to_be_bytes w (from_be_bytes w bytes) ≡ bytes
   pub again : (n : ℕ) → n < limit → from_be_bytes w (to_be_bytes w n) ≡ n
-  pub below : (bytes : List ℕ) → IsBytes bytes → from_be_bytes w bytes < limit
+  pub below : (bytes : List ℕ) → AreBytes bytes → from_be_bytes w bytes < limit
 
 pub wide16 : IsWide w16 (2 ^ 16)
 wide16 = record {
@@ -207,7 +207,7 @@ some_taken : Takes (key_at >>= λ k. given (Some k)) (λ end text. (text ≡ end
 unfolding end_bytes
 some_taken = takes_so _ _ _ (takes_last key_at Some _ key_takes) (λ end text m. (rw (m.is, m.of.0) refl, rw m.is m.of.1))
 
-end_taken : (left after : Left) (end : Option ℕ) (v : Bool) → begins_with 255 left.bytes ≡ v → IsBytes left.bytes → end_where v left ≡ Ok (end, after)
+end_taken : (left after : Left) (end : Option ℕ) (v : Bool) → begins_with 255 left.bytes ≡ v → AreBytes left.bytes → end_where v left ≡ Ok (end, after)
     → Taken (λ end text. (text ≡ end_bytes end) × FitsEnd end) left after end
 unfolding end_bytes
 end_taken left after end true h fits e =

@@ -4,3 +4,4 @@ pub mod Readers
 pub mod FieldLaws
 pub mod PayloadLaws
 pub mod SpellingLaws
+pub mod WorkedBytes

@@ -94,8 +94,10 @@ cput_takes = takes_so _ _ _
     (takes_then key_at (λ k. option_at >>= λ o. value_at >>= λ v. given (requests.CPut k o v)) _ (λ k. Then _ (λ o. Made (requests.CPut k o) _)) key_takes
     (λ k text is. takes_then option_at (λ o. value_at >>= λ v. given (requests.CPut k o v)) _ (λ o. Made (requests.CPut k o) _) option_takes
     (λ o text is. takes_last value_at (requests.CPut k o) _ value_takes)))
-    (λ r text t. (rw (t.second.second.is, t.joined, t.second.joined, t.first.0, t.second.first.0, t.second.second.of.0) (ap (λ (bytes : List ℕ). 3 ∷ bytes) (sym (append_assoc (key_bytes t.value) (option_bytes t.second.value) (value_bytes t.second.second.value)))),
-    rw t.second.second.is (t.first.1, t.second.first.1, t.second.second.of.1)))
+    (λ r text t. (
+      rw (t.second.second.is, t.joined, t.second.joined, t.first.0, t.second.first.0, t.second.second.of.0) (ap (λ (bytes : List ℕ). 3 ∷ bytes) (sym (append_assoc (key_bytes t.value) (option_bytes t.second.value) (value_bytes t.second.second.value)))),
+      rw t.second.second.is (t.first.1, t.second.first.1, t.second.second.of.1),
+    ))
 
 del_takes : Takes del_at (SaysRequest 4)
 unfolding del_at request_bytes
@@ -111,8 +113,10 @@ move_takes = takes_so _ _ _
     (takes_then key_at (λ k. key_at >>= λ l. number_at w64 >>= λ n. given (requests.Move k l n)) _ (λ k. Then _ (λ l. Made (requests.Move k l) _)) key_takes
     (λ k text is. takes_then key_at (λ l. number_at w64 >>= λ n. given (requests.Move k l n)) _ (λ l. Made (requests.Move k l) _) key_takes
     (λ l text is. takes_last (number_at w64) (requests.Move k l) _ n64_takes)))
-    (λ r text t. (rw (t.second.second.is, t.joined, t.second.joined, t.first.0, t.second.first.0, t.second.second.of.0) (ap (λ (bytes : List ℕ). 6 ∷ bytes) (sym (append_assoc (key_bytes t.value) (key_bytes t.second.value) (to_be_bytes w64 t.second.second.value)))),
-    rw t.second.second.is (t.first.1, t.second.first.1, t.second.second.of.1)))
+    (λ r text t. (
+      rw (t.second.second.is, t.joined, t.second.joined, t.first.0, t.second.first.0, t.second.second.of.0) (ap (λ (bytes : List ℕ). 6 ∷ bytes) (sym (append_assoc (key_bytes t.value) (key_bytes t.second.value) (to_be_bytes w64 t.second.second.value)))),
+      rw t.second.second.is (t.first.1, t.second.first.1, t.second.second.of.1),
+    ))
 
 split_takes : Takes split_at (SaysRequest 7)
 unfolding split_at request_bytes
@@ -276,8 +280,10 @@ ask_takes = takes_so _ _ _
     (λ holder text is. takes_then (number_at w64) (λ prev. number_at w64 >>= λ expires. given (record { holder = holder; prev = prev; expires = expires })) _
     (λ prev. Made (λ expires. let a : LeaseAsk = record { holder = holder; prev = prev; expires = expires } in a) _) n64_takes
     (λ prev text is. takes_last (number_at w64) (λ expires. let a : LeaseAsk = record { holder = holder; prev = prev; expires = expires } in a) _ n64_takes)))
-    (λ a text t. (rw (t.second.second.is, t.joined, t.second.joined, t.first.0, t.second.first.0, t.second.second.of.0) refl,
-    rw t.second.second.is (record { from_one = t.first.1; to_five = t.first.2; prev = t.second.first.1; expires = t.second.second.of.1 })))
+    (λ a text t. (
+      rw (t.second.second.is, t.joined, t.second.joined, t.first.0, t.second.first.0, t.second.second.of.0) refl,
+      rw t.second.second.is (record { from_one = t.first.1; to_five = t.first.2; prev = t.second.first.1; expires = t.second.second.of.1 }),
+    ))
 
 regroup : (a b c d e f : List ℕ) → a ++ (b ++ (c ++ (d ++ (e ++ f)))) ≡ a ++ b ++ c ++ d ++ e ++ f
 regroup a b c d e f = simp append_assoc
@@ -370,9 +376,10 @@ command_says c text t =
     let line : text ≡ id_bytes t.value ++ (to_be_bytes w64 s.value ++ (to_be_bytes w64 m.value ++ (request_bytes r.value ++ (reply_bytes p.value ++ batch_bytes b.value)))) =
     rw (t.joined, s.joined, m.joined, r.joined, p.joined, t.first.0, s.first.0, m.first.0, r.first.0, p.first.0, b.of.0) refl in
     let P : Command → Type 0 = λ c. (text ≡ command_bytes c) × FitsCommand c in
-    subst P (sym b.is)
-    (line ∙ regroup (id_bytes t.value) (to_be_bytes w64 s.value) (to_be_bytes w64 m.value) (request_bytes r.value) (reply_bytes p.value) (batch_bytes b.value),
-    record { id = t.first.1; seq = s.first.1; max = m.first.1; request = r.first.1; reply = p.first.1; batch = b.of.1 })
+    subst P (sym b.is) (
+      line ∙ regroup (id_bytes t.value) (to_be_bytes w64 s.value) (to_be_bytes w64 m.value) (request_bytes r.value) (reply_bytes p.value) (batch_bytes b.value),
+      record { id = t.first.1; seq = s.first.1; max = m.first.1; request = r.first.1; reply = p.first.1; batch = b.of.1 },
+    )
 
 pub command_takes : Takes command_at (λ c text. (text ≡ command_bytes c) × FitsCommand c)
 command_takes = takes_so command_at (Then SaysId AfterId) _ command_parts command_says

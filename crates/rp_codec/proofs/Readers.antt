@@ -3,24 +3,22 @@ use Rattle.std.proofs.Common.{◌≡◌, ℕ, zero, suc, ◌+◌, ◌^◌, ◌<�
 use Rattle.std.proofs.lemmas.Bool.{cases_lt}
 use Rattle.std.proofs.lemmas.List.{append-nil, length-append, length-take, get_or-drop, get_or-take, get_or_past}
 use Rattle.rp_codec.specs.Cursors.{Left}
+use Rattle.rp_codec.specs.Fits.{AreBytes}
 use Rattle.rp_codec.specs.declared.faults.BadField.{BadField}
 use Rattle.rp_codec.specs.Reading.{Reader, going_on, ◌>>=◌, given, refused, begun_at, as_one_field}
 
-abbrev pub IsBytes : List ℕ → Type 0
-IsBytes bytes = (i : ℕ) → get_or bytes i 0 < 256
+pub AreBytes-drop : (n : ℕ) (bytes : List ℕ) → AreBytes bytes → AreBytes (drop n bytes)
+AreBytes-drop n bytes h i = rw get_or-drop (h (n + i))
 
-pub IsBytes-drop : (n : ℕ) (bytes : List ℕ) → IsBytes bytes → IsBytes (drop n bytes)
-IsBytes-drop n bytes h i = rw get_or-drop (h (n + i))
-
-pub IsBytes-take : (n : ℕ) (bytes : List ℕ) → IsBytes bytes → IsBytes (take n bytes)
-IsBytes-take n bytes h i =
+pub AreBytes-take : (n : ℕ) (bytes : List ℕ) → AreBytes bytes → AreBytes (take n bytes)
+AreBytes-take n bytes h i =
     elim (cases_lt i n) [
       | inl lt ↦ rw (get_or-take n bytes i 0 lt) (h i)
       | inr le ↦ rw (get_or_past (take n bytes) i 0 (omega (arith, length-take n bytes))) (omega arith)
     ]
 
-pub IsBytes-rest : (b : ℕ) (bytes : List ℕ) → IsBytes (b ∷ bytes) → IsBytes bytes
-IsBytes-rest b bytes h i = h (suc i)
+pub AreBytes-rest : (b : ℕ) (bytes : List ℕ) → AreBytes (b ∷ bytes) → AreBytes bytes
+AreBytes-rest b bytes h i = h (suc i)
 
 abbrev pub from_place : ℕ → List ℕ → Left
 from_place place bytes = record { place = place; bytes = bytes }
@@ -49,11 +47,11 @@ again_one_field p s x hp place rest = rw (hp place rest) refl
 pub record Taken {A : Type 0} (P : A → List ℕ → Type 0) (left after : Left) (x : A) : Type 0 where
   pub text : List ℕ
   pub parts : left.bytes ≡ text ++ after.bytes
-  pub rest_fits : IsBytes after.bytes
+  pub rest_fits : AreBytes after.bytes
   pub says : P x text
 
 abbrev pub Takes : {A : Type 0} → Reader A → (A → List ℕ → Type 0) → Type 0
-Takes {A} p P = (left after : Left) (x : A) → IsBytes left.bytes → p left ≡ Ok (x, after) → Taken P left after x
+Takes {A} p P = (left after : Left) (x : A) → AreBytes left.bytes → p left ≡ Ok (x, after) → Taken P left after x
 
 pub takes_so : {A : Type 0} (p : Reader A) (P Q : A → List ℕ → Type 0) → Takes p P → ((x : A) (text : List ℕ) → P x text → Q x text) → Takes p Q
 takes_so p P Q h weaker left after x fits e =
@@ -79,7 +77,7 @@ ok_both {A} x y left after e =
 pub takes_given : {A : Type 0} (x : A) → Takes (given x) (λ y text. (y ≡ x) × (text ≡ []))
 takes_given x left after y fits e =
     let same = ok_both x y left after e in
-    record { text = []; parts = ap (λ (l : Left). l.bytes) same.1; rest_fits = subst (λ (l : Left). IsBytes l.bytes) same.1 fits; says = (sym same.0, refl) }
+    record { text = []; parts = ap (λ (l : Left). l.bytes) same.1; rest_fits = subst (λ (l : Left). AreBytes l.bytes) same.1 fits; says = (sym same.0, refl) }
 
 pub takes_refused : {A : Type 0} (P : A → List ℕ → Type 0) → Takes (refused {A = A}) P
 takes_refused P left after y fits e = absurd cc
@@ -125,7 +123,7 @@ takes_last p f P hp left after y fits e =
     record {
       text = a.text;
       parts = a.parts ∙ ap (λ (l : Left). a.text ++ l.bytes) same.1;
-      rest_fits = subst (λ (l : Left). IsBytes l.bytes) same.1 a.rest_fits;
+      rest_fits = subst (λ (l : Left). AreBytes l.bytes) same.1 a.rest_fits;
       says = record { value = step.0.0; is = sym same.0; of = a.says };
     }
 

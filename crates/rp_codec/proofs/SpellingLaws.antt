@@ -11,7 +11,7 @@ use Rattle.rp_codec.specs.Reading.{bad, ended, payload_at, payload_in, Gives}
 use Rattle.rp_codec.specs.Spelling.{spelling}
 use Rattle.rp_codec.specs.declared.faults.BadField.{BadField}
 use Rattle.rp_codec.specs.declared.faults.DecodeFault.{DecodeFault}
-use Rattle.rp_codec.proofs.Readers.{IsBytes, from_place, Again, Taken}
+use Rattle.rp_codec.proofs.Readers.{from_place, Again, Taken}
 use Rattle.rp_codec.proofs.PayloadLaws.{payload_again, payload_takes}
 
 -- a payload's spelling is read whatever follows it

@@ -49,9 +49,7 @@ pub fn number32(cursor: &mut Cursor) -> Result<u32, BadField>
     ensures { Reads result cursor.new (number_at w32 cursor.old) }
 {
     let bytes = cursor.bytes(4)?;
-    Ok(u32::from_be_bytes([
-        bytes[0], bytes[1], bytes[2], bytes[3],
-    ]))
+    Ok(u32::from_be_bytes([bytes[0], bytes[1], bytes[2], bytes[3]]))
 }
 
 /// Reads a number of 8 bytes.

@@ -1,9 +1,11 @@
 //! Laws of the definitions, for the proofs above. No program calls these functions.
-ghost use Rattle.std.specs.Prelude.{◌≡◌, ℕ, List, [], ◌∷◌, ◌++◌, length, Ok};
+ghost use Rattle.std.specs.Prelude.{◌≡◌, ℕ, List, [], ◌∷◌, ◌++◌, length, take, Ok};
 ghost use Rattle.rp_request.specs.declared.Payload.{Payload};
 ghost use Rattle.rp_codec.specs.Fits.{AreBytes, FitsPayload};
 ghost use Rattle.rp_codec.specs.Reading.{bad, payload_in};
 ghost use Rattle.rp_codec.specs.Spelling.{spelling};
+ghost use Rattle.rp_codec.specs.Worked.{put_of_a, put_bytes};
+ghost use Rattle.rp_request.specs.declared.Payload.TheVariants.{Nothing};
 
 /// Each payload's spelling is read, and gives the payload.
 #[tactic(auto, using(crate::proofs::SpellingLaws::read_as_spelled))]
@@ -31,4 +33,21 @@ pub fn no_spelling_begins_another()
 #[tactic(auto, using(crate::proofs::SpellingLaws::read_past))]
 pub fn bytes_behind_a_payload_are_bad()
     ensures { (p : Payload) (b : ℕ) (more : List ℕ) → FitsPayload p → payload_in (spelling p ++ b ∷ more) ≡ bad (length (spelling p)) }
+{}
+
+/// A put is these 51 bytes, and is read from them; it is bad at 43 without the last of them, and at
+/// 51 with a byte behind them.
+#[tactic(auto, using(crate::proofs::WorkedBytes::put_spelled, crate::proofs::WorkedBytes::put_read, crate::proofs::WorkedBytes::put_cut, crate::proofs::WorkedBytes::put_behind))]
+pub fn a_put_is_51_bytes()
+    ensures spelled { spelling put_of_a ≡ put_bytes }
+    ensures read { payload_in put_bytes ≡ Ok put_of_a }
+    ensures cut { payload_in (take 50 put_bytes) ≡ bad 43 }
+    ensures behind { payload_in (put_bytes ++ 0 ∷ []) ≡ bad 51 }
+{}
+
+/// `Nothing` is two bytes, and no bytes are bad at 0.
+#[tactic(auto, using(crate::proofs::WorkedBytes::nothing_read, crate::proofs::WorkedBytes::nothing_at_all))]
+pub fn nothing_is_two_bytes()
+    ensures read { payload_in (1 ∷ 0 ∷ []) ≡ Ok Nothing }
+    ensures none { payload_in [] ≡ bad 0 }
 {}

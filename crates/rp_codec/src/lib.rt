@@ -8,6 +8,8 @@ mod faults;
 mod fields;
 pub mod laws;
 mod reading;
+#[cfg(test)]
+mod tests;
 mod writing;
 
 pub use faults::DecodeFault;

@@ -1,3 +1,4 @@
 pub mod Does
 pub mod ReadParts
 pub mod Inside
+pub mod Few

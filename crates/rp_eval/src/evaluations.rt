@@ -392,4 +392,155 @@ mod tests {
         }
         Ok(())
     }
+
+    /// Evaluates a request, writes its batch, and tells the reply.
+    fn done(alloc: Global, table: &mut Table, request: Request) -> Result<Reply, EvalFault> {
+        let done = evaluate(alloc, table, first_desc(), request)?;
+        for op in done.batch.as_slice() {
+            match *op {
+                Op::Set { key, value } => {
+                    table.make_room(1)?;
+                    table.write_one(key, value);
+                }
+                Op::Remove { key } => table.remove_one(key),
+            }
+        }
+        Ok(done.reply)
+    }
+
+    /// Whether the requests, one after another, have these answers.
+    fn play(
+        alloc: Global,
+        table: &mut Table,
+        rows: &[(Request, Result<Reply, EvalFault>)],
+    ) -> bool {
+        for row in rows {
+            let reply = done(alloc, table, row.0);
+            if reply != row.1 {
+                return false;
+            }
+        }
+        true
+    }
+
+    #[test]
+    fn the_greatest_value(rt: HostRuntime) -> Result<(), Fail> {
+        let (a, b) = (key("a")?, key("b")?);
+        let most = u64::MAX;
+        let mut table = Table::new(rt.alloc());
+        let rows = [
+            (Request::Put { key: a, value: 1 }, Ok(Reply::Old(None))),
+            (
+                Request::Add { key: a, by: most },
+                Err(EvalFault::Overflow { actual: 1 }),
+            ),
+            (Request::Add { key: b, by: most }, Ok(Reply::Now(most))),
+        ];
+        assert!(rt; play(rt.alloc(), &mut table, &rows));
+        assert_eq!(rt; table.get(a), Some(1));
+        assert_eq!(rt; table.get(b), Some(most));
+        Ok(())
+    }
+
+    #[test]
+    fn moves(rt: HostRuntime) -> Result<(), Fail> {
+        let (a, b) = (key("a")?, key("b")?);
+        let mut table = Table::new(rt.alloc());
+        let own = Request::Move {
+            from: a,
+            to: a,
+            by: 3,
+        };
+        let short = Request::Move {
+            from: a,
+            to: b,
+            by: 4,
+        };
+        let rows = [
+            (Request::Put { key: a, value: 3 }, Ok(Reply::Old(None))),
+            (own, Ok(Reply::Now(3))),
+            (short, Err(EvalFault::Short { actual: 3 })),
+        ];
+        assert!(rt; play(rt.alloc(), &mut table, &rows));
+        assert_eq!(rt; table.get(a), Some(3));
+        assert_eq!(rt; table.len(), 1);
+        Ok(())
+    }
+
+    /// What is expected, what is wiped, and what is deleted.
+    #[test]
+    fn ends_of_a_key(rt: HostRuntime) -> Result<(), Fail> {
+        let (a, b) = (key("a")?, key("b")?);
+        let span = KeySpan::new(a, Some(b)).ok_or("a span")?;
+        let mut table = Table::new(rt.alloc());
+        let absent = Request::CPut {
+            key: a,
+            expect: None,
+            value: 2,
+        };
+        let present = Request::CPut {
+            key: a,
+            expect: Some(1),
+            value: 2,
+        };
+        let rows = [
+            (Request::Put { key: a, value: 1 }, Ok(Reply::Old(None))),
+            (absent, Err(EvalFault::ConditionFailed { actual: Some(1) })),
+            (present, Ok(Reply::Set)),
+            (Request::Wipe { span }, Ok(Reply::Count(1))),
+            (Request::Del { key: a }, Ok(Reply::Old(None))),
+        ];
+        assert!(rt; play(rt.alloc(), &mut table, &rows));
+        assert_eq!(rt; table.len(), 0);
+        Ok(())
+    }
+
+    /// The key `k01`, and so on, up to `k99`.
+    fn numbered(n: u8) -> Result<Key, Fail> {
+        let text = [b'k', b'0' + n / 10 % 10, b'0' + n % 10];
+        Ok(Key::read(&text)?)
+    }
+
+    #[test]
+    fn wipes_of_17_keys(rt: HostRuntime) -> Result<(), Fail> {
+        let mut table = Table::new(rt.alloc());
+        for n in 1..18u8 {
+            let key = numbered(n)?;
+            table.make_room(1)?;
+            table.write_one(key, 1);
+        }
+        let end = Some(numbered(18)?);
+        let all = KeySpan::new(numbered(1)?, end).ok_or("a span")?;
+        let most = KeySpan::new(numbered(2)?, end).ok_or("a span")?;
+        let rows = [
+            (
+                Request::Wipe { span: all },
+                Err(EvalFault::TooWide { count: 17 }),
+            ),
+            (Request::Wipe { span: most }, Ok(Reply::Count(16))),
+        ];
+        assert!(rt; play(rt.alloc(), &mut table, &rows));
+        assert_eq!(rt; table.len(), 1);
+        Ok(())
+    }
+
+    /// The left part of a range and the right one.
+    fn parts(desc: Desc, text: &str) -> Result<(Desc, Desc), Fail> {
+        Ok(split_at(desc, key(text)?).ok().ok_or("a split")?)
+    }
+
+    #[test]
+    fn splits(rt: HostRuntime) -> Result<(), Fail> {
+        let (left, right) = parts(first_desc(), "m")?;
+        let (left, _) = parts(left, "f")?;
+        let (left, _) = parts(left, "c")?;
+        let table = Table::new(rt.alloc());
+        let fourth = Request::Split { key: key("b")? };
+        let own_start = Request::Split { key: key("m")? };
+        let too_many = evaluate(rt.alloc(), &table, left, fourth).err();
+        assert_eq!(rt; too_many, Some(EvalFault::SplitLimit { level: 3 }));
+        let outside = evaluate(rt.alloc(), &table, right, own_start).err();
+        assert_eq!(rt; outside, Some(EvalFault::NotInside));
+        Ok(())
+    }
 }

@@ -1,5 +1,5 @@
 //! Laws of evaluation, for the proofs above. No program calls these functions.
-ghost use Rattle.std.specs.Prelude.{◌≡◌, ℕ, IsTrue, IfOk, Ok};
+ghost use Rattle.std.specs.Prelude.{◌≡◌, ◌≤◌, ℕ, length, IsTrue, IfOk, Ok};
 ghost use Rattle.std.specs.List.{All};
 ghost use Rattle.std.specs.FinMap.{retain_keys};
 ghost use Rattle.rp_base.specs.declared.ranges.Desc.{Desc};
@@ -33,6 +33,11 @@ pub fn a_batch_does_the_effect()
 pub fn a_batch_does_the_effect_where_tables_agree()
     ensures { (s : Table) (t : Table) (d : Desc) (r : Request) (e : Evaluated) → retain_keys s (covers r) ≡ retain_keys t (covers r)
         → evaluated s d r ≡ Ok e → Does t d r e }
+{}
+
+/// A batch has at most 16 writes.
+pub fn a_batch_has_at_most_16_writes()
+    ensures { (t : Table) (d : Desc) (r : Request) (e : Evaluated) → evaluated t d r ≡ Ok e → length e.batch ≤ 16 }
 {}
 
 /// A split covers every key.

@@ -1,5 +1,5 @@
 -- Commands that wait, and how a map of them by id answers.
-use Rattle.std.proofs.Common.{◌≡◌, ℕ, ◌+◌, ◌<◌, ◌==◌, ◌&&◌, Bool, true, false, cond, Option, Some, None, List, [], ◌∷◌, ◌++◌, length, take, get_or, refl, ap, ◌∙◌, sym, subst, arith, eqb-true}
+use Rattle.std.proofs.Common.{◌≡◌, ℕ, ◌+◌, ◌<◌, ◌==◌, ◌&&◌, Bool, true, false, cond, Option, Some, None, List, [], ◌∷◌, ◌++◌, length, take, get_or, refl, ap, ◌∙◌, sym, arith, eqb-true}
 use Rattle.std.proofs.lemmas.Grind.{common_steps}
 use Rattle.std.proofs.lemmas.List.{take_more}
 use Rattle.std.specs.Prelude.{is_some}
@@ -35,7 +35,7 @@ at_same a b =
     ∙ ap (λ t. (a.client == b.client) && ((a.seq == b.seq) && t)) (number_equal a.attempt b.attempt)
     ∙ regroup (a.client == b.client) (a.seq == b.seq) (a.attempt == b.attempt)
 
-elim_false : false ≡ true → ⊥
+pub elim_false : false ≡ true → ⊥
 elim_false h = cc
 
 -- ids that pass the test are one

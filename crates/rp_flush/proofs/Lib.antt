@@ -1,2 +1,4 @@
 pub mod Finds
+pub mod Numbering
 pub mod Settling
+pub mod Shares

@@ -1,10 +1,9 @@
 -- One item of an inbox more.
-use Rattle.std.proofs.Common.{◌≡◌, ℕ, suc, ◌+◌, ◌≤◌, ◌<◌, ◌==◌, ◌||◌, Bool, true, false, cond, not, Option, Some, None, List, [], ◌∷◌, ◌++◌, length, take, get_or, refl, ap, ◌∙◌, sym, subst, arith, append-nil, length-append}
+use Rattle.std.proofs.Common.{◌≡◌, ℕ, suc, ◌+◌, ◌≤◌, ◌<◌, ◌==◌, ◌||◌, Bool, true, false, cond, not, Option, Some, None, List, [], ◌∷◌, ◌++◌, length, take, get_or, refl, ap, ◌∙◌, sym, arith, append-nil, length-append}
 use Rattle.std.proofs.lemmas.List.{take_more}
 use Rattle.std.proofs.lemmas.List.Elements.{filter-append, filter_map-append}
 use Rattle.std.proofs.lemmas.List.Folds.{list_any-append}
-use Rattle.std.specs.List.{filter, list_any}
-use Rattle.std.specs.BTreeMap.{is_at}
+use Rattle.std.specs.List.{filter}
 use Rattle.rp_base.specs.declared.ids.CmdId.{CmdId}
 use Rattle.rp_base.specs.declared.items.Item.{Item}
 use Rattle.rp_base.specs.declared.items.Item.TheVariants.{Write, Lease}
@@ -12,11 +11,8 @@ use Rattle.rp_base.specs.declared.leases.LeaseAsk.{LeaseAsk}
 use Rattle.rp_request.specs.declared.commands.Waiting.{Waiting}
 use Rattle.rp_flush.specs.declared.assigns.Assigned.{Assigned}
 use Rattle.rp_flush.specs.Assigns.{same_id, ask_of, id_of, asks_of, ids_of, once, seq_of, waits_under, waits_under_another, numbered, assigned_of}
-use Rattle.rp_flush.specs.Steps.{cmd_cmp, is_write_of, settled, with_item}
-
--- whether a command stands in a list
-abbrev pub stands : CmdId → List CmdId → Bool
-stands id ids = list_any (λ other. same_id other id) ids
+use Rattle.rp_flush.specs.Counts.{stands}
+use Rattle.rp_flush.specs.Steps.{is_write_of, settled, with_item}
 
 filter_yes : (p : CmdId → Bool) (xs : List CmdId) (x : CmdId) → p x ≡ true → filter p (xs ++ x ∷ []) ≡ filter p xs ++ x ∷ []
 filter_yes p xs x e = filter-append p xs (x ∷ []) ∙ ap (λ b. filter p xs ++ cond b (x ∷ []) []) e

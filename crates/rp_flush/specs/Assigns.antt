@@ -1,6 +1,6 @@
 -- What a flush makes of an inbox: what goes to Raft, in which order, and the lease index of each command
 -- (CockroachDB's proposal buffer).
-use Rattle.std.specs.Prelude.{ℕ, ◌+◌, Bool, true, false, ◌==◌, ◌&&◌, not, List, [], ◌∷◌, length, filter_map, Option, None, Some}
+use Rattle.std.specs.Prelude.{ℕ, ◌+◌, Bool, false, ◌==◌, ◌&&◌, not, List, [], ◌∷◌, length, filter_map, Option, None, Some}
 use Rattle.std.specs.List.{filter, find}
 use Rattle.std.specs.Option.{option_map, option_map_or}
 use Rattle.rp_base.specs.declared.ids.CmdId.{CmdId}

@@ -1,2 +1,3 @@
 pub mod Assigns
+pub mod Counts
 pub mod Steps

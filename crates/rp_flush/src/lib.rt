@@ -2,6 +2,9 @@
 #![tactic(auto)]
 
 mod assigns;
+pub mod laws;
+#[cfg(test)]
+mod tests;
 mod waits;
 
 pub use assigns::{Assigned, assign};

@@ -1,4 +1,7 @@
-pub mod Conflicts
-pub mod Apart
+pub mod Elements
 pub mod Places
-pub mod Members
+pub mod Ids
+pub mod Order
+pub mod Apart
+pub mod Conflicts
+pub mod Freed

@@ -1,5 +1,5 @@
 ghost use Rattle.std.specs.Prelude.{◌≡◌};
-ghost use Rattle.rp_latch.specs.Holds.{meets_one, met_in, conflict};
+ghost use Rattle.rp_latch.specs.Holds.{meets_one, met_in, held_by};
 
 use rp_base::{CmdId, Span, Spans};
 use std::error::Error;
@@ -50,17 +50,12 @@ fn met_in(held: Spans, asked: Spans) -> Option<Span>
     }
 }
 
-/// The oldest hold that meets the spans asked, with the first of its spans that does.
-pub fn conflict(holds: &[Hold], asked: Spans) -> Option<Held>
-    ensures { result ≡ conflict holds.now asked }
+/// Of the hold the first span that meets one asked.
+pub fn held_by(hold: Hold, asked: Spans) -> Option<Held>
+    ensures { result ≡ held_by hold asked }
 {
-    for hold in holds {
-        if let Some(span) = met_in(hold.spans, asked) {
-            return Some(Held {
-                by: hold.id,
-                held: span,
-            });
-        }
+    match met_in(hold.spans, asked) {
+        None => None,
+        Some(held) => Some(Held { by: hold.id, held }),
     }
-    None
 }

@@ -1,44 +1,52 @@
-ghost use Rattle.std.specs.Prelude.{◌≡◌, ◌≤◌, ◌<◌, ◌+◌, ◌||◌, Bool, [], IsFalse, OnOk, length};
-ghost use Rattle.std.specs.List.{AllWithin, filter, list_any};
+ghost use Rattle.std.specs.Prelude.{◌≡◌, ◌≤◌, ◌<◌, ◌+◌, cond, Bool, [], IsTrue, IsFalse, OnOk, length};
+ghost use Rattle.std.specs.List.{AllWithin, list_any, count_by};
 ghost use Rattle.rp_latch.specs.declared.index.Latch.{Latch};
-ghost use Rattle.rp_latch.specs.Holds.{some_meet, is_latch_of_other};
+ghost use Rattle.rp_latch.specs.Indexes.{some_meet, latch_meets, is_latch, lesser, IsOldest};
 
-use rp_base::{CmdId, NoMemory, Span};
+use rp_base::{NoMemory, Span};
 use std::alloc::Global;
+use std::collections::VecDeque;
 use std::marker::Model;
 
-/// A span that an attempt holds.
+/// A span that is held, and the number of its hold.
 #[derive(Clone, Copy, Debug, PartialEq, Eq)]
 pub struct Latch {
     pub span: Span,
-    pub id: CmdId,
+    pub number: u64,
 }
 
 /// Latches that do not meet, in the order of their starts. Contracts see the list, and apart from it
 /// the spare room.
 #[derive(Drop)]
 pub struct Index {
-    latches: Vec<Latch>,
+    latches: VecDeque<Latch, Global>,
 }
 
 impl Model for Index {
-    ghost use Rattle.std.specs.Prelude.{◌-◌, vec_len, vec_capacity};
+    ghost use Rattle.std.specs.Prelude.{◌-◌};
+    ghost use Rattle.std.specs.VecDeque.{deque_len, deque_capacity};
     ghost use Rattle.rp_base.specs.Kept.{Kept};
     ghost use Rattle.rp_latch.specs.declared.index.Latch.{Latch};
-    ghost use Rattle.rp_latch.specs.Holds.{InOrder};
+    ghost use Rattle.rp_latch.specs.Indexes.{InOrder};
 
     ghost Value = { Kept Latch };
 
-    ghost view = { λ l. record { list = l.latches.items; spare = vec_capacity l.latches - vec_len l.latches } };
+    ghost view = { λ l. record { list = l.latches.items; spare = deque_capacity l.latches - deque_len l.latches } };
 
     ghost invariant = { λ l. InOrder l.latches.items };
 }
 
-/// Whether the latch is another attempt's.
-fn is_of_other(id: CmdId, latch: &Latch) -> bool
-    ensures { result ≡ is_latch_of_other id latch.now }
+/// Of two numbers, each of which may be missing, the lesser.
+pub fn lesser(first: Option<u64>, second: Option<u64>) -> Option<u64>
+    ensures { result ≡ lesser first second }
 {
-    latch.id != id
+    match first {
+        None => second,
+        Some(n) => match second {
+            None => first,
+            Some(m) => Some(n.min(m)),
+        },
+    }
 }
 
 impl Index {
@@ -46,7 +54,7 @@ impl Index {
         ensures { result.list ≡ [] }
     {
         Index {
-            latches: Vec::new(alloc),
+            latches: VecDeque::new(alloc),
         }
     }
 
@@ -61,41 +69,57 @@ impl Index {
     }
 
     /// How many latches start below the bound, by binary search.
-    fn place(&self, end: u128) -> usize
+    fn starts_below(&self, bound: u128) -> usize
         ensures within { result ≤ length self.now.list }
-        ensures before { AllWithin (λ l. l.span.start < end) self.now.list 0 result }
-        ensures after { AllWithin (λ l. end ≤ l.span.start) self.now.list result (length self.now.list) }
+        ensures before { AllWithin (λ l. l.span.start < bound) self.now.list 0 result }
+        ensures after { AllWithin (λ l. bound ≤ l.span.start) self.now.list result (length self.now.list) }
     {
-        self.latches.partition_point(|latch| latch.span.start < end)
+        self.latches
+            .partition_point(|latch| latch.span.start < bound)
     }
 
-    /// Whether a latch meets the span.
-    pub fn meets(&self, span: Span) -> bool
-        ensures { result ≡ some_meet self.now.list span }
+    /// How many latches end at the bound or below, by binary search.
+    fn ends_by(&self, bound: u128) -> usize
+        ensures within { result ≤ length self.now.list }
+        ensures before { AllWithin (λ l. l.span.end ≤ bound) self.now.list 0 result }
+        ensures after { AllWithin (λ l. bound < l.span.end) self.now.list result (length self.now.list) }
     {
-        let at = self.place(span.end);
-        if at == 0 {
-            return false;
+        self.latches
+            .partition_point(|latch| latch.span.end <= bound)
+    }
+
+    /// The least number of the latches that meet the span. Those stand side by side, and no others are
+    /// gone through.
+    pub fn oldest(&self, span: Span) -> Option<u64>
+        ensures { IsOldest (latch_meets span) self.now.list result }
+    {
+        let from = self.ends_by(span.start);
+        let to = self.starts_below(span.end);
+        let mut oldest = None;
+        for at in from..to {
+            oldest = lesser(oldest, Some(self.latches[at].number));
         }
-        span.start < self.latches[at - 1].span.end
+        oldest
     }
 
     /// Puts a latch in, without memory.
     pub fn put(&mut self, latch: Latch)
         requires room { 1 ≤ self.old.spare }
         requires clear { IsFalse (some_meet self.old.list latch.span) }
-        ensures list { (p : Latch → Bool) → list_any p self.new.list ≡ (p latch || list_any p self.old.list) }
+        ensures list { (p : Latch → Bool) → count_by p self.new.list ≡ count_by p self.old.list + cond (p latch) 1 0 }
         ensures spare { self.old.spare ≤ self.new.spare + 1 }
     {
-        let at = self.place(latch.span.end);
+        let at = self.starts_below(latch.span.end);
         self.latches.insert(at, latch).unwrap();
     }
 
-    /// Takes the latches of an attempt out.
-    pub fn remove(&mut self, id: CmdId)
-        ensures list { self.new.list ≡ filter (is_latch_of_other id) self.old.list }
+    /// Takes a latch out.
+    pub fn remove(&mut self, latch: Latch)
+        requires { IsTrue (list_any (is_latch latch) self.old.list) }
+        ensures list { (p : Latch → Bool) → count_by p self.new.list + cond (p latch) 1 0 ≡ count_by p self.old.list }
         ensures spare { self.old.spare ≤ self.new.spare }
     {
-        self.latches.retain(|latch| is_of_other(id, latch));
+        let at = self.starts_below(latch.span.start);
+        self.latches.remove(at).unwrap();
     }
 }

@@ -1,10 +1,11 @@
 -- What a stable sort gives is the one list that ascends and keeps the order of equal keys.
-use Rattle.std.proofs.Common.{◌≡◌, ℕ, ◌≤◌, ◌<◌, Bool, true, false, cond, nat_le, List, [], ◌∷◌, length, get_or, refl, sym, ap, subst, ◌∙◌, arith, suc}
+use Rattle.std.proofs.Common.{◌≡◌, ℕ, ◌≤◌, ◌<◌, Bool, true, false, cond, nat_le, List, [], ◌∷◌, length, get_or, refl, sym, ap, subst, ◌∙◌, arith, ◌==◌, zero, suc}
 use Rattle.std.specs.List.{filter}
 use Rattle.std.specs.List.Sorted.{IsNonDecreasingBy, IsSortedByKey, IsStableByKey, ties}
 use Rattle.std.specs.Ordering.{is_lt, nat_cmp}
 use Rattle.std.proofs.lemmas.List.Sorted.{IsNonDecreasingBy-from_sort}
 use Rattle.std.proofs.lemmas.Bool.Decides.{nat_tests}
+use Rattle.std.proofs.lemmas.Bool.{eqb-true}
 use Rattle.rp_pending.specs.Refreshes.{put_by, by_key}
 
 module _ {X : Type 0} (key : X → ℕ) where
@@ -120,3 +121,21 @@ module _ {X : Type 0} (key : X → ℕ) where
   sorted_by_key xs ys sorted stable =
       one_list tied tied_says tied_holds ys (by_key key xs) (from_sorted ys (IsNonDecreasingBy-from_sort key ys sorted)) (by_key_ascends xs)
       (λ x. stable x ∙ sym (by_key_keeps (tied x) (λ y z h k. sym (tied_says x y h) ∙ tied_says x z k) xs))
+
+  at_place : (n : ℕ) (xs : List X) → AllFrom n xs → (j : ℕ) (d : X) → j < length xs → n ≤ key (get_or xs j d)
+  at_place n [] a j d l = absurd (omega arith)
+  at_place n (x ∷ xs) a zero d l = a.0
+  at_place n (x ∷ xs) a (suc j) d l = at_place n xs a.1 j d (omega arith)
+
+  rises : (xs : List X) → Ascends xs → IsNonDecreasingBy key xs
+  rises [] a i j d h l = absurd (omega arith)
+  rises (x ∷ xs) a zero zero d h l = omega arith
+  rises (x ∷ xs) a zero (suc j) d h l = at_place (key x) xs a.0 j d (omega arith)
+  rises (x ∷ xs) a (suc i) zero d h l = absurd (omega arith)
+  rises (x ∷ xs) a (suc i) (suc j) d h l = rises xs a.1 i j d (omega arith) (omega arith)
+
+  pub ascending : (xs : List X) → IsNonDecreasingBy key (by_key key xs)
+  ascending xs = rises (by_key key xs) (by_key_ascends xs)
+
+  pub in_their_order : (xs : List X) (n : ℕ) → filter (λ x. key x == n) (by_key key xs) ≡ filter (λ x. key x == n) xs
+  in_their_order xs n = by_key_keeps (λ x. key x == n) (λ x y h k. eqb-true _ _ h ∙ sym (eqb-true _ _ k)) xs

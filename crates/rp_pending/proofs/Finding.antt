@@ -1,12 +1,13 @@
 -- What is done to the slot of an id is done to the proposal that has it.
-use Rattle.std.proofs.Common.{◌≡◌, ◌+◌, ◌≤◌, Bool, true, false, cond, not, ◌&&◌, List, [], ◌∷◌, ◌++◌, length, Option, None, Some, is_some, refl, sym, ap, subst, ◌∙◌, arith}
+use Rattle.std.proofs.Common.{◌≡◌, ◌+◌, ◌≤◌, Bool, true, false, cond, not, ◌&&◌, map, List, [], ◌∷◌, ◌++◌, length, Option, None, Some, is_some, refl, sym, ap, subst, ◌∙◌, arith}
 use Rattle.std.specs.List.{IsDistinct, AllByRecursion, filter}
 use Rattle.std.specs.Map.{remove_entry, keys_of}
 use Rattle.std.specs.Option.{option_flatten, option_map}
 use Rattle.std.proofs.lemmas.Bool.{eqb-true}
 use Rattle.rp_base.specs.declared.ids.CmdId.{CmdId}
 use Rattle.rp_pending.specs.declared.proposals.Proposal.{Proposal}
-use Rattle.rp_pending.specs.Proposals.{same_id, has_id, proposal_of, without, with_changed}
+use Rattle.rp_flush.specs.Assigns.{same_id}
+use Rattle.rp_pending.specs.Proposals.{has_id, proposal_of, without, with_changed}
 use Rattle.rp_pending.specs.Slots.{Slot, proposals_in, IsNamed, AreNamed, slot_of, with_slot}
 
 and_true : (a b : Bool) → (a && b) ≡ true → (a ≡ true) × (b ≡ true)
@@ -218,3 +219,17 @@ none_goes id [] h = refl
 none_goes id (p ∷ ps) h =
     let c = cond_none _ _ _ h in
     ap (λ b. cond (not b) (p ∷ without id ps) (without id ps)) c.0 ∙ ap (λ qs. p ∷ qs) (none_goes id ps c.1)
+
+apart_below : (k : CmdId) (es : List Slot) → AllByRecursion (λ y. same_id k y ≡ false) (keys_of es) → AreNamed es
+    → AllByRecursion (λ y. same_id k y ≡ false) (map (λ p. p.id) (proposals_in es))
+apart_below k [] a n = tt
+apart_below k ((l, None) ∷ es) a n = apart_below k es a.1 n.1
+apart_below k ((l, Some p) ∷ es) a n = (ap (same_id k) n.0 ∙ a.0, apart_below k es a.1 n.1)
+
+-- no two proposals have one id
+pub ids_apart : (es : List Slot) → IsDistinct same_id (keys_of es) → AreNamed es → IsDistinct same_id (map (λ p. p.id) (proposals_in es))
+unfolding IsDistinct
+ids_apart [] d n = tt
+ids_apart ((k, None) ∷ es) d n = ids_apart es d.1 n.1
+ids_apart ((k, Some p) ∷ es) d n =
+    (subst (λ l. AllByRecursion (λ y. same_id l y ≡ false) (map (λ p. p.id) (proposals_in es))) (sym n.0) (apart_below k es d.0 n.1), ids_apart es d.1 n.1)

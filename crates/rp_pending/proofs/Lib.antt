@@ -1,4 +1,5 @@
 pub mod Ascending
 pub mod Finding
 pub mod Keeping
+pub mod Parting
 pub mod Reading

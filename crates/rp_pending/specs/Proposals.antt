@@ -1,14 +1,11 @@
 -- Pending proposals: a list in order of admission, whose ids are distinct.
-use Rattle.std.specs.Prelude.{ℕ, Bool, true, false, ◌&&◌, ◌==◌, not, if◌then◌else◌, map, List, Option, None, Some}
+use Rattle.std.specs.Prelude.{ℕ, Bool, true, false, not, if◌then◌else◌, map, List, Option, None, Some}
 use Rattle.std.specs.List.{find, filter}
 use Rattle.rp_base.specs.declared.ids.CmdId.{CmdId}
+use Rattle.rp_flush.specs.Assigns.{same_id}
 use Rattle.rp_pending.specs.declared.proposals.Proposal.{Proposal}
 use Rattle.rp_pending.specs.declared.proposals.Stage.{Stage}
 use Rattle.rp_pending.specs.declared.proposals.Stage.TheVariants as stages
-
--- two ids are one
-abbrev pub same_id : CmdId → CmdId → Bool
-same_id x y = x.client == y.client && x.seq == y.seq && x.attempt == y.attempt
 
 -- the proposal has the id
 abbrev pub has_id : CmdId → Proposal → Bool

@@ -2,10 +2,13 @@
 //! that were handed to the log and are proposed again where they were lost.
 #![tactic(auto)]
 
+pub mod laws;
 mod lists;
 mod proposals;
 mod refreshes;
 mod slots;
+#[cfg(test)]
+mod tests;
 
 pub use lists::Pending;
 pub use proposals::{Proposal, Stage};

@@ -1,10 +1,12 @@
-ghost use Rattle.std.specs.Prelude.{◌≡◌, ◌≤◌, ◌+◌, [], ◌∷◌, ◌++◌, OnOk, IfOk, IsSome};
+ghost use Rattle.std.specs.Prelude.{◌≡◌, ◌≤◌, ◌+◌, [], ◌∷◌, ◌++◌, map, OnOk, IfOk, IsSome};
+ghost use Rattle.std.specs.List.{IsDistinct};
 ghost use Rattle.std.specs.Option.{option_copied};
 ghost use Rattle.rp_pending.specs.Refreshes.{first_round, to_refresh, waiting_of};
+ghost use Rattle.rp_flush.specs.Assigns.{same_id};
 ghost use Rattle.rp_pending.specs.Proposals.{proposal_of, without, with_changed, proposed, waiting_again};
 
 use crate::proposals::{Change, Proposal};
-use crate::refreshes::{self, Refresh};
+use crate::refreshes::{self, Ids, Refresh};
 use crate::slots::{Slots, change, clear, get, put, take, tidy};
 use rp_base::{CmdId, LeaseIndex, NoMemory, Tick};
 use rp_flush::WaitList;
@@ -118,6 +120,13 @@ impl Pending {
         refreshes::first_round(&self.slots)
     }
 
+    /// The ids of all pending proposals, in order of admission.
+    pub fn ids(&self) -> Result<Ids, NoMemory>
+        ensures { IfOk result (λ ids. ids ≡ map (λ p. p.id) self.now.list) }
+    {
+        refreshes::ids(&self.slots)
+    }
+
     /// The proposals that wait for a lease index, in order of admission.
     pub fn waiting(&self) -> Result<WaitList, NoMemory>
         ensures { IfOk result (λ w. w ≡ waiting_of self.now.list) }
@@ -133,5 +142,12 @@ impl Pending {
         ensures { IfOk result (λ r. r ≡ to_refresh lai now all self.now.list) }
     {
         refreshes::to_refresh(&self.slots, lai, now, all)
+    }
+
+    /// No two pending proposals have one id. A law, which no program calls.
+    pub fn ids_are_distinct(&self)
+        ensures { IsDistinct same_id (map (λ p. p.id) self.now.list) }
+    {
+        let _ = &self.slots;
     }
 }

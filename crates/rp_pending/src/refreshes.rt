@@ -4,7 +4,7 @@ ghost use Rattle.std.specs.Option.{option_and_then};
 ghost use Rattle.rp_pending.specs.Proposals.{is_proposed};
 ghost use Rattle.rp_pending.specs.Refreshes.{by_key, first_round, goes_again, goes_back, ids_by_max, to_refresh, waiting_of, waits};
 ghost use Rattle.rp_pending.specs.Slots.{proposals_in};
-ghost use Rattle.rp_pending.specs.Sorting.{again_due, back_due, due};
+ghost use Rattle.rp_pending.specs.Dues.{again_due, back_due, due, id_of};
 
 use crate::proposals::{Proposal, Stage};
 use crate::slots::Slots;
@@ -127,6 +127,30 @@ pub(crate) fn waiting(slots: &Slots) -> Result<WaitList, NoMemory>
     ensures { IfOk result (λ w. w ≡ waiting_of (proposals_in slots.now.entries)) }
 {
     Ok(Seq::from_vec(waits_of(slots)?))
+}
+
+fn id_in(slot: &Option<Proposal>) -> Option<CmdId>
+    ensures { result ≡ option_and_then id_of slot.now }
+{
+    match slot {
+        None => None,
+        Some(proposal) => Some(proposal.id),
+    }
+}
+
+fn all_ids(slots: &Slots) -> Result<Vec<CmdId>, AllocError>
+    ensures { IfOk result (λ v. v.items ≡ filter_map id_of (proposals_in slots.now.entries)) }
+{
+    let alloc = *slots.allocator();
+    slots.values().filter_map(|slot| id_in(slot)).collect(alloc)
+}
+
+/// The ids of all proposals, in order of admission.
+#[tactic(auto, using(crate::proofs::Reading::ids_are))]
+pub(crate) fn ids(slots: &Slots) -> Result<Ids, NoMemory>
+    ensures { IfOk result (λ ids. ids ≡ map (λ p. p.id) (proposals_in slots.now.entries)) }
+{
+    Ok(Seq::from_vec(all_ids(slots)?))
 }
 
 fn round_in(slot: &Option<Proposal>) -> Option<u64>

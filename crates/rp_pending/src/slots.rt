@@ -4,7 +4,7 @@ ghost use Rattle.std.specs.Map.{keys_of, remove_entry};
 ghost use Rattle.std.specs.Option.{option_copied, option_flatten, option_map};
 ghost use Rattle.indexmap.specs.IndexMap.{spare};
 ghost use Rattle.rp_pending.specs.declared.proposals.Proposal.{Proposal};
-ghost use Rattle.rp_pending.specs.Proposals.{same_id};
+ghost use Rattle.rp_flush.specs.Assigns.{same_id};
 ghost use Rattle.rp_pending.specs.Slots.{changed, proposals_in, slot_of, with_slot, AreSound};
 
 use crate::proposals::{Change, Proposal};
@@ -13,6 +13,9 @@ use rp_base::CmdId;
 
 /// A slot for each id, in order of admission, empty where the proposal has ended.
 pub(crate) type Slots = IndexMap<CmdId, Option<Proposal>>;
+
+/// So few empty slots are left as they are.
+const FEW_SLOTS: usize = 64;
 
 /// Changes the proposal of a slot.
 fn change_in(slot: &mut Option<Proposal>, change: Change)
@@ -103,15 +106,16 @@ fn compact(slots: &mut Slots)
     );
 }
 
-/// Takes the empty slots out once they are more than the others. So all that is moved in the end is
-/// at most as much as was taken out.
+/// Takes the empty slots out once they are many, and more than the others. So over all calls a
+/// proposal is moved at most once for each that was taken out.
 pub(crate) fn tidy(slots: &mut Slots, count: usize)
     requires { AreSound slots.old.entries count }
     ensures sound { AreSound slots.new.entries count }
     ensures same { proposals_in slots.new.entries ≡ proposals_in slots.old.entries }
     ensures spare { spare slots.old ≤ spare slots.new }
 {
-    if slots.len() - count > count {
+    let empty = slots.len() - count;
+    if empty > count && empty > FEW_SLOTS {
         compact(slots);
     }
 }

@@ -3,3 +3,5 @@ pub mod Items
 pub mod Outcomes
 pub mod Shown
 pub mod Report
+pub mod Summary
+pub mod Told

@@ -5,3 +5,7 @@ pub mod Requests
 pub mod Bounds
 pub mod Forms
 pub mod Seen
+pub mod Meaning
+pub mod Reading
+pub mod Gives
+pub mod Causes

@@ -2,13 +2,18 @@
 use Rattle.std.specs.Prelude.{ℕ, ◌+◌, ◌-◌, ◌&&◌, ◌==◌, not, nat_lt, nat_le, Bool, true, false, List, [], ◌∷◌, length, replicate, Option, Some, None, Result, Ok, Err, slice_index, slice_set, codes, if◌then◌else◌}
 use Rattle.std.specs.List.{list_any, position_from}
 use Rattle.std.specs.Str.{bytes_eq}
+use Rattle.rp_base.specs.declared.Which.{Which}
+use Rattle.rp_base.specs.declared.Which.TheVariants.{Lines, LineBytes, Commands}
 use Rattle.rp_script.specs.Words.{words_of}
 use Rattle.rp_script.specs.Keywords.{keyword_of, is_barred_in_race}
 use Rattle.rp_script.specs.Readers.{bad}
 use Rattle.rp_script.specs.Forms.{cluster, form}
 use Rattle.rp_script.specs.declared.faults.BadWord.{BadWord}
+use Rattle.rp_script.specs.declared.faults.Excess.{Excess}
 use Rattle.rp_script.specs.declared.faults.LineFault.{LineFault}
 use Rattle.rp_script.specs.declared.faults.LineFault.TheVariants.{Refused, TooMany}
+use Rattle.rp_script.specs.declared.faults.ScriptFault.{ScriptFault}
+use Rattle.rp_script.specs.declared.faults.ScriptFault.TheVariants as faults
 use Rattle.rp_script.specs.declared.faults.LineKind.{LineKind}
 use Rattle.rp_script.specs.declared.faults.LineKind.TheVariants as kinds
 use Rattle.rp_script.specs.declared.keywords.Keyword.{Keyword}
@@ -35,12 +40,16 @@ abbrev pub begins_send : List (List ℕ) → Bool
 begins_send [] = false
 begins_send (first ∷ words) = bytes_eq first (codes "send")
 
--- a limit that the line passes: 65,536 lines, 256 bytes of a line, 4,096 lines of a race that send
-unfoldable pub limit_of : Seen → List ℕ → Option ℕ
+-- a limit is passed by this count
+abbrev pub excess : Which → ℕ → Option Excess
+excess which count = Some (record { which = which; count = count })
+
+-- the limit that the line passes: 65,536 lines, 256 bytes of a line, 4,096 lines of a race that send
+unfoldable pub limit_of : Seen → List ℕ → Option Excess
 limit_of s line =
-    if s.lines == 65536 then Some 65537
-    else (if nat_lt 256 (length line) then Some 257
-    else (if s.race && s.sends == 4096 && begins_send (words_of line) then Some 4097
+    if s.lines == 65536 then excess Lines 65537
+    else (if nat_lt 256 (length line) then excess LineBytes 257
+    else (if s.race && s.sends == 4096 && begins_send (words_of line) then excess Commands 4097
     else None))
 
 -- a byte outside 32 to 126
@@ -98,17 +107,31 @@ said s (first ∷ words) =
     if begins_comment first then skipped (bad_byte_of (first ∷ words))
     else unless_bad (bad_byte_of (first ∷ words)) (placed s (keyword_of first) words)
 
-abbrev pub refused : Result (Option ScriptLine) BadWord → Result (Option ScriptLine) LineFault
-refused (Ok line) = Ok line
-refused (Err e) = Err (Refused e.word e.kind)
+-- a refusal of line k
+abbrev pub at_line : ℕ → Result (Option ScriptLine) BadWord → Result (Option ScriptLine) ScriptFault
+at_line k (Ok line) = Ok line
+at_line k (Err e) = Err (faults.Refused k e.word e.kind)
 
-abbrev pub unless_many : Option ℕ → Result (Option ScriptLine) BadWord → Result (Option ScriptLine) LineFault
-unless_many (Some count) r = Err (TooMany count)
-unless_many None r = refused r
+abbrev pub unless_limited : Option Excess → Result (Option ScriptLine) ScriptFault → Result (Option ScriptLine) ScriptFault
+unless_limited (Some x) r = Err (faults.Limit x.which x.count)
+unless_limited None r = r
 
--- the answer to a line: a limit comes before a refusal
-unfoldable pub answer_of : Seen → List ℕ → Result (Option ScriptLine) LineFault
-answer_of s line = unless_many (limit_of s line) (said s (words_of line))
+-- what the next line says: a limit comes before a refusal
+unfoldable pub judged : Seen → List ℕ → Result (Option ScriptLine) ScriptFault
+judged s line = unless_limited (limit_of s line) (at_line (s.lines + 1) (said s (words_of line)))
+
+-- the same fault where the line is known
+abbrev pub line_fault : ScriptFault → LineFault
+line_fault (faults.Refused line word kind) = Refused word kind
+line_fault (faults.Limit which count) = TooMany count
+
+abbrev pub of_line : Result (Option ScriptLine) ScriptFault → Result (Option ScriptLine) LineFault
+of_line (Ok line) = Ok line
+of_line (Err fault) = Err (line_fault fault)
+
+-- the answer to the next line
+abbrev pub answer_of : Seen → List ℕ → Result (Option ScriptLine) LineFault
+answer_of s line = of_line (judged s line)
 
 -- a client has one command more
 abbrev pub counted : List ℕ → ℕ → List ℕ

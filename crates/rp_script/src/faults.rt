@@ -1,6 +1,10 @@
 ghost use Rattle.std.specs.Prelude.{◌≡◌};
 ghost use Rattle.rp_script.specs.Readers.{bad_word};
+ghost use Rattle.rp_script.specs.Seen.{line_fault};
+ghost use Rattle.rp_script.specs.declared.faults.ScriptStop.TheVariants.{Judged as judged_stop, NoMemory as no_memory};
 
+use rp_base::Which;
+use std::alloc::AllocFailed;
 use thiserror::Error;
 
 /// Why a line of a script is refused (this project).
@@ -53,6 +57,54 @@ pub enum LineFault {
     NoMemory,
 }
 
+/// What ends the reading of a script before its end.
+#[derive(Clone, Copy, Debug, PartialEq, Eq)]
+pub enum ScriptFault {
+    /// The line, from 1, its word, from 1 or 0 for none, and why.
+    Refused {
+        line: u32,
+        word: u32,
+        kind: LineKind,
+    },
+    /// A limit, and the count that passes it.
+    Limit {
+        which: Which,
+        count: u64,
+    },
+}
+
+/// What stops the reading of a script.
+#[derive(Clone, Copy, Debug, PartialEq, Eq)]
+pub enum ScriptStop {
+    /// The bytes end it.
+    Judged { fault: ScriptFault },
+    /// Memory was refused.
+    NoMemory,
+}
+
+impl From<ScriptFault> for ScriptStop {
+    ghost from_gives = { λ fault e. e ≡ judged_stop fault };
+
+    fn from(fault: ScriptFault) -> ScriptStop {
+        ScriptStop::Judged { fault }
+    }
+}
+
+impl<T: Drop> From<AllocFailed<T>> for ScriptStop {
+    ghost from_gives = { λ _ e. e ≡ no_memory };
+
+    fn from(_refused: AllocFailed<T>) -> ScriptStop {
+        ScriptStop::NoMemory
+    }
+}
+
+/// The limit that a line passes, and the count by which it does.
+#[derive(Clone, Copy, Debug, PartialEq, Eq)]
+pub struct Excess {
+    pub which: Which,
+    pub count: u64,
+}
+
 /// The word of a line that is refused, from 1, and why.
 #[derive(Clone, Copy, Debug, PartialEq, Eq)]
 pub struct BadWord {
@@ -65,4 +117,14 @@ pub fn bad_word(word: u32, kind: LineKind) -> BadWord
     ensures { result ≡ bad_word word kind }
 {
     BadWord { word, kind }
+}
+
+/// What a line that is known is refused for.
+pub fn line_fault(fault: ScriptFault) -> LineFault
+    ensures { result ≡ line_fault fault }
+{
+    match fault {
+        ScriptFault::Refused { word, kind, .. } => LineFault::Refused { word, kind },
+        ScriptFault::Limit { count, .. } => LineFault::TooMany { count },
+    }
 }

@@ -4,14 +4,19 @@
 mod faults;
 mod forms;
 mod keywords;
+pub mod laws;
 mod lines;
 mod readers;
 mod requests;
 mod scripts;
 #[cfg(test)]
+mod source_tests;
+mod sources;
+#[cfg(test)]
 mod tests;
 mod words;
 
-pub use faults::{LineFault, LineKind};
-pub use lines::ScriptLine;
+pub use faults::{LineFault, LineKind, ScriptFault, ScriptStop};
+pub use lines::{NumberedLine, ScriptLine};
 pub use scripts::Script;
+pub use sources::{ScriptReader, read_lines};

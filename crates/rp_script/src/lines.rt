@@ -98,3 +98,10 @@ pub enum ScriptLine {
     },
     End,
 }
+
+/// A line that is not skipped, and its number, from 1.
+#[derive(Clone, Copy, Debug, PartialEq, Eq)]
+pub struct NumberedLine {
+    pub number: u32,
+    pub line: ScriptLine,
+}

@@ -1,13 +1,14 @@
 ghost use Rattle.std.specs.Prelude.{◌≡◌, ◌<◌, ◌≤◌, ◌+◌, ◌-◌, ◌==◌, [], length, IsTrue, None, Some, IfOk, IfSome, MatchResult, slice_index};
 ghost use Rattle.rp_script.specs.Words.{words_of};
 ghost use Rattle.rp_script.specs.Bounds.{IsBounded};
-ghost use Rattle.rp_script.specs.Seen.{Seen, unseen, begins_send, limit_of, has_bad_byte, bad_byte_of, begins_comment, placed, said, answer_of, counted, after, left, unended};
+ghost use Rattle.rp_script.specs.Seen.{Seen, unseen, begins_send, limit_of, has_bad_byte, bad_byte_of, begins_comment, placed, said, judged, answer_of, counted, after, left, unended};
 
-use crate::faults::{BadWord, LineFault, LineKind, bad_word};
+use crate::faults::{BadWord, Excess, LineFault, LineKind, ScriptFault, bad_word, line_fault};
 use crate::forms::{cluster, form};
 use crate::keywords::{Keyword, is_barred_in_race, keyword_of};
 use crate::lines::ScriptLine;
 use crate::words::Words;
+use rp_base::Which;
 use std::marker::Model;
 
 /// The lines of a script, taken one after another. Contracts see what must be known of the lines
@@ -108,19 +109,28 @@ impl Script {
         }
     }
 
-    /// The count by which the line passes a limit.
+    /// The limit that the line passes.
     #[tactic(auto, unfolding(crate::specs::Seen::limit_of))]
-    fn limit_of(&self, line: &[u8]) -> Option<u64>
+    fn limit_of(&self, line: &[u8]) -> Option<Excess>
         ensures limit { result ≡ limit_of self.now line.now }
         ensures room { result ≡ None → self.now.lines < 65536 }
         ensures short { result ≡ None → length line.now ≤ 256 }
     {
         if self.lines == 65536 {
-            Some(65537)
+            Some(Excess {
+                which: Which::Lines,
+                count: 65537,
+            })
         } else if line.len() > 256 {
-            Some(257)
+            Some(Excess {
+                which: Which::LineBytes,
+                count: 257,
+            })
         } else if self.race && self.sends == 4096 && begins_send(line) {
-            Some(4097)
+            Some(Excess {
+                which: Which::Commands,
+                count: 4097,
+            })
         } else {
             None
         }
@@ -164,27 +174,40 @@ impl Script {
         }
     }
 
-    /// What the line is answered.
-    #[tactic(auto, unfolding(crate::specs::Seen::answer_of))]
-    fn answer_of(&self, line: &[u8]) -> Result<Option<ScriptLine>, LineFault>
-        ensures answer { result ≡ answer_of self.now line.now }
+    /// How many lines were taken.
+    pub(crate) fn lines(&self) -> u32
+        ensures value { result ≡ self.now.lines }
+        ensures few { result ≤ 65536 }
+    {
+        self.lines
+    }
+
+    /// What the next line says; the script stays as it is.
+    #[tactic(auto, unfolding(crate::specs::Seen::judged))]
+    pub(crate) fn judge(&self, line: &[u8]) -> Result<Option<ScriptLine>, ScriptFault>
+        ensures line { result ≡ judged self.now line.now }
         ensures room { IfOk result (λ _. self.now.lines < 65536) }
         ensures bounded { IfOk result (λ o. IfSome o IsBounded) }
     {
-        if let Some(count) = self.limit_of(line) {
-            return Err(LineFault::TooMany { count });
+        if let Some(Excess { which, count }) = self.limit_of(line) {
+            return Err(ScriptFault::Limit { which, count });
         }
         match self.said(line) {
             Ok(line) => Ok(line),
-            Err(BadWord { word, kind }) => Err(LineFault::Refused { word, kind }),
+            Err(BadWord { word, kind }) => Err(ScriptFault::Refused {
+                line: self.lines + 1,
+                word,
+                kind,
+            }),
         }
     }
 
     /// Keeps what must be known of a line that was taken.
-    fn keep(&mut self, line: &Option<ScriptLine>)
+    pub(crate) fn keep(&mut self, line: &Option<ScriptLine>)
         requires room { self.old.lines < 65536 }
         requires bounded { IfSome line.now IsBounded }
-        ensures { self.new ≡ after self.old line.now }
+        ensures kept { self.new ≡ after self.old line.now }
+        ensures lines { self.new.lines ≡ self.old.lines + 1 }
     {
         match *line {
             Some(ScriptLine::Cluster { nodes }) => self.nodes = Some(nodes),
@@ -206,9 +229,13 @@ impl Script {
         ensures kept { self.new ≡ left self.old result }
         ensures bounded { IfOk result (λ o. IfSome o IsBounded) }
     {
-        let taken = self.answer_of(line)?;
-        self.keep(&taken);
-        Ok(taken)
+        match self.judge(line) {
+            Ok(taken) => {
+                self.keep(&taken);
+                Ok(taken)
+            }
+            Err(fault) => Err(line_fault(fault)),
+        }
     }
 
     /// Whether the source may end here: a line `cluster` and a line `end` were taken.

@@ -13,7 +13,7 @@ use Rattle.rp_request.specs.declared.items.Place.TheVariants.{Write, Split, Leas
 use Rattle.rp_request.specs.Table.{Table}
 use Rattle.rp_request.specs.Items.{State, fold}
 use Rattle.rp_request.specs.Places.{names, places_of}
-use Rattle.rp_top.specs.declared.script.lines.Group.{Group}
+use Rattle.rp_top.specs.declared.script.groups.Group.{Group}
 use Rattle.rp_top.specs.Book.{Book, cmd_cmp}
 use Rattle.rp_top.specs.World.{sent_by, command_of, items_from, items_of, table_from, book_from}
 use Rattle.rp_top.specs.Headline.{IsLawful, replied, Headline}

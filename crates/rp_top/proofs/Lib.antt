@@ -1,5 +1,3 @@
-pub mod NextWord
-pub mod ReadsLines
 pub mod ReadsSource
 pub mod Sent
 pub mod Rows

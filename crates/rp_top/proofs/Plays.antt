@@ -18,7 +18,7 @@ use Rattle.rp_request.specs.declared.items.Place.TheVariants.{Write}
 use Rattle.rp_request.specs.declared.items.Record.{Record}
 use Rattle.rp_request.specs.declared.items.Record.TheVariants.{Took}
 use Rattle.rp_report.specs.declared.views.View.{View}
-use Rattle.rp_top.specs.declared.script.lines.Group.{Group}
+use Rattle.rp_top.specs.declared.script.groups.Group.{Group}
 use Rattle.rp_top.specs.Book.{Book, cmd_cmp}
 use Rattle.rp_top.specs.World.{sent_by, command_of, items_from, table_from, book_from, shown, view_of}
 use Rattle.rp_top.specs.Playing.{Played, unplayed, sent_in, next_command, with_group, with_groups, view_from, PlaysView}

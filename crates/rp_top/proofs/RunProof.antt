@@ -4,9 +4,9 @@ use Rattle.rp_outside.specs.Devices.{IsAll}
 use Rattle.rp_top.specs.Answers.{Answers, Writes, output, status_of, status_due, text_due, is_run, usage_line}
 use Rattle.rp_top.specs.Runs.{IsShownRun}
 use Rattle.rp_top.specs.Script.{meaning}
-use Rattle.rp_top.specs.declared.script.faults.Fault.{Fault}
-use Rattle.rp_top.specs.declared.script.faults.Fault.TheVariants as faults
-use Rattle.rp_top.specs.declared.script.lines.Group.{Group}
+use Rattle.rp_script.specs.declared.faults.ScriptFault.{ScriptFault}
+use Rattle.rp_script.specs.declared.faults.ScriptFault.TheVariants as faults
+use Rattle.rp_top.specs.declared.script.groups.Group.{Group}
 use Rattle.rp_top.specs.declared.statuses.Status.{Status}
 use Rattle.rp_top.specs.declared.statuses.Status.TheVariants as statuses
 use Rattle.rp_top.specs.Status.{code_of}
@@ -18,10 +18,10 @@ pub answered : (left : Option (List ℕ)) (status : Status) (old new : Option (L
     → ((x : List ℕ) × IsAll left x × (meaning x ≡ Ok groups)) → shown ≡ groups → Answers status (Ok shown) old new
     → (x : List ℕ) × IsAll left x × Answers status (meaning x) old new
 answered left status old new groups shown read same answers =
-    let P : Result (List Group) Fault → Type 0 = λ m. Answers status m old new in
+    let P : Result (List Group) ScriptFault → Type 0 = λ m. Answers status m old new in
     (read.0, read.1, subst P (ap (λ g. Ok g) same ∙ sym read.2) answers)
 
-shown_at : (x : List ℕ) (v : Result (List Group) Fault) (old new : Option (List ℕ)) → meaning x ≡ v → Answers statuses.Ok v old new → IsShownRun x old new
+shown_at : (x : List ℕ) (v : Result (List Group) ScriptFault) (old new : Option (List ℕ)) → meaning x ≡ v → Answers statuses.Ok v old new → IsShownRun x old new
 shown_at x (Ok groups) old new is answers = record { groups = groups; script = is; written = answers.1; headline = headline groups }
 shown_at x (Err (faults.Refused line word kind)) old new is answers = let other : statuses.Ok ≡ statuses.Refused line word kind = answers.0 in cc
 shown_at x (Err (faults.Limit which count)) old new is answers = let other : statuses.Ok ≡ statuses.Limit which count = answers.0 in cc

@@ -9,7 +9,7 @@ use Rattle.rp_request.specs.declared.outcomes.Reply.{Reply}
 use Rattle.rp_request.specs.declared.items.Record.TheVariants.{Took}
 use Rattle.rp_request.specs.Table.{Table}
 use Rattle.rp_report.specs.Shown.{IsShownAnswer, IsShownRange, IndexesFit, IsShownView}
-use Rattle.rp_top.specs.declared.script.lines.Group.{Group}
+use Rattle.rp_top.specs.declared.script.groups.Group.{Group}
 use Rattle.rp_top.specs.World.{items_from, items_of, book_from, answer_of, view_of}
 
 -- each group becomes one item

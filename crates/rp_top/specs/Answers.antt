@@ -8,19 +8,31 @@ use Rattle.rp_report.specs.Report.{report}
 use Rattle.rp_report.specs.Words.{newline, spaced}
 use Rattle.rp_top.specs.Script.{meaning}
 use Rattle.rp_top.specs.World.{view_of}
-use Rattle.rp_top.specs.declared.script.lines.Group.{Group}
-use Rattle.rp_top.specs.declared.script.faults.LineKind.{LineKind}
-use Rattle.rp_top.specs.declared.script.faults.LineKind.TheVariants.{NoCluster, NoEnd, NotBuilt}
-use Rattle.rp_top.specs.declared.script.faults.Fault.{Fault}
-use Rattle.rp_top.specs.declared.script.faults.Fault.TheVariants as faults
+use Rattle.rp_top.specs.declared.script.groups.Group.{Group}
+use Rattle.rp_script.specs.declared.faults.LineKind.{LineKind}
+use Rattle.rp_script.specs.declared.faults.LineKind.TheVariants as kinds
+use Rattle.rp_script.specs.declared.faults.ScriptFault.{ScriptFault}
+use Rattle.rp_script.specs.declared.faults.ScriptFault.TheVariants as faults
 use Rattle.rp_top.specs.declared.statuses.Status.{Status}
 use Rattle.rp_top.specs.declared.statuses.Status.TheVariants as statuses
 
 -- why a line is refused, as it is written
 abbrev pub kind_text : LineKind → List ℕ
-kind_text NoCluster = codes "no-cluster"
-kind_text NoEnd = codes "no-end"
-kind_text NotBuilt = codes "not-built"
+kind_text kinds.NoCluster = codes "no-cluster"
+kind_text kinds.SecondCluster = codes "second-cluster"
+kind_text kinds.AfterEnd = codes "after-end"
+kind_text kinds.NoEnd = codes "no-end"
+kind_text kinds.UnknownWord = codes "unknown-word"
+kind_text kinds.NotInRace = codes "not-in-race"
+kind_text kinds.MissingWord = codes "missing-word"
+kind_text kinds.NotNumber = codes "not-number"
+kind_text kinds.OutOfRange = codes "out-of-range"
+kind_text kinds.BadKey = codes "bad-key"
+kind_text kinds.BadSpan = codes "bad-span"
+kind_text kinds.NotSent = codes "not-sent"
+kind_text kinds.ExtraWord = codes "extra-word"
+kind_text kinds.BadByte = codes "bad-byte"
+kind_text kinds.NotBuilt = codes "not-built"
 
 -- which limit is passed, as it is written
 abbrev pub which_text : Which → List ℕ
@@ -33,17 +45,17 @@ which_text ReportBytes = codes "report-bytes"
 which_text DiskBytes = codes "disk-bytes"
 
 -- the line that says why a script was not played
-abbrev pub fault_line : Fault → List ℕ
+abbrev pub fault_line : ScriptFault → List ℕ
 fault_line (faults.Refused line word kind) = codes "refused" ++ spaced line ++ spaced word ++ codes " " ++ kind_text kind ++ newline
 fault_line (faults.Limit which count) = codes "limit " ++ which_text which ++ spaced count ++ newline
 
 -- what is written for a script of this meaning
-abbrev pub output : Result (List Group) Fault → List ℕ
+abbrev pub output : Result (List Group) ScriptFault → List ℕ
 output (Ok groups) = report (view_of groups)
 output (Err fault) = fault_line fault
 
 -- the status for a script of this meaning
-abbrev pub status_of : Result (List Group) Fault → Status
+abbrev pub status_of : Result (List Group) ScriptFault → Status
 status_of (Ok groups) = statuses.Ok
 status_of (Err (faults.Refused line word kind)) = statuses.Refused line word kind
 status_of (Err (faults.Limit which count)) = statuses.Limit which count
@@ -57,7 +69,7 @@ Writes statuses.WriteFault due text old new = AddsFront old text new
 Writes status due text old new = (status ≡ due) × Adds old text new
 
 -- what a run answers and writes for a script of this meaning
-abbrev pub Answers : Status → Result (List Group) Fault → Option (List ℕ) → Option (List ℕ) → Type 0
+abbrev pub Answers : Status → Result (List Group) ScriptFault → Option (List ℕ) → Option (List ℕ) → Type 0
 Answers status meaning old new = Writes status (status_of meaning) (output meaning) old new
 
 -- the words ask for a run
@@ -78,11 +90,11 @@ abbrev pub text_due : List (List ℕ) → List ℕ → List ℕ
 text_due words bytes = if is_run words then output (meaning bytes) else usage_line
 
 -- a line is refused
-abbrev pub IsRefused : Result (List Group) Fault → Type 0
+abbrev pub IsRefused : Result (List Group) ScriptFault → Type 0
 IsRefused (Err (faults.Refused line word kind)) = Unit {0}
 IsRefused meaning = ⊥
 
 -- a limit is passed
-abbrev pub IsLimited : Result (List Group) Fault → Type 0
+abbrev pub IsLimited : Result (List Group) ScriptFault → Type 0
 IsLimited (Err (faults.Limit which count)) = Unit {0}
 IsLimited meaning = ⊥

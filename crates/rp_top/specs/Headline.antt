@@ -13,7 +13,7 @@ use Rattle.rp_request.specs.Places.{places_of}
 use Rattle.rp_request.specs.Starts.{first_state}
 use Rattle.rp_top.specs.Book.{Book, cmd_cmp}
 use Rattle.rp_top.specs.World.{sent_by, shown, view_of}
-use Rattle.rp_top.specs.declared.script.lines.Group.{Group}
+use Rattle.rp_top.specs.declared.script.groups.Group.{Group}
 
 -- each item of a list took effect under the lease of the state before it, and its reply is the one that
 -- the effect of its whole request gives there

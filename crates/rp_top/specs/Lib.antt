@@ -1,7 +1,4 @@
-pub mod Words
-pub mod Lines
 pub mod Script
-pub mod Reading
 pub mod Gives
 pub mod Book
 pub mod World

@@ -14,7 +14,7 @@ use Rattle.rp_request.specs.Table.{Table}
 use Rattle.rp_report.specs.declared.views.View.{View}
 use Rattle.rp_top.specs.Book.{cmd_cmp}
 use Rattle.rp_top.specs.World.{shown, view_of}
-use Rattle.rp_top.specs.declared.script.lines.Group.{Group}
+use Rattle.rp_top.specs.declared.script.groups.Group.{Group}
 
 -- how a table is stored
 abbrev pub table_code : Coded Table

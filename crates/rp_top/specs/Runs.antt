@@ -5,7 +5,7 @@ use Rattle.rp_report.specs.Report.{report}
 use Rattle.rp_top.specs.Headline.{IsHeadline}
 use Rattle.rp_top.specs.Script.{meaning}
 use Rattle.rp_top.specs.World.{view_of}
-use Rattle.rp_top.specs.declared.script.lines.Group.{Group}
+use Rattle.rp_top.specs.declared.script.groups.Group.{Group}
 
 -- the bytes are a script of some groups, the report of what they show was written, and the headline
 -- holds of it

@@ -1,71 +1,52 @@
--- The meaning of a script's bytes: the groups of its lines, or the first limit or refusal.
-use Rattle.std.specs.Prelude.{ℕ, ◌+◌, ◌==◌, nat_lt, List, [], ◌∷◌, ◌++◌, length, Result, Ok, Err, if◌then◌else◌}
-use Rattle.rp_base.specs.declared.Which.TheVariants.{Lines, LineBytes}
-use Rattle.rp_top.specs.Lines.{line_of}
-use Rattle.rp_top.specs.Words.{lines_of, words_of}
-use Rattle.rp_top.specs.declared.script.lines.Group.{Group}
-use Rattle.rp_top.specs.declared.script.lines.Line.{Line}
-use Rattle.rp_top.specs.declared.script.lines.Line.TheVariants as forms
-use Rattle.rp_top.specs.declared.script.faults.LineKind.{LineKind}
-use Rattle.rp_top.specs.declared.script.faults.LineKind.TheVariants.{NoCluster, NoEnd, NotBuilt}
-use Rattle.rp_top.specs.declared.script.faults.Fault.{Fault}
-use Rattle.rp_top.specs.declared.script.faults.Fault.TheVariants.{Refused, Limit}
-use Rattle.rp_top.specs.declared.script.reader.Next.{Next}
-use Rattle.rp_top.specs.declared.script.reader.Next.TheVariants as nexts
+-- The meaning of a script's bytes, as far as its lines are played: their groups, or the first limit or refusal.
+use Rattle.std.specs.Prelude.{ℕ, ◌==◌, ◌&&◌, nat_le, Bool, false, List, [], ◌∷◌, ◌++◌, Option, Some, None, Result, Ok, Err, is_some, if◌then◌else◌}
+use Rattle.std.specs.Option.{option_to_list}
+use Rattle.rp_request.specs.declared.requests.Request.{Request}
+use Rattle.rp_request.specs.declared.requests.Request.TheVariants.{Put}
+use Rattle.rp_script.specs.Meaning.{◌>>=◌, meaning as lines_meant}
+use Rattle.rp_script.specs.declared.faults.LineKind.TheVariants.{NotBuilt}
+use Rattle.rp_script.specs.declared.faults.ScriptFault.{ScriptFault}
+use Rattle.rp_script.specs.declared.faults.ScriptFault.TheVariants.{Refused}
+use Rattle.rp_script.specs.declared.lines.NumberedLine.{NumberedLine}
+use Rattle.rp_script.specs.declared.lines.ScriptLine.{ScriptLine}
+use Rattle.rp_script.specs.declared.lines.ScriptLine.TheVariants as forms
+use Rattle.rp_top.specs.declared.script.groups.Group.{Group}
+use Rattle.rp_top.specs.declared.script.groups.Next.{Next}
+use Rattle.rp_top.specs.declared.script.groups.Next.TheVariants as nexts
 
-infixl 10 ◌>>=◌
-abbrev pub ◌>>=◌ : {A B E : Type 0} → Result A E → (A → Result B E) → Result B E
-(Ok x) >>= f = f x
-(Err e) >>= f = Err e
+-- range 0 on node 1
+abbrev pub is_first : ℕ → ℕ → Bool
+is_first node range = node == 1 && range == 0
 
--- how far a script has come: which line may come next, and the groups so far
-pub record Progress : Type 0 where
-  pub next : Next
-  pub groups : List Group
+-- the put that a client sends
+abbrev pub put_of : ℕ → Request → Option Group
+put_of client (Put key value) = if nat_le 1 client && nat_le client 64 then Some (record { client = client; key = key; value = value }) else None
+put_of client request = None
 
--- nothing has come yet
-abbrev pub beginning : Progress
-beginning = record { next = nexts.Cluster; groups = [] }
+-- the group that a line begins
+abbrev pub group_of : ScriptLine → Option Group
+group_of (forms.Send node range client request) = if is_first node range then put_of client request else None
+group_of line = None
 
--- which line may come behind this one, where this one may come
-abbrev pub after : Next → Line → Result Next LineKind
-after next forms.Skipped = Ok next
-after nexts.Cluster (forms.Cluster single) = if single then Ok nexts.SendOrEnd else Err NotBuilt
-after nexts.Cluster line = Err NoCluster
-after nexts.SendOrEnd (forms.Send group) = Ok nexts.Flush
-after nexts.SendOrEnd forms.End = Ok nexts.Nothing
-after nexts.Flush forms.Flush = Ok nexts.Apply
-after nexts.Apply forms.Apply = Ok nexts.SendOrEnd
-after next line = Err NotBuilt
+-- which line may come behind this one; none where its events are not built
+abbrev pub after : Next → ScriptLine → Option Next
+after nexts.Cluster (forms.Cluster nodes) = if nodes == 1 then Some nexts.SendOrEnd else None
+after nexts.SendOrEnd (forms.Send node range client request) = if is_some (group_of (forms.Send node range client request)) then Some nexts.Flush else None
+after nexts.SendOrEnd forms.End = Some nexts.Nothing
+after nexts.Flush (forms.Flush node range) = if is_first node range then Some nexts.Apply else None
+after nexts.Apply (forms.Apply node range) = if is_first node range then Some nexts.SendOrEnd else None
+after next line = None
 
--- the groups that a line begins
-abbrev pub begun : Line → List Group
-begun (forms.Send group) = group ∷ []
-begun line = []
+-- line k is refused where its events are not built
+abbrev pub next_of : ℕ → Option Next → Result Next ScriptFault
+next_of k (Some next) = Ok next
+next_of k None = Err (Refused k 1 NotBuilt)
 
--- the script goes on, or is refused at the first word of line k
-abbrev pub going_on : ℕ → List Group → Result Next LineKind → Result Progress Fault
-going_on k groups (Ok next) = Ok (record { next = next; groups = groups })
-going_on k groups (Err kind) = Err (Refused k 1 kind)
-
--- line k comes behind what has come
-abbrev pub with_line : ℕ → Progress → Line → Result Progress Fault
-with_line k p line = going_on k (p.groups ++ begun line) (after p.next line)
-
--- the source ends; the line behind its last one is line k
-abbrev pub ended : ℕ → Next → List Group → Result (List Group) Fault
-ended k nexts.Nothing groups = Ok groups
-ended k nexts.Cluster groups = Err (Refused k 0 NoCluster)
-ended k next groups = Err (Refused k 0 NoEnd)
-
--- the lines behind the first k: each has at most 256 bytes, and they are at most 65536 in all
-abbrev pub judged : ℕ → Progress → List (List ℕ) → Result (List Group) Fault
-judged k p [] = ended (k + 1) p.next p.groups
-judged k p (line ∷ lines) =
-    if k == 65536 then Err (Limit Lines 65537)
-    else (if nat_lt 256 (length line) then Err (Limit LineBytes 257)
-    else (with_line (k + 1) p (line_of (words_of line)) >>= λ q. judged (k + 1) q lines))
+-- the groups of these lines, behind the groups so far
+abbrev pub built : Next → List Group → List NumberedLine → Result (List Group) ScriptFault
+built next groups [] = Ok groups
+built next groups (line ∷ lines) = next_of line.number (after next line.line) >>= λ n. built n (groups ++ option_to_list (group_of line.line)) lines
 
 -- the meaning of a script
-abbrev pub meaning : List ℕ → Result (List Group) Fault
-meaning bytes = judged 0 beginning (lines_of bytes)
+abbrev pub meaning : List ℕ → Result (List Group) ScriptFault
+meaning bytes = lines_meant false bytes >>= λ lines. built nexts.Cluster [] lines

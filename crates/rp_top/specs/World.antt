@@ -19,7 +19,7 @@ use Rattle.rp_report.specs.declared.views.Row.{Row}
 use Rattle.rp_report.specs.declared.views.ReplicaView.TheVariants.{Live}
 use Rattle.rp_report.specs.declared.views.View.{View}
 use Rattle.rp_top.specs.Book.{Book}
-use Rattle.rp_top.specs.declared.script.lines.Group.{Group}
+use Rattle.rp_top.specs.declared.script.groups.Group.{Group}
 
 -- how many of these groups the client sent
 abbrev pub sent_by : ℕ → List Group → ℕ

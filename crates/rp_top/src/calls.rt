@@ -6,16 +6,17 @@ ghost use Rattle.rp_base.specs.declared.Which.{Which};
 ghost use Rattle.rp_top.specs.Runs.{IsShownRun};
 ghost use Rattle.rp_top.specs.Script.{meaning};
 ghost use Rattle.rp_top.specs.Status.{code_of};
-ghost use Rattle.rp_top.specs.declared.script.faults.LineKind.{LineKind};
+ghost use Rattle.rp_script.specs.declared.faults.LineKind.{LineKind};
 ghost use Rattle.rp_top.specs.World.{view_of};
 
 use crate::outputs::push_fault;
 use crate::play::view_played;
-use crate::script::{Fault, Group, Stop, read_script};
+use crate::script::{Group, Stop, read_script};
 use crate::statuses::{Form, Status};
 use rp_base::{NoMemory, Text};
 use rp_outside::{Sink, Source, put_all};
 use rp_report::write_text;
+use rp_script::ScriptFault;
 use std::alloc::Global;
 
 /// How the program is used.
@@ -35,7 +36,7 @@ fn report_of(alloc: Global, groups: &[Group]) -> Result<Text, NoMemory>
 }
 
 /// The line that says why a script was not played.
-fn fault_text(alloc: Global, fault: Fault) -> Result<Text, NoMemory>
+fn fault_text(alloc: Global, fault: ScriptFault) -> Result<Text, NoMemory>
     ensures { IfOk result (λ text. text ≡ fault_line fault) }
 {
     let mut text = Text::new(alloc);
@@ -44,12 +45,12 @@ fn fault_text(alloc: Global, fault: Fault) -> Result<Text, NoMemory>
 }
 
 /// The status of a script that was not played.
-fn status_of_fault(fault: Fault) -> Status
+fn status_of_fault(fault: ScriptFault) -> Status
     ensures { result ≡ status_of (Err fault) }
 {
     match fault {
-        Fault::Refused { line, word, kind } => Status::Refused { line, word, kind },
-        Fault::Limit { which, count } => Status::Limit { which, count },
+        ScriptFault::Refused { line, word, kind } => Status::Refused { line, word, kind },
+        ScriptFault::Limit { which, count } => Status::Limit { which, count },
     }
 }
 
@@ -71,7 +72,7 @@ fn put_report<K: Sink>(alloc: Global, sink: &mut K, groups: &[Group]) -> Status
 }
 
 /// Writes why a script was not played.
-fn put_fault<K: Sink>(alloc: Global, sink: &mut K, fault: Fault) -> Status
+fn put_fault<K: Sink>(alloc: Global, sink: &mut K, fault: ScriptFault) -> Status
     ensures answers { Answers result (Err fault) (K.held sink.old) (K.held sink.new) }
     ensures faults { K.faults sink.old ≤ K.faults sink.new }
     ensures cause { result ≡ Status.WriteFault → Rose (K.faults sink.old) (K.faults sink.new) }
@@ -123,9 +124,9 @@ pub fn run_call<S: Source, K: Sink>(
     // Each other answer has its cause.
     ensures usage { result ≢ Status.Usage }
     ensures refused { (line word : ℕ) (kind : LineKind) → result ≡ Status.Refused line word kind
-        → (bytes : List ℕ) × IsAll (S.left source.old) bytes × (meaning bytes ≡ Err (Fault.Refused line word kind)) }
+        → (bytes : List ℕ) × IsAll (S.left source.old) bytes × (meaning bytes ≡ Err (ScriptFault.Refused line word kind)) }
     ensures limit { (which : Which) (count : ℕ) → result ≡ Status.Limit which count
-        → (bytes : List ℕ) × IsAll (S.left source.old) bytes × (meaning bytes ≡ Err (Fault.Limit which count)) }
+        → (bytes : List ℕ) × IsAll (S.left source.old) bytes × (meaning bytes ≡ Err (ScriptFault.Limit which count)) }
     ensures source { S.faults source.old ≤ S.faults source.new }
     ensures sink { K.faults sink.old ≤ K.faults sink.new }
     ensures read_fault { result ≡ Status.ReadFault → Rose (S.faults source.old) (S.faults source.new) }

@@ -2,13 +2,6 @@
 
 ghost use Rattle.rp_top.specs.Headline.{Headline};
 ghost use Rattle.rp_top.specs.Playing.{PlaysView};
-ghost use Rattle.rp_top.specs.Reading.{ReadsMeaning};
-
-/// To read a script byte after byte, as the reader does, gives its meaning, which is said line by line.
-#[tactic(auto, using(crate::proofs::ReadsLines::reads_meaning))]
-pub fn reads_meaning()
-    ensures { ReadsMeaning }
-{}
 
 /// To play the groups of a script one after another gives what they show.
 #[tactic(auto, using(crate::proofs::Plays::plays_view))]

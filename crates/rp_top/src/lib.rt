@@ -10,7 +10,7 @@ mod script;
 mod statuses;
 
 pub use calls::{run_call, top_call};
-pub use script::LineKind;
+pub use rp_script::LineKind;
 pub use statuses::{Form, Status};
 
 #[cfg(test)]

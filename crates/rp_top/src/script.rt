@@ -1,15 +1,11 @@
-//! The meaning of a script's bytes.
+//! The meaning of a script's bytes, as far as its lines are played.
 
 mod clients;
-mod faults;
-mod lines;
-mod reader;
+mod groups;
 mod source;
 mod stops;
-mod words;
 
 pub use clients::Client;
-pub use faults::{Fault, LineKind};
-pub use lines::Group;
+pub use groups::Group;
 pub use source::read_script;
 pub use stops::Stop;

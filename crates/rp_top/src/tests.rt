@@ -118,9 +118,41 @@ fn refusals(rt: HostRuntime) -> Result<(), Fail> {
         gives(
             rt.alloc(),
             &["run"],
-            b"cluster 2\n".as_slice(),
+            b"cluster 2\nend\n".as_slice(),
             3,
             b"refused 1 1 not-built\n".as_slice()
+        )?
+    );
+    Ok(())
+}
+
+#[test]
+fn refusals_of_words(rt: HostRuntime) -> Result<(), Fail> {
+    assert!(rt;
+        gives(
+            rt.alloc(),
+            &["run"],
+            b"cluster 1\nsend 1 0 1 pu".as_slice(),
+            3,
+            b"refused 2 5 unknown-word\n".as_slice()
+        )?
+    );
+    assert!(rt;
+        gives(
+            rt.alloc(),
+            &["run"],
+            b"cluster 1\nask 1 0\nend\ncluster 1\n".as_slice(),
+            3,
+            b"refused 4 1 second-cluster\n".as_slice()
+        )?
+    );
+    assert!(rt;
+        gives(
+            rt.alloc(),
+            &["run"],
+            b"cluster 1\nask 1 0\nend\n".as_slice(),
+            3,
+            b"refused 2 1 not-built\n".as_slice()
         )?
     );
     Ok(())

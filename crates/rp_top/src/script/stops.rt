@@ -1,15 +1,16 @@
 ghost use Rattle.std.specs.Prelude.{◌≡◌};
+ghost use Rattle.rp_top.specs.Gives.{stop_of};
 ghost use Rattle.rp_top.specs.declared.script.stops.Stop.TheVariants.{NoMemory as no_memory};
 
-use super::faults::Fault;
 use rp_base::NoMemory;
+use rp_script::{ScriptFault, ScriptStop};
 use std::alloc::AllocFailed;
 
 /// What ends the reading of a script.
 #[derive(Clone, Copy, Debug, PartialEq, Eq)]
 pub enum Stop {
     /// The bytes end it.
-    Judged { fault: Fault },
+    Judged { fault: ScriptFault },
     /// The source failed.
     ReadFault,
     /// Memory was refused.
@@ -29,5 +30,15 @@ impl From<NoMemory> for Stop {
 
     fn from(_refused: NoMemory) -> Stop {
         Stop::NoMemory
+    }
+}
+
+/// The same stop, of a source that had no fault.
+pub fn stop_of(stop: ScriptStop) -> Stop
+    ensures { result ≡ stop_of stop }
+{
+    match stop {
+        ScriptStop::Judged { fault } => Stop::Judged { fault },
+        ScriptStop::NoMemory => Stop::NoMemory,
     }
 }

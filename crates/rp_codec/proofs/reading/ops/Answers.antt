@@ -13,9 +13,9 @@ pub loop-preserved : goal.loop-preserved
 loop-preserved c =
     let pushed : c.push.new.self ≡ c.loop.batch ++ c.in_ok-op.op ∷ [] = c.in_ok-push.ensures.ok in
     record {
-  same = rw pushed (goes_on c.loop.batch c.args.count c.loop.counter c.loop.cursor c.in_ok-op.op c.op.new.cursor (ops_at c.args.count c.args.cursor.now) c.loop-test.true c.in_ok-op.ensures c.loop.invariant.same);
-  room = ap length pushed ∙ omega (arith, length-append c.loop.batch (c.in_ok-op.op ∷ []), c.loop.invariant.room)
-}
+      same = rw pushed (goes_on c.loop.batch c.args.count c.loop.counter c.loop.cursor c.in_ok-op.op c.op.new.cursor (ops_at c.args.count c.args.cursor.now) c.loop-test.true c.in_ok-op.ensures c.loop.invariant.same);
+      room = ap length pushed ∙ omega (arith, length-append c.loop.batch (c.in_ok-op.op ∷ []), c.loop.invariant.room);
+    }
 
 pub returns : goal.returns
 returns c = is_done c.loop.batch c.args.count c.loop.counter c.loop.cursor (ops_at c.args.count c.args.cursor.now) c.loop-test.false c.loop.invariant.same

@@ -1,8 +1,9 @@
-use Rattle.std.proofs.Common.{◌≡◌, ◌+◌, ◌≤◌, ◌++◌, ◌∷◌, [], max, cond, None, take, ap, subst, ◌∙◌, sym, arith}
+use Rattle.std.proofs.Common.{◌+◌, ◌≤◌, max, cond, None, take, ap, subst, ◌∙◌, sym, arith}
 use Rattle.std.specs.BTreeMap.{get}
 use Rattle.rp_flush.specs.Assigns.{assigned_of, ids_of, seq_of}
+use Rattle.rp_flush.specs.Counts.{stands}
 use Rattle.rp_flush.specs.Steps.{cmd_cmp, is_write_of, with_item}
-use Rattle.rp_flush.proofs.Settling.{stands, item_more, items_more, left_more, last_more}
+use Rattle.rp_flush.proofs.Settling.{item_more, items_more, left_more, last_more}
 use Rattle.rp_flush.proofs.assigns.assign.Goals as goal
 
 pub loop-item-preserved : goal.loop-item-preserved

@@ -2,8 +2,8 @@ use Rattle.std.proofs.Common.{◌≡◌, ◌+◌, ◌≤◌, max, cond, None, ta
 use Rattle.std.specs.BTreeMap.{get}
 use Rattle.rp_base.specs.declared.ids.CmdId.{CmdId}
 use Rattle.rp_flush.specs.Assigns.{assigned_of, ids_of, seq_of}
+use Rattle.rp_flush.specs.Counts.{stands}
 use Rattle.rp_flush.specs.Steps.{cmd_cmp}
-use Rattle.rp_flush.proofs.Settling.{stands}
 use Rattle.rp_flush.proofs.assigns.assign.Given as goal
 
 -- what the items so far make, the commands that did not stand among them, and how far the index rose

@@ -1,4 +1,4 @@
-use Rattle.std.proofs.Common.{◌≡◌, ◌∙◌, sym, ap}
+use Rattle.std.proofs.Common.{◌∙◌, sym, ap}
 use Rattle.std.specs.BTreeMap.{get}
 use Rattle.rp_flush.specs.Steps.{cmd_cmp}
 use Rattle.rp_flush.proofs.Finds.{still_answers, answers_more}

@@ -2,7 +2,7 @@ use Rattle.std.proofs.Common.{◌≡◌, IfOk, rules, subst, tests}
 use Rattle.std.specs.Option.{option_and_then}
 use Rattle.std.proofs.lemmas.Iterator.{items_from_collect}
 use Rattle.std.proofs.lemmas.Iterator.Consumers.{YieldsList-from_filter_map, YieldsList-from_rest, YieldsList-at}
-use Rattle.rp_pending.specs.Sorting.{again_due}
+use Rattle.rp_pending.specs.Dues.{again_due}
 use Rattle.rp_pending.proofs.Reading.{read_slots}
 use Rattle.rp_pending.proofs.refreshes.again_dues.Goals as goal
 

@@ -1,21 +1,21 @@
 use Rattle.std.proofs.Common.{arith, sym, subst, ap, ◌∙◌}
 use Rattle.std.specs.List.{IsDistinct}
 use Rattle.std.specs.Map.{keys_of}
-use Rattle.rp_pending.specs.Proposals.{same_id}
+use Rattle.rp_flush.specs.Assigns.{same_id}
 use Rattle.rp_pending.specs.Slots.{proposals_in, AreSound}
 use Rattle.rp_pending.proofs.Finding.{compacted, no_more}
 use Rattle.rp_pending.proofs.Keeping.{sound_compacted}
 use Rattle.rp_pending.proofs.slots.tidy.Goals as goal
 
-pub overflow_sub-len : goal.overflow_sub-len
-overflow_sub-len c =
+pub overflow_sub-empty : goal.overflow_sub-empty
+overflow_sub-empty c =
     let most = no_more c.args.slots.now.entries in omega (arith, c.requires.counted, c.len.ensures.len)
 
-pub returns-then-len-count-clause-sound : goal.returns-then-len-count-clause-sound
-returns-then-len-count-clause-sound c =
+pub returns-then-empty-gt-FEW_SLOTS-clause-sound : goal.returns-then-empty-gt-FEW_SLOTS-clause-sound
+returns-then-empty-gt-FEW_SLOTS-clause-sound c =
     let e = c.compact.ensures.entries in
     subst (λ fs. AreSound fs c.args.count) (sym e)
     (sound_compacted c.args.slots.now.entries _ c.requires (subst (λ fs. IsDistinct same_id (keys_of fs)) e c.compact.ensures.distinct))
 
-pub returns-then-len-count-clause-same : goal.returns-then-len-count-clause-same
-returns-then-len-count-clause-same c = ap proposals_in c.compact.ensures.entries ∙ (compacted c.args.slots.now.entries c.requires.named).0
+pub returns-then-empty-gt-FEW_SLOTS-clause-same : goal.returns-then-empty-gt-FEW_SLOTS-clause-same
+returns-then-empty-gt-FEW_SLOTS-clause-same c = ap proposals_in c.compact.ensures.entries ∙ (compacted c.args.slots.now.entries c.requires.named).0

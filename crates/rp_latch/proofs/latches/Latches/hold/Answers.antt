@@ -1,28 +1,44 @@
-use Rattle.std.proofs.Common.{◌≡◌, List, [], ◌∷◌, ◌++◌, None, rules, subst, sym}
-use Rattle.rp_latch.specs.declared.holds.Hold.{Hold}
-use Rattle.rp_latch.specs.Holds.{conflict, AllApart, SameLatches, latches_of, first_of, second_of}
-use Rattle.rp_latch.proofs.Conflicts.{one_more}
-use Rattle.rp_latch.proofs.Members.{same_more, first_clear, second_clear}
+use Rattle.std.proofs.Common.{◌≡◌, ◌+◌, ◌<◌, List, [], ◌∷◌, ◌++◌, None, rules, subst, sym, arith}
+use Rattle.std.proofs.lemmas.List.Quantifiers.{all_pairs_push}
+use Rattle.std.proofs.lemmas.List.Elements.{All-push}
+use Rattle.std.specs.Prelude.{map}
+use Rattle.std.specs.List.{All, AllPairs}
+use Rattle.rp_latch.specs.declared.ages.Numbered.{Numbered}
+use Rattle.rp_latch.specs.Holds.{any_meet, conflict}
+use Rattle.rp_latch.specs.Indexes.{hold_of, IsOlder, AreApart, first_latch, second_latch, tag_of, Lists}
+use Rattle.rp_latch.proofs.Elements.{none_at}
+use Rattle.rp_latch.proofs.Conflicts.{none_meets, lists_more, first_clear, second_clear}
 use Rattle.rp_latch.proofs.latches.Latches.hold.Goals as goal
 
 pub put-requires-clause-clear : goal.put-requires-clause-clear
 put-requires-clause-clear c =
-    let clear : conflict c.self.inside.holds.items c.args.spans ≡ None = search rules in
-    first_clear c.self.inside.holds.items c.args.spans c.self.inside.firsts.list c.self.inside.seconds.list c.self.invariant.firsts c.self.invariant.seconds clear
+    let s = c.self.inside in
+    let clear : conflict (map hold_of s.holds.items) c.args.spans ≡ None = search rules in
+    first_clear s.holds.items s.firsts.list s.seconds.list c.self.invariant.firsts c.self.invariant.seconds c.args.spans clear
 
 pub put_second-requires-clause-clear : goal.put_second-requires-clause-clear
 put_second-requires-clause-clear c =
-    let clear : conflict c.self.inside.holds.items c.args.spans ≡ None = search rules in
-    second_clear c.self.inside.holds.items c.args.spans c.self.inside.firsts.list c.self.inside.seconds.list c.self.invariant.firsts c.self.invariant.seconds clear
+    let s = c.self.inside in
+    let clear : conflict (map hold_of s.holds.items) c.args.spans ≡ None = search rules in
+    second_clear s.holds.items s.firsts.list s.seconds.list c.self.invariant.firsts c.self.invariant.seconds c.args.spans clear
 
 pub invariant_of-self : goal.invariant_of-self
 invariant_of-self c =
-    let e : c.push_reserved.new.self.items ≡ c.self.inside.holds.items ++ record { id = c.args.id; spans = c.args.spans } ∷ [] = search rules in
-    let clear : conflict c.self.inside.holds.items c.args.spans ≡ None = search rules in
+    let s = c.self.inside in
+    let hs = s.holds.items in
+    let new : Numbered = record { number = s.next; hold = record { id = c.args.id; spans = c.args.spans } } in
+    let e : c.push_back_reserved.new.self.items ≡ hs ++ new ∷ [] = search rules in
+    let clear : conflict (map hold_of hs) c.args.spans ≡ None = search rules in
     record {
-      apart = subst AllApart (sym e) (one_more _ _ c.self.invariant.apart clear);
-      firsts = subst (λ (hs : List Hold). SameLatches c.put.new.self.list (latches_of first_of hs)) (sym e)
-          (same_more first_of c.self.inside.holds.items (record { id = c.args.id; spans = c.args.spans }) c.self.inside.firsts.list c.put.new.self.list c.self.invariant.firsts c.put.ensures.list);
-      seconds = subst (λ (hs : List Hold). SameLatches c.put_second.new.index.list (latches_of second_of hs)) (sym e)
-          (same_more second_of c.self.inside.holds.items (record { id = c.args.id; spans = c.args.spans }) c.self.inside.seconds.list c.put_second.new.index.list c.self.invariant.seconds c.put_second.ensures.list);
+      apart = subst (AllPairs AreApart) (sym e)
+          (all_pairs_push AreApart hs new c.self.invariant.apart (λ k d l. none_at (λ h. any_meet h.hold.spans c.args.spans) hs (none_meets hs c.args.spans clear) k d l));
+      older = subst (AllPairs IsOlder) (sym e) (all_pairs_push IsOlder hs new c.self.invariant.older c.self.invariant.below);
+      below = subst (All (λ h. h.number < s.next + 1)) (sym e)
+          (All-push (λ h. h.number < s.next + 1) hs new (λ k d l. let below = c.self.invariant.below k d l in omega arith) (omega arith));
+      firsts = subst (λ (xs : List Numbered). Lists first_latch xs c.put.new.self.list) (sym e)
+          (lists_more first_latch hs s.firsts.list c.put.new.self.list c.self.invariant.firsts new c.put.ensures.list);
+      seconds = subst (λ (xs : List Numbered). Lists second_latch xs c.put_second.new.index.list) (sym e)
+          (lists_more second_latch hs s.seconds.list c.put_second.new.index.list c.self.invariant.seconds new c.put_second.ensures.list);
+      tags = subst (λ (xs : List Numbered). Lists tag_of xs c.put-in-None.new.self.list) (sym e)
+          (lists_more tag_of hs s.tags.list c.put-in-None.new.self.list c.self.invariant.tags new c.put-in-None.ensures.list);
     }

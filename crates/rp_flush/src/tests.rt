@@ -1,0 +1,118 @@
+use crate::{Assigned, WaitList, assign};
+use rp_base::{
+    CmdId, Grown, Item, Items, Lease, LeaseAsk, LeaseIndex, LeaseSeq, NodeId, Seq, Tick,
+};
+use rp_request::Waiting;
+use std::alloc::Global;
+use std::test::Fail;
+
+fn id(seq: u32) -> CmdId {
+    CmdId {
+        client: 1,
+        seq,
+        attempt: 1,
+    }
+}
+
+fn ask(expires: u64) -> Result<LeaseAsk, Fail> {
+    Ok(LeaseAsk {
+        holder: NodeId::new(2).ok_or("node 2")?,
+        prev: LeaseSeq::new(3),
+        expires: Tick::new(expires),
+    })
+}
+
+/// A list of commands that wait, each with its lease sequence.
+fn waiting(alloc: Global, parts: &[(u32, u64)]) -> Result<WaitList, Fail> {
+    let mut list = Seq::new(alloc);
+    for part in parts {
+        list.push(Waiting {
+            id: id(part.0),
+            seq: LeaseSeq::new(part.1),
+        })?;
+    }
+    Ok(list)
+}
+
+fn inbox(alloc: Global, items: &[Item]) -> Result<Items, Fail> {
+    let mut list = Grown::new(alloc);
+    list.make_room(items.len())?;
+    list.append_slice(items);
+    Ok(list)
+}
+
+/// What becomes of the items under the lease sequence 3, where the lease applied index and the last
+/// index assigned are these.
+fn flush(
+    alloc: Global,
+    items: &[Item],
+    list: &WaitList,
+    lai: u32,
+    assigned: u32,
+) -> Result<Assigned, Fail> {
+    let lease = Lease {
+        holder: NodeId::new(1).ok_or("node 1")?,
+        seq: LeaseSeq::new(3),
+        expires: Tick::new(50),
+    };
+    let inbox = inbox(alloc, items)?;
+    let (lai, assigned) = (
+        LeaseIndex::new(u64::from(lai)),
+        LeaseIndex::new(u64::from(assigned)),
+    );
+    Ok(assign(alloc, &inbox, list, lease, lai, assigned)?)
+}
+
+fn gives(flushed: &Assigned, writes: &[(CmdId, LeaseIndex)], refused: &[CmdId]) -> bool {
+    flushed.writes.as_slice() == writes && flushed.refused.as_slice() == refused
+}
+
+#[test]
+fn lease_asks_go_first(rt: HostRuntime) -> Result<(), Fail> {
+    let (first, second) = (ask(40)?, ask(41)?);
+    let items = [
+        Item::Write(id(2)),
+        Item::Lease(first),
+        Item::Write(id(1)),
+        Item::Lease(second),
+    ];
+    let list = waiting(rt.alloc(), &[(1, 3), (2, 3)])?;
+    let flushed = flush(rt.alloc(), &items, &list, 7, 4)?;
+    assert!(rt; flushed.leases.as_slice() == [first, second].as_slice());
+    assert!(rt;
+        gives(
+            &flushed,
+            &[(id(2), LeaseIndex::new(8)), (id(1), LeaseIndex::new(9))],
+            &[]
+        )
+    );
+    assert!(rt; flushed.last.get() == 9);
+    Ok(())
+}
+
+#[test]
+fn a_command_is_settled_once(rt: HostRuntime) -> Result<(), Fail> {
+    let items = [
+        Item::Write(id(1)),
+        Item::Write(id(2)),
+        Item::Write(id(1)),
+        Item::Write(id(9)),
+        Item::Write(id(2)),
+        Item::Write(id(3)),
+    ];
+    let list = waiting(rt.alloc(), &[(3, 3), (2, 2), (1, 3)])?;
+    let flushed = flush(rt.alloc(), &items, &list, 4, 7)?;
+    assert!(rt;
+        gives(
+            &flushed,
+            &[(id(1), LeaseIndex::new(8)), (id(3), LeaseIndex::new(9))],
+            &[id(2)]
+        )
+    );
+    assert!(rt; flushed.last.get() == 9);
+    assert!(rt; flushed.leases.len() == 0);
+    let none = flush(rt.alloc(), &[], &list, 4, 7)?;
+    assert!(rt; gives(&none, &[], &[]));
+    assert!(rt; none.last.get() == 7);
+    Ok(())
+}

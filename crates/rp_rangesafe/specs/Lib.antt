@@ -1,0 +1,5 @@
+pub mod Attempts
+pub mod Along
+pub mod World
+pub mod Places
+pub mod Ranges

@@ -1,0 +1,181 @@
+//! Laws of the range machine, for every list of lawful events. No program calls these functions.
+
+ghost use Rattle.std.specs.Prelude.{◌≡◌, ℕ, ◌<◌, ◌≤◌, true, Some, [], length, slice_get};
+ghost use Rattle.rp_base.specs.declared.ids.CmdId.{CmdId};
+ghost use Rattle.rp_request.specs.declared.commands.Command.{Command};
+ghost use Rattle.rp_request.specs.declared.outcomes.Reply.{Reply};
+ghost use Rattle.rp_request.specs.declared.items.Record.TheVariants as kept;
+ghost use Rattle.rp_request.specs.Items.{fold};
+ghost use Rattle.rp_request.specs.Places.{IsOnceInAll};
+ghost use Rattle.rp_request.specs.Starts.{IsStart};
+ghost use Rattle.rp_eval.specs.Evaluations.{Does};
+ghost use Rattle.rp_apply.specs.Applied.{AppliedState, item, records_of};
+ghost use Rattle.rp_rangesafe.specs.Attempts.{Unborn, Success, Refused, Overtaken, Restarted, IsBorn, IsEnded, IsAmong, IsOpen};
+ghost use Rattle.rp_rangesafe.specs.Along.{entry};
+ghost use Rattle.rp_rangesafe.specs.World.{World, state_at};
+ghost use Rattle.rp_rangesafe.specs.Places.{IsReached, IsLater, IsFurther, IsPlace, IsDeadByStage, IsDeadForGood, HasNever, IsPlacedWith, IsLawfulPlace, shown, items_to};
+ghost use Rattle.rp_rangesafe.specs.Ranges.{Ranges, AreReached, AreLater, IsRefused, IsTheOnePlace, HasNowhere, lists, right_of};
+
+/// Along a range's list the lease applied index, the lease sequence and the level of its description never fall, and it
+/// keeps its number.
+pub fn numbers_never_fall()
+    ensures { (w : World) (i : ℕ) (j : ℕ) → i ≤ j → IsFurther (state_at w i) (state_at w j) }
+{}
+
+/// At any two indexes of a list at which the lease sequence is the same, so is the lease's holder.
+pub fn one_sequence_has_one_holder()
+    ensures { (w : World) (i : ℕ) (j : ℕ) → (state_at w i).lease.seq ≡ (state_at w j).lease.seq
+        → (state_at w i).lease.holder ≡ (state_at w j).lease.holder }
+{}
+
+/// Of a waiting, proposed, refused or removed attempt no place stands in its node's prefix. Each maximum that an attempt
+/// ever had is blocked there, but the last one of a proposed, a removed or a restarted one.
+pub fn maxima_are_dead_by_stage()
+    ensures { (w : World) → IsReached w → (id : CmdId) → IsDeadByStage w id }
+{}
+
+/// Such a maximum is dead for good: whatever comes, no further place has it.
+pub fn dead_maxima_stay_dead()
+    ensures { (w : World) → IsReached w → (id : CmdId) (m : ℕ) → IsAmong (w.attempt id).maxima m
+        → (IsOpen (w.attempt id).stage m → ⊥) → IsDeadForGood w id m }
+{}
+
+/// Each command, by client and by its number among the client's, has at most one place over the applied lists of all
+/// ranges, whichever of its attempts the place names.
+pub fn at_most_once()
+    ensures { (w : Ranges) → AreReached w → IsOnceInAll (lists w) }
+{}
+
+/// A refused attempt has no place in its range and gets none, whatever comes.
+pub fn refused_never_takes_effect()
+    ensures { (w : World) → IsReached w → (id : CmdId) → (w.attempt id).stage ≡ Refused → HasNever w id }
+{}
+
+/// An attempt that succeeded has a place, with its reply.
+pub fn success_is_a_place()
+    ensures { (w : World) → IsReached w → (id : CmdId) (reply : Reply) → (w.attempt id).stage ≡ Success reply
+        → IsPlacedWith w id reply }
+{}
+
+/// A snapshot overtook an attempt only where it had a maximum, at or below the snapshot's lease applied index.
+pub fn an_overtaken_attempt_was_passed()
+    ensures { (w : World) → IsReached w → (id : CmdId) (own : ℕ) (passed : ℕ) → (w.attempt id).stage ≡ Overtaken own passed
+        → (0 < own) × (own ≤ passed) }
+{}
+
+/// The maximum of a proposed, a removed or a restarted attempt is at least 1.
+pub fn an_open_maximum_is_positive()
+    ensures { (w : World) → IsReached w → (id : CmdId) (own : ℕ) → IsOpen (w.attempt id).stage own → 0 < own }
+{}
+
+/// At its place, on the table and the description there, an attempt's batch does what the effect of its request does,
+/// and its reply is the effect's.
+pub fn effect_at_its_place()
+    ensures { (w : World) → IsReached w → (id : CmdId) (k : ℕ) (c : Command) → IsPlace w id k c
+        → Does (state_at w k).table (state_at w k).desc c.request (record { batch = c.batch; reply = c.reply }) }
+{}
+
+/// The fold of a range's items, each request evaluated again, is the state that the batches make, at each index.
+pub fn fold_of_requests_is_fold_of_batches()
+    ensures { (w : World) → IsReached w → (i : ℕ) → i ≤ length w.log
+        → fold (shown w.start) (items_to w i) ≡ Some (shown (state_at w i)) }
+{}
+
+/// A place is lawful: it has the lease sequence and the description of its admission, whose node holds the lease, and its
+/// request lies in the bounds there and is evaluated there as it was.
+pub fn places_are_lawful()
+    ensures { (w : World) → IsReached w → (id : CmdId) (k : ℕ) (c : Command) → IsPlace w id k c → IsLawfulPlace w id k c }
+{}
+
+/// No attempt is admitted under a lease sequence at or below its node's barrier.
+pub fn no_admission_below_the_barrier()
+    ensures { (w : World) → IsReached w → (later : World) → IsLater w later → (id : CmdId) → (w.attempt id).stage ≡ Unborn
+        → IsBorn (later.attempt id).stage → w.barrier (later.attempt id).node < (later.attempt id).seq }
+{}
+
+/// Whatever comes, an attempt that a restart ended has no place but under its last maximum.
+pub fn a_restarted_attempt_has_its_last_maximum()
+    ensures { (w : World) → IsReached w → (id : CmdId) (own : ℕ) → (w.attempt id).stage ≡ Restarted own
+        → (later : World) (k : ℕ) (c : Command) → IsLater w later → IsPlace later id k c → c.max ≡ own }
+{}
+
+/// Two places of one command, in whichever ranges and of whichever of its attempts, are one.
+pub fn at_most_one_place()
+    ensures { (w : Ranges) → AreReached w → (q : ℕ) (r : ℕ) (j : ℕ) (k : ℕ) (x : CmdId) (y : CmdId) (c : Command) (d : Command)
+        → x.client ≡ y.client → x.seq ≡ y.seq → IsPlace (w.range q) x j c → IsPlace (w.range r) y k d → (q ≡ r) × (j ≡ k) }
+{}
+
+/// A refused attempt, also one that was turned away at its admission, has no place in any range and gets none, whatever
+/// comes.
+pub fn refused_has_no_place_in_any_range()
+    ensures { (w : Ranges) → AreReached w → (id : CmdId) → IsRefused w id → HasNowhere w id }
+{}
+
+/// An attempt that succeeded has a place with its reply, which is the one place of its command in all ranges.
+pub fn success_is_the_one_place()
+    ensures { (w : Ranges) → AreReached w → (range : ℕ) (id : CmdId) (reply : Reply)
+        → ((w.range range).attempt id).stage ≡ Success reply → IsTheOnePlace w range id reply }
+{}
+
+/// Of all ranges together each one is a range as it can be by itself, and one that there is goes on as it can become.
+pub fn each_range_runs_by_itself()
+    ensures reached { (w : Ranges) → AreReached w → (r : ℕ) → IsReached (w.range r) }
+    ensures goes_on { (w : Ranges) → AreReached w → (later : Ranges) → AreLater w later → (r : ℕ) → w.opened r ≡ true
+        → (later.opened r ≡ true) × IsLater (w.range r) (later.range r) }
+{}
+
+/// Range 0 starts with no key, and each other range that there is from the split in the list of the range that it was split
+/// off from: with the part of the table, the description and the lease that the fold gives there. Its lease applied index
+/// is 0.
+pub fn ranges_start_from_their_split()
+    ensures start { (w : Ranges) → AreReached w → (r : ℕ) → w.opened r ≡ true → IsStart (lists w) r (shown (w.range r).start) }
+    ensures unapplied { (w : Ranges) → AreReached w → (r : ℕ) → w.opened r ≡ true → (w.range r).start.lai ≡ 0 }
+{}
+
+/// Two entries that open a range of one number are one entry.
+pub fn one_split_opens_a_range()
+    ensures { (w : Ranges) → AreReached w → (q : ℕ) (r : ℕ) (j : ℕ) (k : ℕ) (s : AppliedState) (t : AppliedState)
+        → j < length (w.range q).log → k < length (w.range r).log
+        → right_of (state_at (w.range q) j) (entry (w.range q).log j) ≡ Some s
+        → right_of (state_at (w.range r) k) (entry (w.range r).log k) ≡ Some t
+        → s.desc.id ≡ t.desc.id → (q ≡ r) × (j ≡ k) }
+{}
+
+/// A split that is taken opens its right range, which starts from it.
+pub fn a_split_opens_its_right_range()
+    ensures { (w : Ranges) → AreReached w → (r : ℕ) (k : ℕ) (s : AppliedState) → k < length (w.range r).log
+        → right_of (state_at (w.range r) k) (entry (w.range r).log k) ≡ Some s
+        → (w.opened s.desc.id ≡ true) × ((w.range s.desc.id).start ≡ s) }
+{}
+
+/// The record of a place is that its item was taken, and the item stands in the applied list, behind the items of the
+/// entries before.
+pub fn a_place_is_recorded()
+    ensures recorded { (w : World) (id : CmdId) (k : ℕ) (c : Command) → IsPlace w id k c
+        → slice_get (records_of w.start w.log) k ≡ Some (kept.Took (item (state_at w k).desc c)) }
+    ensures listed { (w : World) (id : CmdId) (k : ℕ) (c : Command) → IsPlace w id k c
+        → slice_get (items_to w (length w.log)) (length (items_to w k)) ≡ Some (item (state_at w k).desc c) }
+{}
+
+/// A range's list only grows: later it has the same entries, and the same states up to them.
+pub fn a_list_only_grows()
+    ensures length { (w : World) (later : World) → IsLater w later → length w.log ≤ length later.log }
+    ensures entries { (w : World) (later : World) → IsLater w later → (k : ℕ) → k < length w.log → entry w.log k ≡ entry later.log k }
+    ensures states { (w : World) (later : World) → IsLater w later → (i : ℕ) → i ≤ length w.log → state_at w i ≡ state_at later i }
+{}
+
+/// A place stays, whatever comes.
+pub fn a_place_stays()
+    ensures { (w : World) (later : World) → IsLater w later → (id : CmdId) (k : ℕ) (c : Command) → IsPlace w id k c → IsPlace later id k c }
+{}
+
+/// An attempt that has ended stays as it is, whatever comes.
+pub fn an_ended_attempt_stays()
+    ensures { (w : World) (later : World) → IsLater w later → (id : CmdId) → IsEnded (w.attempt id).stage → w.attempt id ≡ later.attempt id }
+{}
+
+/// A node has applied no more entries than the list has, and an attempt that was not made has no maximum.
+pub fn a_node_stands_in_the_list()
+    ensures within { (w : World) → IsReached w → (node : ℕ) → w.index node ≤ length w.log }
+    ensures maxima { (w : World) → IsReached w → (id : CmdId) → (w.attempt id).stage ≡ Unborn → (w.attempt id).maxima ≡ [] }
+{}

@@ -1,0 +1,364 @@
+-- Replies, refusals and ends of attempts: what their words tell.
+use Rattle.std.proofs.Common.{◌≡◌, ℕ, ◌<◌, ◌^◌, true, List, [], ◌∷◌, ◌++◌, Option, Some, None, IfSome, refl, ap, sym, ◌∙◌, lit<, arith, append_assoc, Result, Ok, Err}
+use Rattle.std.specs.Prelude.{codes, if◌then◌else◌}
+use Rattle.std.specs.Fmt.{decimal}
+use Rattle.std.specs.Str.{bytes_eq}
+use Rattle.rp_base.specs.Keys.{bound_text}
+use Rattle.rp_base.specs.Numbers.{u64_of}
+use Rattle.rp_base.specs.declared.CmdId.{CmdId}
+use Rattle.rp_base.specs.declared.NumberFault.{NumberFault}
+use Rattle.rp_base.proofs.KeyLaws.{one_bound}
+use Rattle.rp_base.proofs.NumberLaws.{read_as_written}
+use Rattle.rp_base.proofs.SplitLaws.{desc_same}
+use Rattle.rp_request.specs.declared.outcomes.Reply.{Reply}
+use Rattle.rp_request.specs.declared.outcomes.Reply.TheVariants.{Old, Now, Set, Count, Range}
+use Rattle.rp_request.specs.declared.outcomes.Refusal.{Refusal}
+use Rattle.rp_request.specs.declared.outcomes.Refusal.TheVariants.{NoReplica, NotLeaseHolder, RangeMismatch, Latched, ConditionFailed, Overflow, Short, TooWide, NotInside, SplitLimit}
+use Rattle.rp_request.specs.declared.outcomes.Ambiguity.{Ambiguity}
+use Rattle.rp_request.specs.declared.outcomes.Ambiguity.TheVariants.{Snapshot, Removed}
+use Rattle.rp_request.specs.declared.outcomes.Outcome.{Outcome}
+use Rattle.rp_request.specs.declared.outcomes.Outcome.TheVariants.{Success, Refused, Ambiguous, Pending}
+use Rattle.rp_request.specs.declared.outcomes.End.{End}
+use Rattle.rp_request.specs.declared.outcomes.End.TheVariants as ends
+use Rattle.rp_report.specs.Words.{value_text}
+use Rattle.rp_report.specs.Items.{reply_text}
+use Rattle.rp_report.specs.Outcomes.{refusal_text, ambiguity_text, end_text}
+use Rattle.rp_report.specs.Told.{IsReply, told_reply, IsAttempt, IsRefusal, told_refusal, IsAmbiguity, IsEnd, told_end}
+use Rattle.rp_report.proofs.WordLaws.{AreWords, literal_word, spoken, are_some, spoken_append, same_words, number_word, bound_word, dotted_word, number_same, dotted_same}
+use Rattle.rp_report.proofs.RequestWords.{value_word, number_is_no_word}
+
+abbrev pub reply_words : Reply → List (List ℕ)
+reply_words (Old value) = value_text value ∷ []
+reply_words (Now value) = decimal value ∷ []
+reply_words Set = codes "set" ∷ []
+reply_words (Count count) = decimal count ∷ []
+reply_words (Range right) = codes "range" ∷ decimal right ∷ []
+
+pub reply_spoken : (r : Reply) → reply_text r ≡ spoken (reply_words r)
+reply_spoken (Old value) = refl
+reply_spoken (Now value) = refl
+reply_spoken Set = refl
+reply_spoken (Count count) = refl
+reply_spoken (Range right) = refl
+
+pub reply_are_some : (r : Reply) → are_some (reply_words r) ≡ true
+reply_are_some (Old value) = refl
+reply_are_some (Now value) = refl
+reply_are_some Set = refl
+reply_are_some (Count count) = refl
+reply_are_some (Range right) = refl
+
+pub reply_are_words : (r : Reply) → IsReply r → AreWords (reply_words r)
+reply_are_words (Old value) h = (value_word value h, tt)
+reply_are_words (Now value) h = (number_word value h, tt)
+reply_are_words Set h = (literal_word (codes "set") refl, tt)
+reply_are_words (Count count) h = (number_word count h, tt)
+reply_are_words (Range right) h = (literal_word (codes "range") refl, (number_word right h, tt))
+
+-- the number that a word writes
+abbrev number_or : Result ℕ NumberFault → ℕ
+number_or (Ok n) = n
+number_or (Err e) = 0
+
+abbrev reply_of_word : List ℕ → Reply
+reply_of_word w = if bytes_eq w (codes "none") then Old None else (if bytes_eq w (codes "set") then Set else Now (number_or (u64_of w)))
+
+-- the reply that words tell
+abbrev reply_of : List (List ℕ) → Reply
+reply_of [] = Set
+reply_of (w ∷ []) = reply_of_word w
+reply_of (w ∷ v ∷ ws) = Range (number_or (u64_of v))
+
+number_reply : (n : ℕ) → n < 2 ^ 64 → reply_of_word (decimal n) ≡ Now n
+number_reply n fits =
+    rw (number_is_no_word n 110 (111 ∷ 110 ∷ 101 ∷ []) fits refl, number_is_no_word n 115 (101 ∷ 116 ∷ []) fits refl, read_as_written n fits) refl
+
+pub reply_read : (r : Reply) → IsReply r → reply_of (reply_words r) ≡ told_reply r
+reply_read (Old None) h = refl
+reply_read (Old (Some value)) h = number_reply value h
+reply_read (Now value) h = number_reply value h
+reply_read Set h = refl
+reply_read (Count count) h = number_reply count h
+reply_read (Range right) h = rw (read_as_written right h) refl
+
+pub replies_by_words : (r s : Reply) → IsReply r → IsReply s → reply_words r ≡ reply_words s → told_reply r ≡ told_reply s
+replies_by_words r s hr hs same = sym (reply_read r hr) ∙ ap reply_of same ∙ reply_read s hs
+
+values_by_word : (u v : Option ℕ) → IfSome u (λ n. n < 2 ^ 64) → IfSome v (λ n. n < 2 ^ 64) → value_text u ≡ value_text v → u ≡ v
+values_by_word None None hu hv same = refl
+values_by_word None (Some n) hu hv same =
+    absurd (let a = number_is_no_word n 110 (111 ∷ 110 ∷ 101 ∷ []) hv refl in let b = ap (λ w. bytes_eq w (codes "none")) same in cc)
+values_by_word (Some m) None hu hv same =
+    absurd (let a = number_is_no_word m 110 (111 ∷ 110 ∷ 101 ∷ []) hu refl in let b = ap (λ w. bytes_eq w (codes "none")) same in cc)
+values_by_word (Some m) (Some n) hu hv same = ap (λ (k : ℕ). let x : Option ℕ = Some k in x) (number_same m n hu hv same)
+
+abbrev pub command_word : CmdId → List ℕ
+command_word id = decimal id.client ++ 46 ∷ decimal id.seq
+
+abbrev pub refusal_words : Refusal → List (List ℕ)
+refusal_words NoReplica = codes "no-replica" ∷ []
+refusal_words (NotLeaseHolder lease) = codes "not-lease-holder" ∷ decimal lease.holder ∷ decimal lease.seq ∷ []
+refusal_words (RangeMismatch desc) = codes "range-mismatch" ∷ decimal desc.id ∷ bound_text desc.start ∷ bound_text desc.end ∷ decimal desc.level ∷ []
+refusal_words (Latched by held) = codes "latched" ∷ command_word by ∷ decimal by.attempt ∷ []
+refusal_words (ConditionFailed actual) = codes "condition-failed" ∷ value_text actual ∷ []
+refusal_words (Overflow actual) = codes "overflow" ∷ decimal actual ∷ []
+refusal_words (Short actual) = codes "short" ∷ decimal actual ∷ []
+refusal_words (TooWide count) = codes "too-wide" ∷ decimal count ∷ []
+refusal_words NotInside = codes "not-inside" ∷ []
+refusal_words (SplitLimit level) = codes "split-limit" ∷ decimal level ∷ []
+
+mismatch_spoken : (w i a b l : List ℕ) → w ++ (codes " " ++ i) ++ (codes " " ++ a) ++ (codes " " ++ b) ++ (codes " " ++ l)
+    ≡ w ++ 32 ∷ (i ++ 32 ∷ (a ++ 32 ∷ (b ++ 32 ∷ l)))
+mismatch_spoken w i a b l = simp append_assoc
+
+pub refusal_spoken : (r : Refusal) → refusal_text r ≡ spoken (refusal_words r)
+refusal_spoken NoReplica = refl
+refusal_spoken (NotLeaseHolder lease) = simp append_assoc
+refusal_spoken (RangeMismatch desc) = mismatch_spoken (codes "range-mismatch") (decimal desc.id) (bound_text desc.start) (bound_text desc.end) (decimal desc.level)
+refusal_spoken (Latched by held) = simp append_assoc
+refusal_spoken (ConditionFailed actual) = refl
+refusal_spoken (Overflow actual) = refl
+refusal_spoken (Short actual) = refl
+refusal_spoken (TooWide count) = refl
+refusal_spoken NotInside = refl
+refusal_spoken (SplitLimit level) = refl
+
+pub refusal_are_some : (r : Refusal) → are_some (refusal_words r) ≡ true
+refusal_are_some NoReplica = refl
+refusal_are_some (NotLeaseHolder lease) = refl
+refusal_are_some (RangeMismatch desc) = refl
+refusal_are_some (Latched by held) = refl
+refusal_are_some (ConditionFailed actual) = refl
+refusal_are_some (Overflow actual) = refl
+refusal_are_some (Short actual) = refl
+refusal_are_some (TooWide count) = refl
+refusal_are_some NotInside = refl
+refusal_are_some (SplitLimit level) = refl
+
+pub refusal_are_words : (r : Refusal) → IsRefusal r → AreWords (refusal_words r)
+refusal_are_words NoReplica h = (literal_word (codes "no-replica") refl, tt)
+refusal_are_words (NotLeaseHolder lease) h = (literal_word (codes "not-lease-holder") refl, (number_word lease.holder h.0, (number_word lease.seq h.1, tt)))
+refusal_are_words (RangeMismatch desc) h =
+    (literal_word (codes "range-mismatch") refl, (number_word desc.id h.0, (bound_word desc.start h.1, (bound_word desc.end h.2, (number_word desc.level h.3, tt)))))
+refusal_are_words (Latched by held) h = (literal_word (codes "latched") refl, (dotted_word by.client by.seq h.0 h.1, (number_word by.attempt h.2, tt)))
+refusal_are_words (ConditionFailed actual) h = (literal_word (codes "condition-failed") refl, (value_word actual h, tt))
+refusal_are_words (Overflow actual) h = (literal_word (codes "overflow") refl, (number_word actual h, tt))
+refusal_are_words (Short actual) h = (literal_word (codes "short") refl, (number_word actual h, tt))
+refusal_are_words (TooWide count) h = (literal_word (codes "too-wide") refl, (number_word count h, tt))
+refusal_are_words NotInside h = (literal_word (codes "not-inside") refl, tt)
+refusal_are_words (SplitLimit level) h = (literal_word (codes "split-limit") refl, (number_word level h, tt))
+
+-- which refusal it is
+abbrev refusal_kind : Refusal → ℕ
+refusal_kind NoReplica = 1
+refusal_kind (NotLeaseHolder lease) = 2
+refusal_kind (RangeMismatch desc) = 3
+refusal_kind (Latched by held) = 4
+refusal_kind (ConditionFailed actual) = 5
+refusal_kind (Overflow actual) = 6
+refusal_kind (Short actual) = 7
+refusal_kind (TooWide count) = 8
+refusal_kind NotInside = 9
+refusal_kind (SplitLimit level) = 10
+
+-- its first word says so
+abbrev kind_of_word : List ℕ → ℕ
+kind_of_word w =
+    if bytes_eq w (codes "no-replica") then 1
+    else (if bytes_eq w (codes "not-lease-holder") then 2
+    else (if bytes_eq w (codes "range-mismatch") then 3
+    else (if bytes_eq w (codes "latched") then 4
+    else (if bytes_eq w (codes "condition-failed") then 5
+    else (if bytes_eq w (codes "overflow") then 6
+    else (if bytes_eq w (codes "short") then 7
+    else (if bytes_eq w (codes "too-wide") then 8
+    else (if bytes_eq w (codes "not-inside") then 9
+    else (if bytes_eq w (codes "split-limit") then 10
+    else 0)))))))))
+
+abbrev first_of : List (List ℕ) → List ℕ
+first_of [] = []
+first_of (w ∷ ws) = w
+
+refusal_kind_known : (r : Refusal) → kind_of_word (first_of (refusal_words r)) ≡ refusal_kind r
+refusal_kind_known NoReplica = refl
+refusal_kind_known (NotLeaseHolder lease) = refl
+refusal_kind_known (RangeMismatch desc) = refl
+refusal_kind_known (Latched by held) = refl
+refusal_kind_known (ConditionFailed actual) = refl
+refusal_kind_known (Overflow actual) = refl
+refusal_kind_known (Short actual) = refl
+refusal_kind_known (TooWide count) = refl
+refusal_kind_known NotInside = refl
+refusal_kind_known (SplitLimit level) = refl
+
+pub attempts_by_words : (a b : CmdId) → IsAttempt a → IsAttempt b → command_word a ≡ command_word b → decimal a.attempt ≡ decimal b.attempt → a ≡ b
+attempts_by_words a b ha hb command attempt =
+    let parts = dotted_same a.client a.seq b.client b.seq ha.0 ha.1 hb.0 hb.1 command in
+    let client : a.client ≡ b.client = parts.0 in
+    let seq : a.seq ≡ b.seq = parts.1 in
+    let last : a.attempt ≡ b.attempt = number_same a.attempt b.attempt ha.2 hb.2 attempt in
+    let made = λ (x : ℕ) (y : ℕ) (z : ℕ). let id : CmdId = record { client = x; seq = y; attempt = z } in id in
+    ap (λ (x : ℕ). made x a.seq a.attempt) client ∙ ap (λ (y : ℕ). made b.client y a.attempt) seq ∙ ap (λ (z : ℕ). made b.client b.seq z) last
+
+refusals_alike : (p q : Refusal) → IsRefusal p → IsRefusal q → refusal_kind p ≡ refusal_kind q → refusal_words p ≡ refusal_words q → told_refusal p ≡ told_refusal q
+refusals_alike NoReplica NoReplica hp hq kind same = refl
+refusals_alike (NotLeaseHolder a) (NotLeaseHolder b) hp hq kind same =
+    let holder = number_same a.holder b.holder hp.0 hq.0 (cc) in
+    let seq = number_same a.seq b.seq hp.1 hq.1 (cc) in
+    cc
+refusals_alike (RangeMismatch a) (RangeMismatch b) hp hq kind same =
+    ap RangeMismatch
+    (desc_same a b (number_same a.id b.id hp.0 hq.0 (cc)) (number_same a.level b.level hp.3 hq.3 (cc))
+    (one_bound a.start b.start hp.1 hq.1 (cc)) (one_bound a.end b.end hp.2 hq.2 (cc)))
+refusals_alike (Latched a s) (Latched b t) hp hq kind same = let e = attempts_by_words a b hp hq (cc) (cc) in cc
+refusals_alike (ConditionFailed a) (ConditionFailed b) hp hq kind same = ap ConditionFailed (values_by_word a b hp hq (cc))
+refusals_alike (Overflow a) (Overflow b) hp hq kind same = ap Overflow (number_same a b hp hq (cc))
+refusals_alike (Short a) (Short b) hp hq kind same = ap Short (number_same a b hp hq (cc))
+refusals_alike (TooWide a) (TooWide b) hp hq kind same = ap TooWide (number_same a b hp hq (cc))
+refusals_alike NotInside NotInside hp hq kind same = refl
+refusals_alike (SplitLimit a) (SplitLimit b) hp hq kind same = ap SplitLimit (number_same a b hp hq (cc))
+refusals_alike p q hp hq kind same = absurd (omega arith)
+
+pub refusals_by_words : (p q : Refusal) → IsRefusal p → IsRefusal q → refusal_words p ≡ refusal_words q → told_refusal p ≡ told_refusal q
+refusals_by_words p q hp hq same =
+    refusals_alike p q hp hq (sym (refusal_kind_known p) ∙ ap (λ ws. kind_of_word (first_of ws)) same ∙ refusal_kind_known q) same
+
+-- replies, and refusals, with one text are told alike
+pub one_reply : (r s : Reply) → IsReply r → IsReply s → reply_text r ≡ reply_text s → told_reply r ≡ told_reply s
+one_reply r s hr hs same =
+    replies_by_words r s hr hs (same_words (reply_words r) (reply_words s) (reply_are_words r hr) (reply_are_words s hs) (sym (reply_spoken r) ∙ same ∙ reply_spoken s))
+
+pub one_refusal : (p q : Refusal) → IsRefusal p → IsRefusal q → refusal_text p ≡ refusal_text q → told_refusal p ≡ told_refusal q
+one_refusal p q hp hq same =
+    refusals_by_words p q hp hq
+    (same_words (refusal_words p) (refusal_words q) (refusal_are_words p hp) (refusal_are_words q hq) (sym (refusal_spoken p) ∙ same ∙ refusal_spoken q))
+
+abbrev pub ambiguity_words : Ambiguity → List (List ℕ)
+ambiguity_words (Snapshot own passed) = codes "snapshot" ∷ decimal own ∷ decimal passed ∷ []
+ambiguity_words (Removed own) = codes "removed" ∷ decimal own ∷ []
+
+ambiguity_spoken : (a : Ambiguity) → ambiguity_text a ≡ spoken (ambiguity_words a)
+ambiguity_spoken (Snapshot own passed) = simp append_assoc
+ambiguity_spoken (Removed own) = refl
+
+ambiguity_are_some : (a : Ambiguity) → are_some (ambiguity_words a) ≡ true
+ambiguity_are_some (Snapshot own passed) = refl
+ambiguity_are_some (Removed own) = refl
+
+ambiguity_are_words : (a : Ambiguity) → IsAmbiguity a → AreWords (ambiguity_words a)
+ambiguity_are_words (Snapshot own passed) h = (literal_word (codes "snapshot") refl, (number_word own h.0, (number_word passed h.1, tt)))
+ambiguity_are_words (Removed own) h = (literal_word (codes "removed") refl, (number_word own h, tt))
+
+ambiguities_by_words : (a b : Ambiguity) → IsAmbiguity a → IsAmbiguity b → ambiguity_words a ≡ ambiguity_words b → a ≡ b
+ambiguities_by_words (Snapshot k l) (Snapshot m n) ha hb same =
+    let own = number_same k m ha.0 hb.0 (cc) in
+    let passed = number_same l n ha.1 hb.1 (cc) in
+    cc
+ambiguities_by_words (Snapshot k l) (Removed n) ha hb same = absurd (let e = ap (λ ws. bytes_eq (first_of ws) (codes "snapshot")) same in cc)
+ambiguities_by_words (Removed m) (Snapshot k l) ha hb same = absurd (let e = ap (λ ws. bytes_eq (first_of ws) (codes "snapshot")) same in cc)
+ambiguities_by_words (Removed m) (Removed n) ha hb same = ap Removed (number_same m n ha hb (cc))
+
+abbrev pub end_words : End → List (List ℕ)
+end_words (ends.Outcome (Success reply)) = codes "ok" ∷ reply_words reply
+end_words (ends.Outcome (Refused refusal)) = codes "refused" ∷ refusal_words refusal
+end_words (ends.Outcome (Ambiguous ambiguity)) = codes "ambiguous" ∷ ambiguity_words ambiguity
+end_words (ends.Outcome Pending) = codes "pending" ∷ []
+end_words (ends.Tries last) = codes "refused" ∷ codes "tries" ∷ refusal_words last
+end_words ends.Unsent = codes "unsent" ∷ []
+
+pub end_spoken : (e : End) → end_text e ≡ spoken (end_words e)
+end_spoken (ends.Outcome (Success reply)) =
+    ap (λ t. codes "ok " ++ t) (reply_spoken reply) ∙ sym (spoken_append (codes "ok" ∷ []) (reply_words reply) refl (reply_are_some reply))
+end_spoken (ends.Outcome (Refused refusal)) =
+    ap (λ t. codes "refused " ++ t) (refusal_spoken refusal) ∙ sym (spoken_append (codes "refused" ∷ []) (refusal_words refusal) refl (refusal_are_some refusal))
+end_spoken (ends.Outcome (Ambiguous ambiguity)) =
+    ap (λ t. codes "ambiguous " ++ t) (ambiguity_spoken ambiguity) ∙ sym (spoken_append (codes "ambiguous" ∷ []) (ambiguity_words ambiguity) refl (ambiguity_are_some ambiguity))
+end_spoken (ends.Outcome Pending) = refl
+end_spoken (ends.Tries last) =
+    ap (λ t. codes "refused tries " ++ t) (refusal_spoken last)
+    ∙ sym (spoken_append (codes "refused" ∷ codes "tries" ∷ []) (refusal_words last) refl (refusal_are_some last))
+end_spoken ends.Unsent = refl
+
+pub end_are_words : (e : End) → IsEnd e → AreWords (end_words e)
+end_are_words (ends.Outcome (Success reply)) h = (literal_word (codes "ok") refl, reply_are_words reply h)
+end_are_words (ends.Outcome (Refused refusal)) h = (literal_word (codes "refused") refl, refusal_are_words refusal h)
+end_are_words (ends.Outcome (Ambiguous ambiguity)) h = (literal_word (codes "ambiguous") refl, ambiguity_are_words ambiguity h)
+end_are_words (ends.Outcome Pending) h = (literal_word (codes "pending") refl, tt)
+end_are_words (ends.Tries last) h = (literal_word (codes "refused") refl, (literal_word (codes "tries") refl, refusal_are_words last h))
+end_are_words ends.Unsent h = (literal_word (codes "unsent") refl, tt)
+
+-- which end it is
+abbrev end_kind : End → ℕ
+end_kind (ends.Outcome (Success reply)) = 1
+end_kind (ends.Outcome (Refused refusal)) = 2
+end_kind (ends.Outcome (Ambiguous ambiguity)) = 3
+end_kind (ends.Outcome Pending) = 5
+end_kind (ends.Tries last) = 6
+end_kind ends.Unsent = 7
+
+-- its first two words say so
+abbrev kind_of_words : List ℕ → List ℕ → ℕ
+kind_of_words w v =
+    if bytes_eq w (codes "ok") then 1
+    else (if bytes_eq w (codes "refused") then (if bytes_eq v (codes "tries") then 6 else 2)
+    else (if bytes_eq w (codes "ambiguous") then 3
+    else (if bytes_eq w (codes "pending") then 5
+    else (if bytes_eq w (codes "unsent") then 7
+    else 0))))
+
+abbrev second_of : List (List ℕ) → List ℕ
+second_of [] = []
+second_of (w ∷ ws) = first_of ws
+
+abbrev kind_in : List (List ℕ) → ℕ
+kind_in ws = kind_of_words (first_of ws) (second_of ws)
+
+no_tries : (r : Refusal) → kind_in (codes "refused" ∷ refusal_words r) ≡ 2
+no_tries NoReplica = refl
+no_tries (NotLeaseHolder lease) = refl
+no_tries (RangeMismatch desc) = refl
+no_tries (Latched by held) = refl
+no_tries (ConditionFailed actual) = refl
+no_tries (Overflow actual) = refl
+no_tries (Short actual) = refl
+no_tries (TooWide count) = refl
+no_tries NotInside = refl
+no_tries (SplitLimit level) = refl
+
+end_kind_known : (e : End) → kind_in (end_words e) ≡ end_kind e
+end_kind_known (ends.Outcome (Success reply)) = refl
+end_kind_known (ends.Outcome (Refused refusal)) = no_tries refusal
+end_kind_known (ends.Outcome (Ambiguous ambiguity)) = refl
+end_kind_known (ends.Outcome Pending) = refl
+end_kind_known (ends.Tries last) = refl
+end_kind_known ends.Unsent = refl
+
+below_six : (o : Outcome) → end_kind (ends.Outcome o) < 6
+below_six (Success reply) = lit< tt
+below_six (Refused refusal) = lit< tt
+below_six (Ambiguous ambiguity) = lit< tt
+below_six Pending = lit< tt
+
+ends_alike : (a b : End) → IsEnd a → IsEnd b → end_kind a ≡ end_kind b → end_words a ≡ end_words b → told_end a ≡ told_end b
+ends_alike (ends.Outcome (Success r)) (ends.Outcome (Success s)) ha hb kind same = let e = replies_by_words r s ha hb (cc) in cc
+ends_alike (ends.Outcome (Refused p)) (ends.Outcome (Refused q)) ha hb kind same = let e = refusals_by_words p q ha hb (cc) in cc
+ends_alike (ends.Outcome (Ambiguous p)) (ends.Outcome (Ambiguous q)) ha hb kind same = let e = ambiguities_by_words p q ha hb (cc) in cc
+ends_alike (ends.Outcome Pending) (ends.Outcome Pending) ha hb kind same = refl
+ends_alike (ends.Tries p) (ends.Tries q) ha hb kind same = let e = refusals_by_words p q ha hb (cc) in cc
+ends_alike ends.Unsent ends.Unsent ha hb kind same = refl
+ends_alike (ends.Outcome o) (ends.Outcome p) ha hb kind same = absurd (omega arith)
+ends_alike (ends.Outcome o) (ends.Tries q) ha hb kind same = absurd (omega (arith, below_six o))
+ends_alike (ends.Outcome o) ends.Unsent ha hb kind same = absurd (omega (arith, below_six o))
+ends_alike (ends.Tries p) (ends.Outcome o) ha hb kind same = absurd (omega (arith, below_six o))
+ends_alike (ends.Tries p) ends.Unsent ha hb kind same = absurd (omega arith)
+ends_alike ends.Unsent (ends.Outcome o) ha hb kind same = absurd (omega (arith, below_six o))
+ends_alike ends.Unsent (ends.Tries q) ha hb kind same = absurd (omega arith)
+
+pub ends_by_words : (a b : End) → IsEnd a → IsEnd b → end_words a ≡ end_words b → told_end a ≡ told_end b
+ends_by_words a b ha hb same = ends_alike a b ha hb (sym (end_kind_known a) ∙ ap kind_in same ∙ end_kind_known b) same
+
+-- ends with one text are told alike
+pub one_end : (a b : End) → IsEnd a → IsEnd b → end_text a ≡ end_text b → told_end a ≡ told_end b
+one_end a b ha hb same =
+    ends_by_words a b ha hb (same_words (end_words a) (end_words b) (end_are_words a ha) (end_are_words b hb) (sym (end_spoken a) ∙ same ∙ end_spoken b))

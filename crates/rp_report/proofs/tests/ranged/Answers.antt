@@ -1,0 +1,10 @@
+use Rattle.std.proofs.lemmas.List.Elements.{All-push}
+use Rattle.rp_report.specs.Shown.{IsShownRange, IndexesFit}
+use Rattle.rp_report.proofs.tests.ranged.Goals as goal
+
+pub returns : goal.returns
+returns c = record {
+  replies = c.requires.shown.replies;
+  ranges = rw c.in_ok-push.ensures.ok (All-push IsShownRange c.args.view.ranges c.args.range c.requires.shown.ranges c.requires.desc);
+  indexes = rw c.in_ok-push.ensures.ok (All-push IndexesFit c.args.view.ranges c.args.range c.requires.shown.indexes c.requires.indexes);
+}
