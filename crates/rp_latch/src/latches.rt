@@ -129,8 +129,8 @@ impl Latches {
         Ok(())
     }
 
-    /// The oldest hold that meets the spans asked, by binary search.
-    fn conflict(&self, asked: Spans) -> Option<Held>
+    /// The oldest hold that meets the spans asked, and of its spans the first that does, by binary search.
+    pub fn conflict(&self, asked: Spans) -> Option<Held>
         ensures { result ≡ conflict self.now.list asked }
     {
         match oldest(&self.firsts, &self.seconds, asked) {
