@@ -1,12 +1,11 @@
 -- What a split leaves, and what another request leaves.
-use Rattle.std.proofs.Common.{◌≡◌, ℕ, ◌+◌, ◌^◌, Result, Ok, Err, refl, sym, ap, ◌∙◌}
+use Rattle.std.proofs.Common.{◌≡◌, ℕ, Result, Ok, sym, ap, ◌∙◌}
 use Rattle.rp_base.specs.Splits.{split_of}
 use Rattle.rp_base.specs.declared.ranges.Desc.{Desc}
 use Rattle.rp_base.specs.declared.ranges.SplitFault.{SplitFault}
 use Rattle.rp_request.specs.Table.{Table, below}
 use Rattle.rp_request.specs.declared.commands.Command.{Command}
-use Rattle.rp_request.specs.declared.requests.Request.{Request}
-use Rattle.rp_request.specs.declared.requests.Request.TheVariants.{Put, Add, CPut, Del, Wipe, Move, Split}
+use Rattle.rp_request.specs.declared.requests.Request.TheVariants.{Split}
 use Rattle.rp_apply.specs.Applied.{AppliedState, left_of, desc_after, taken}
 use Rattle.rp_eval.specs.Batches.{after_batch}
 

@@ -1,6 +1,5 @@
 -- What a replica has applied, and the records that it keeps of it.
 use Rattle.std.specs.Prelude.{ℕ, ◌+◌, List, [], ◌∷◌, ◌++◌}
-use Rattle.std.specs.Coded.{Coded}
 use Rattle.rp_request.specs.declared.commands.Payload.{Payload}
 use Rattle.rp_request.specs.declared.items.Record as records
 use Rattle.rp_apply.specs.Applied.{AppliedState, after, record_of}

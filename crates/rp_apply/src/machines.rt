@@ -1,9 +1,6 @@
-ghost use Rattle.std.specs.Prelude.{◌≡◌, ◌+◌, ◌-◌, ◌^◌, ◌<◌, ◌≤◌, length, IsOk, IsFalse, OnOk};
+ghost use Rattle.std.specs.Prelude.{◌≡◌, ◌+◌, ◌-◌, ◌^◌, ◌<◌, ◌≤◌, length, IsOk, OnOk};
 ghost use Rattle.rp_base.specs.Splits.{split_of};
-ghost use Rattle.rp_request.specs.Covers.{is_split};
 ghost use Rattle.rp_request.specs.Table.{below};
-ghost use Rattle.rp_request.specs.declared.items.Place.TheVariants as places;
-ghost use Rattle.rp_eval.specs.Batches.{write_all};
 ghost use Rattle.rp_apply.specs.declared.verdicts.Verdict.TheVariants as verdicts;
 ghost use Rattle.rp_apply.specs.Applied.{right_number, left_of, command_verdict, asked, ask_record, leased, item, command_record, taken, written, verdict, record_of, after};
 ghost use Rattle.rp_apply.specs.Rooms.{rows_of, MaySplit, Fits};

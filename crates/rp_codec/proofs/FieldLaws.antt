@@ -1,5 +1,5 @@
 -- The fields: what is spelled is read again, and what is read is so spelled.
-use Rattle.std.proofs.Common.{◌≡◌, ℕ, zero, suc, ◌+◌, ◌^◌, ◌<◌, ◌≤◌, ◌≢◌, ◌&&◌, ◌==◌, Bool, true, false, cond, ltb, eqb, nat_lt, nat_le, List, [], ◌∷◌, ◌++◌, length, get_or, take, drop, Option, None, Some, Result, Ok, Err, refl, sym, ap, subst, ◌∙◌, append_assoc, arith, if◌then◌else◌}
+use Rattle.std.proofs.Common.{◌≡◌, ℕ, ◌+◌, ◌^◌, ◌<◌, ◌≤◌, ◌&&◌, ◌==◌, Bool, true, false, cond, ltb, nat_lt, nat_le, List, [], ◌∷◌, ◌++◌, length, take, Option, None, Some, Result, Ok, Err, refl, sym, ap, subst, ◌∙◌, arith, if◌then◌else◌}
 use Rattle.std.specs.Int.{Width, w16, w32, w64, byte_len, from_be_bytes, to_be_bytes}
 use Rattle.std.proofs.lemmas.Bool.{ltb-false, le-ltb, eqb-true}
 use Rattle.std.proofs.lemmas.Bool.Decides.{nat_tests}
@@ -10,11 +10,10 @@ use Rattle.rp_base.specs.declared.BadKey.{BadKey}
 use Rattle.rp_base.specs.declared.KeySpan.{KeySpan}
 use Rattle.rp_base.proofs.KeyLaws.{spelled_as_read, read_as_spelled, key_text_len}
 use Rattle.rp_codec.specs.Cursors.{Left, past}
-use Rattle.rp_codec.specs.declared.faults.BadField.{BadField}
 use Rattle.rp_codec.specs.Fits.{AreBytes, FitsValue, FitsOption, FitsEnd, FitsSpan}
-use Rattle.rp_codec.specs.Reading.{Reader, bad, ◌>>=◌, given, refused, as_one_field, bytes_at, first_of, byte_at, byte_parts, byte_in, number_at, value_at, as_key, key_parts, key_at, option_parts, option_at, begins_with, end_where, end_at, span_of, span_parts, span_at}
+use Rattle.rp_codec.specs.Reading.{bad, ◌>>=◌, given, refused, bytes_at, first_of, byte_at, byte_parts, byte_in, number_at, value_at, as_key, key_parts, key_at, option_parts, option_at, begins_with, end_where, end_at, span_of, span_parts, span_at}
 use Rattle.rp_codec.specs.Spelling.{value_bytes, key_bytes, option_bytes, end_bytes, span_bytes}
-use Rattle.rp_codec.proofs.Readers.{AreBytes-drop, AreBytes-take, AreBytes-rest, from_place, Again, again_given, again_then, again_last, again_one_field, Taken, Takes, takes_so, takes_given, takes_refused, Then, takes_then, Made, takes_last, takes_one_field, takes_if, found, found_is}
+use Rattle.rp_codec.proofs.Readers.{AreBytes-drop, AreBytes-take, AreBytes-rest, from_place, Again, again_given, again_then, again_last, again_one_field, Taken, Takes, takes_so, takes_given, takes_refused, takes_then, takes_last, takes_one_field, takes_if, found, found_is}
 use Rattle.rp_codec.proofs.Spans.{span_is}
 
 -- ---- so many bytes

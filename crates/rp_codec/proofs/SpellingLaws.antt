@@ -1,5 +1,5 @@
 -- The laws of payload bytes.
-use Rattle.std.proofs.Common.{◌≡◌, ℕ, zero, suc, ◌+◌, ◌^◌, ◌<◌, ◌≤◌, ◌==◌, Bool, true, false, cond, eqb, List, [], ◌∷◌, ◌++◌, length, get_or, Option, None, Some, Result, Ok, Err, refl, sym, ap, subst, ◌∙◌, append_assoc, arith, if◌then◌else◌}
+use Rattle.std.proofs.Common.{◌≡◌, ℕ, ◌+◌, ◌==◌, Bool, true, false, List, [], ◌∷◌, ◌++◌, length, Result, Ok, Err, refl, sym, ap, ◌∙◌, arith, if◌then◌else◌}
 use Rattle.std.specs.Prelude.{IfOk}
 use Rattle.std.proofs.lemmas.Bool.{eqb-true}
 use Rattle.std.proofs.lemmas.Bool.Decides.{nat_tests}
@@ -11,7 +11,7 @@ use Rattle.rp_codec.specs.Reading.{bad, ended, payload_at, payload_in, Gives}
 use Rattle.rp_codec.specs.Spelling.{spelling}
 use Rattle.rp_codec.specs.declared.faults.BadField.{BadField}
 use Rattle.rp_codec.specs.declared.faults.DecodeFault.{DecodeFault}
-use Rattle.rp_codec.proofs.Readers.{from_place, Again, Taken}
+use Rattle.rp_codec.proofs.Readers.{from_place, Taken}
 use Rattle.rp_codec.proofs.PayloadLaws.{payload_again, payload_takes}
 
 -- a payload's spelling is read whatever follows it

@@ -1,9 +1,7 @@
 -- The worked bytes, by computation.
-use Rattle.std.proofs.Common.{◌≡◌, ℕ, List, [], ◌∷◌, ◌++◌, take, Result, Ok, Err, refl}
+use Rattle.std.proofs.Common.{◌≡◌, [], ◌∷◌, ◌++◌, take, Ok, refl}
 use Rattle.rp_base.specs.Keys.{key_of, key_number, key_text}
-use Rattle.rp_request.specs.declared.Payload.{Payload}
 use Rattle.rp_request.specs.declared.Payload.TheVariants as payloads
-use Rattle.rp_codec.specs.declared.faults.BadField.{BadField}
 use Rattle.rp_codec.specs.Reading.{bad, bytes_at, byte_at, byte_parts, byte_in, number_at, value_at, key_parts, key_at, option_parts, option_at, put_at, request_of, request_at, old_at, reply_of, reply_at, set_at, op_at, ops_at, batch_at, id_at, command_at, payload_of, payload_at, payload_in}
 use Rattle.rp_codec.specs.Spelling.{value_bytes, key_bytes, option_bytes, request_bytes, reply_bytes, op_bytes, batch_bytes, id_bytes, command_bytes, spelling}
 use Rattle.rp_codec.specs.Worked.{put_of_a, put_bytes}

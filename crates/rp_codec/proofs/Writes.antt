@@ -4,9 +4,7 @@ use Rattle.std.proofs.lemmas.List.{append-nil}
 use Rattle.rp_request.specs.declared.Op.{Op}
 use Rattle.rp_codec.specs.Cursors.{Left}
 use Rattle.rp_codec.specs.declared.faults.BadField.{BadField}
-use Rattle.rp_codec.specs.declared.faults.DecodeFault.{DecodeFault}
-use Rattle.rp_codec.specs.declared.faults.DecodeFault.TheVariants as faults
-use Rattle.rp_codec.specs.Reading.{going_on, given, Fails, op_at, ops_at}
+use Rattle.rp_codec.specs.Reading.{going_on, given, op_at, ops_at}
 
 -- what was read before, and what is still read
 abbrev pub with_front : List Op → Result (List Op × Left) BadField → Result (List Op × Left) BadField

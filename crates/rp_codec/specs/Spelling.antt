@@ -1,8 +1,8 @@
 -- How payloads are spelled as bytes, version 1 (this project). A number stands with its highest byte first.
-use Rattle.std.specs.Prelude.{ℕ, ◌^◌, ◌<◌, ◌≤◌, List, [], ◌∷◌, ◌++◌, length, Option, None, Some, IfSome}
+use Rattle.std.specs.Prelude.{ℕ, List, [], ◌∷◌, ◌++◌, length, Option, None, Some}
 use Rattle.std.specs.Int.{w16, w32, w64, to_be_bytes}
-use Rattle.std.specs.List.{flat_map, AllByRecursion}
-use Rattle.rp_base.specs.Keys.{key_text, IsKey}
+use Rattle.std.specs.List.{flat_map}
+use Rattle.rp_base.specs.Keys.{key_text}
 use Rattle.rp_base.specs.declared.CmdId.{CmdId}
 use Rattle.rp_base.specs.declared.KeySpan.{KeySpan}
 use Rattle.rp_base.specs.declared.LeaseAsk.{LeaseAsk}

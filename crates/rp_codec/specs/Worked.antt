@@ -1,6 +1,5 @@
 -- A worked payload and its bytes.
 use Rattle.std.specs.Prelude.{ℕ, ◌*◌, ◌^◌, List, [], ◌∷◌, None}
-use Rattle.rp_request.specs.declared.Command.{Command}
 use Rattle.rp_request.specs.declared.Op.TheVariants as ops
 use Rattle.rp_request.specs.declared.Payload.{Payload}
 use Rattle.rp_request.specs.declared.Payload.TheVariants as payloads

@@ -110,3 +110,6 @@ fold_is_state w h (suc i) l =
     ∙ fold_further (shown w.start) (items_to w i) (applied (record_of (state_at w i) (entry w.log i) ∷ []))
     ∙ ap (option_and_then (λ t. fold t (applied (record_of (state_at w i) (entry w.log i) ∷ [])))) (fold_is_state w h i (omega arith))
     ∙ fold_one (state_at w i) (entry w.log i) (λ c e v. h i c (omega arith) (record { here = e; taken = v }))
+
+pub state_of_entries : (w : World) (i : ℕ) → i ≤ length w.log → state_at w i ≡ after_all w.start (take i w.log)
+state_of_entries w i l = sym (state_is w.start w.log i l)

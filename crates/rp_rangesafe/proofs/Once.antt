@@ -3,7 +3,8 @@ use Rattle.std.proofs.Common.{◌≡◌, ℕ, ◌<◌, eqb, IsTrue, ◌⊎◌, i
 use Rattle.std.proofs.lemmas.Bool.{cases_order, and_parts}
 use Rattle.rp_base.specs.declared.ids.CmdId.{CmdId}
 use Rattle.rp_request.specs.declared.commands.Command.{Command}
-use Rattle.rp_request.specs.Places.{is_of, IsOnceInAll}
+use Rattle.rp_request.specs.Places.{is_of, IsOnce, IsOnceInAll}
+use Rattle.rp_request.proofs.Once.{once_by_index}
 use Rattle.rp_rangesafe.specs.Attempts.{IsBorn}
 use Rattle.rp_rangesafe.specs.Along.{entry}
 use Rattle.rp_rangesafe.specs.World.{World}
@@ -75,3 +76,7 @@ once_in_all w reach client seq q i r j p t =
   where
     same : (q i r j m n : ℕ) → i ≡ length (items_to (w.range q) m) → j ≡ length (items_to (w.range r) n) → q ≡ r → m ≡ n → (q ≡ r) × (i ≡ j)
     same q i r j m n e f a b = (a, e ∙ ap (λ z. length (items_to (w.range z) m)) a ∙ ap (λ z. length (items_to (w.range r) z)) b ∙ sym f)
+
+pub once_in_each : (w : Ranges) → AreReached w → (r : ℕ) → IsOnce (lists w r)
+once_in_each w reach r = once_by_index (lists w r) (λ client seq i j p q.
+    (once_in_all w reach client seq r i r j (record { item = p.item; here = p.here; named = p.named }) (record { item = q.item; here = q.here; named = q.named })).1)

@@ -9,7 +9,7 @@ use Rattle.rp_eval.specs.Evaluations.{Does}
 use Rattle.rp_apply.specs.Applied.{IsBlocked}
 use Rattle.rp_rangesafe.specs.Attempts.{Stage, Unborn, Success, Refused, Overtaken, Restarted, Attempt, IsEnded, IsOpen, IsUntaken, IsAmong}
 use Rattle.rp_rangesafe.specs.Along.{entry, state, Takes}
-use Rattle.rp_rangesafe.specs.World.{World, state_at}
+use Rattle.rp_rangesafe.specs.World.{World, state_at, here}
 use Rattle.rp_rangesafe.specs.Places.{IsReached, IsLater, IsFurther, IsPlace, IsDeadByStage, IsDeadForGood, HasNever, IsPlacedWith, IsLawfulPlace, shown, items_to}
 use Rattle.rp_rangesafe.proofs.Numbers.{onward, one_holder, timely_at, blocked_never}
 use Rattle.rp_rangesafe.proofs.One.{Good, one_place, never, place_open, born_with}
@@ -137,3 +137,6 @@ none_unborn w r id = ((itself w r).good id).fresh
 
 pub ended_stays : (w : World) (later : World) → IsLater w later → (id : CmdId) → IsEnded (w.attempt id).stage → w.attempt id ≡ later.attempt id
 ended_stays w later l id h = (later_grown w later l id).ended h
+
+pub node_shows : (w : World) → IsReached w → (node : ℕ) → items.fold (shown w.start) (items_to w (w.index node)) ≡ Some (shown (here w node))
+node_shows w r node = fold_is_state w r (w.index node) (stands_within w r node)

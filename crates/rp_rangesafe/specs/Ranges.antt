@@ -93,6 +93,7 @@ pub record IsLawfulIn (w : Ranges) (range : ℕ) (e : Event) : Type 0 where
   pub lawful : Lawful (w.range range) e
   pub begins : Begins w e
 
+-- which steps are lawful: an attempt that begins may also be turned away
 abbrev pub IsLawful : Ranges → Step → Type 0
 IsLawful w (In range e) = IsLawfulIn w range e
 IsLawful w (Turn_away id) = MayBegin w id
@@ -102,6 +103,7 @@ abbrev pub right_with : AppliedState → ℕ → Result (Desc × Desc) SplitFaul
 right_with s key (Ok parts) = Some (record { desc = parts.1; lease = s.lease; lai = 0; table = from_on s.table key })
 right_with s key (Err fault) = None
 
+-- the right range of a request: only a split has one
 abbrev pub right_by_request : AppliedState → Request → Option AppliedState
 right_by_request s (Put key value) = None
 right_by_request s (Add key by) = None
@@ -111,7 +113,7 @@ right_by_request s (Wipe span) = None
 right_by_request s (Move from to by) = None
 right_by_request s (Split key) = right_with s key (split_of s.desc key)
 
--- only a split that is taken opens a right range
+-- the right range of a command by its verdict: only one that is taken opens it
 abbrev pub right_by : AppliedState → Command → Verdict → Option AppliedState
 right_by s c Took = right_by_request s c.request
 right_by s c (OldLease now) = None
@@ -141,6 +143,7 @@ with_owner owners id o q = if same_id q id then o else owners q
 abbrev pub within : Ranges → ℕ → Event → Ranges
 within w r e = record w { range = with_node w.range r (happens (w.range r) e) }
 
+-- the ranges after an event in one: an admission makes the attempt there
 abbrev pub after_event : Ranges → ℕ → Event → Ranges
 after_event w r (Admit id node body) = record (within w r (Admit id node body)) { owner = with_owner w.owner id (At r) }
 after_event w r (Flush id max) = within w r (Flush id max)
@@ -168,12 +171,13 @@ abbrev pub after_steps : Ranges → List Step → Ranges
 after_steps w [] = w
 after_steps w (x ∷ xs) = after_steps (after_step w x) xs
 
--- the ranges as they can be, and as they can become
+-- the ranges as they can be: lawful steps lead to them from the first range
 pub record AreReached (w : Ranges) : Type 0 where
   pub steps : List Step
   pub lawful : AreLawful at_first steps
   pub reached : after_steps at_first steps ≡ w
 
+-- the ranges as they can become: lawful steps lead from the one to the other
 pub record AreLater (w later : Ranges) : Type 0 where
   pub steps : List Step
   pub lawful : AreLawful w steps

@@ -1,18 +1,18 @@
 //! Laws of the range machine, for every list of lawful events. No program calls these functions.
 
-ghost use Rattle.std.specs.Prelude.{◌≡◌, ℕ, ◌<◌, ◌≤◌, true, Some, [], length, slice_get};
+ghost use Rattle.std.specs.Prelude.{◌≡◌, ℕ, ◌<◌, ◌≤◌, true, Some, [], length, take, slice_get};
 ghost use Rattle.rp_base.specs.declared.ids.CmdId.{CmdId};
 ghost use Rattle.rp_request.specs.declared.commands.Command.{Command};
 ghost use Rattle.rp_request.specs.declared.outcomes.Reply.{Reply};
 ghost use Rattle.rp_request.specs.declared.items.Record.TheVariants as kept;
 ghost use Rattle.rp_request.specs.Items.{fold};
-ghost use Rattle.rp_request.specs.Places.{IsOnceInAll};
+ghost use Rattle.rp_request.specs.Places.{IsOnce, IsOnceInAll};
 ghost use Rattle.rp_request.specs.Starts.{IsStart};
 ghost use Rattle.rp_eval.specs.Evaluations.{Does};
-ghost use Rattle.rp_apply.specs.Applied.{AppliedState, item, records_of};
+ghost use Rattle.rp_apply.specs.Applied.{AppliedState, item, records_of, after_all};
 ghost use Rattle.rp_rangesafe.specs.Attempts.{Unborn, Success, Refused, Overtaken, Restarted, IsBorn, IsEnded, IsAmong, IsOpen};
 ghost use Rattle.rp_rangesafe.specs.Along.{entry};
-ghost use Rattle.rp_rangesafe.specs.World.{World, state_at};
+ghost use Rattle.rp_rangesafe.specs.World.{World, state_at, here};
 ghost use Rattle.rp_rangesafe.specs.Places.{IsReached, IsLater, IsFurther, IsPlace, IsDeadByStage, IsDeadForGood, HasNever, IsPlacedWith, IsLawfulPlace, shown, items_to};
 ghost use Rattle.rp_rangesafe.specs.Ranges.{Ranges, AreReached, AreLater, IsRefused, IsTheOnePlace, HasNowhere, lists, right_of};
 
@@ -41,9 +41,10 @@ pub fn dead_maxima_stay_dead()
 {}
 
 /// Each command, by client and by its number among the client's, has at most one place over the applied lists of all
-/// ranges, whichever of its attempts the place names.
+/// ranges, whichever of its attempts the place names; so in the list of each range.
 pub fn at_most_once()
-    ensures { (w : Ranges) → AreReached w → IsOnceInAll (lists w) }
+    ensures over_all { (w : Ranges) → AreReached w → IsOnceInAll (lists w) }
+    ensures in_each { (w : Ranges) → AreReached w → (r : ℕ) → IsOnce (lists w r) }
 {}
 
 /// A refused attempt has no place in its range and gets none, whatever comes.
@@ -75,10 +76,12 @@ pub fn effect_at_its_place()
         → Does (state_at w k).table (state_at w k).desc c.request (record { batch = c.batch; reply = c.reply }) }
 {}
 
-/// The fold of a range's items, each request evaluated again, is the state that the batches make, at each index.
+/// The fold of a range's items, each request evaluated again, is the state that the batches make, at each index;
+/// so each node's state is the fold of the items that it has applied.
 pub fn fold_of_requests_is_fold_of_batches()
-    ensures { (w : World) → IsReached w → (i : ℕ) → i ≤ length w.log
+    ensures list { (w : World) → IsReached w → (i : ℕ) → i ≤ length w.log
         → fold (shown w.start) (items_to w i) ≡ Some (shown (state_at w i)) }
+    ensures nodes { (w : World) → IsReached w → (node : ℕ) → fold (shown w.start) (items_to w (w.index node)) ≡ Some (shown (here w node)) }
 {}
 
 /// A place is lawful: it has the lease sequence and the description of its admission, whose node holds the lease, and its
@@ -178,4 +181,9 @@ pub fn an_ended_attempt_stays()
 pub fn a_node_stands_in_the_list()
     ensures within { (w : World) → IsReached w → (node : ℕ) → w.index node ≤ length w.log }
     ensures maxima { (w : World) → IsReached w → (id : CmdId) → (w.attempt id).stage ≡ Unborn → (w.attempt id).maxima ≡ [] }
+{}
+
+/// A range's state at an index is the one that so many entries of its list make of its start, one after the other.
+pub fn a_state_is_that_of_its_entries()
+    ensures { (w : World) (i : ℕ) → i ≤ length w.log → state_at w i ≡ after_all w.start (take i w.log) }
 {}

@@ -1,4 +1,4 @@
-use Rattle.std.proofs.Common.{◌≡◌, ◌-◌, ◌≤◌, length}
+use Rattle.std.proofs.Common.{◌≡◌, ◌-◌, length}
 use Rattle.rp_codec.specs.Reading.{ops_at}
 use Rattle.rp_codec.proofs.Writes.{with_front}
 use Rattle.rp_codec.proofs.reading.ops.Given as goal

@@ -1,5 +1,5 @@
+use Rattle.rp_rangesafe.proofs.Once.{once_in_all, once_in_each}
 use Rattle.rp_rangesafe.proofs.laws.at_most_once.Goals as goal
-use Rattle.rp_rangesafe.proofs.Once.{once_in_all}
 
 pub returns : goal.returns
-returns c = once_in_all
+returns c = record { over_all = once_in_all; in_each = once_in_each }

@@ -1,5 +1,5 @@
+use Rattle.rp_rangesafe.proofs.OneRange.{fold_is_state, node_shows}
 use Rattle.rp_rangesafe.proofs.laws.fold_of_requests_is_fold_of_batches.Goals as goal
-use Rattle.rp_rangesafe.proofs.OneRange.{fold_is_state}
 
 pub returns : goal.returns
-returns c = fold_is_state
+returns c = record { list = fold_is_state; nodes = node_shows }

@@ -1,4 +1,4 @@
-use Rattle.std.proofs.Common.{map, subst, ap}
+use Rattle.std.proofs.Common.{map, subst}
 use Rattle.std.specs.List.{IsDistinct}
 use Rattle.rp_flush.specs.Assigns.{same_id}
 use Rattle.rp_pending.proofs.Finding.{ids_apart}
