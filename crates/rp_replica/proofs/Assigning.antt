@@ -3,7 +3,7 @@ use Rattle.std.proofs.Common.{◌≡◌, ◌≤◌, ◌+◌, ◌==◌, ℕ, suc,
 use Rattle.std.specs.Prelude.{filter_map, IsSome, max}
 use Rattle.std.specs.List.{All, filter, find, cons_option}
 use Rattle.std.specs.Option.{option_map, option_map_or}
-use Rattle.std.proofs.lemmas.List.{map-append}
+use Rattle.std.proofs.lemmas.List.{length-map}
 use Rattle.std.proofs.lemmas.List.Elements.{All-nil, All-cons, All-head, All-tail, All-map, filter_passes}
 use Rattle.rp_base.specs.declared.ids.CmdId.{CmdId}
 use Rattle.rp_base.specs.declared.items.Item.{Item}
@@ -13,6 +13,7 @@ use Rattle.rp_request.specs.declared.commands.Payload.{Payload}
 use Rattle.rp_request.specs.declared.commands.Payload.TheVariants as payloads
 use Rattle.rp_request.specs.declared.commands.Waiting.{Waiting}
 use Rattle.rp_raftlog.specs.declared.entries.Entry.{Entry}
+use Rattle.rp_flush.specs.declared.assigns.Assigned.{Assigned}
 use Rattle.rp_flush.specs.Assigns.{same_id, asks_of, ids_of, once, seq_of, waits_under, waits_under_another, numbered, assigned_of}
 use Rattle.rp_pending.specs.declared.proposals.Proposal.{Proposal}
 use Rattle.rp_pending.specs.Proposals.{has_id, is_proposed, proposal_of}
@@ -37,7 +38,9 @@ all_apart : (waiting : List Waiting) (seq : ℕ) (id : CmdId) → waits_under wa
     → All (λ other. waits_under_another waiting seq other ≡ true) ids → All (λ other. id ≡ other → ⊥) ids
 all_apart waiting seq id h [] a = All-nil _
 all_apart waiting seq id h (other ∷ ids) a =
-    All-cons _ other ids (apart waiting seq id other h (All-head _ other ids a)) (all_apart waiting seq id h ids (All-tail _ other ids a))
+    let another = All-head (λ o. waits_under_another waiting seq o ≡ true) other ids a in
+    let others = All-tail (λ o. waits_under_another waiting seq o ≡ true) other ids a in
+    All-cons (λ o. id ≡ o → ⊥) other ids (apart waiting seq id other h another) (all_apart waiting seq id h ids others)
 
 -- the test of ids is the same from both sides
 same_swap : (x y : CmdId) → same_id x y ≡ true → same_id y x ≡ true
@@ -141,8 +144,12 @@ asks_first : (asks : List LeaseAsk) (writes : List Payload)
 asks_first [] writes = refl
 asks_first (ask ∷ asks) writes = ap (λ es. entry_of (payloads.Lease ask) ∷ es) (asks_first asks writes)
 
-pub entries_are : (inbox : List Item) (ps : List Proposal) (waiting : List Waiting) (seq last : ℕ)
-    → map (λ ask. entry_of (payloads.Lease ask)) (assigned_of inbox waiting seq last).leases
-    ++ map entry_of (filter_map (write_of ps) (assigned_of inbox waiting seq last).writes)
-    ≡ map entry_of (payloads_of ps (assigned_of inbox waiting seq last))
-entries_are inbox ps waiting seq last = sym (asks_first (asks_of inbox) _)
+pub entries_are : (ps : List Proposal) (a : Assigned)
+    → map (λ ask. entry_of (payloads.Lease ask)) a.leases ++ map entry_of (filter_map (write_of ps) a.writes) ≡ map entry_of (payloads_of ps a)
+entries_are ps a = sym (asks_first a.leases _)
+
+-- how many there are
+pub length_entries : (ps : List Proposal) (a : Assigned)
+    → length (map entry_of (payloads_of ps a)) ≡ length a.leases + length (filter_map (write_of ps) a.writes)
+length_entries ps a =
+    length-map (payloads_of ps a) entry_of ∙ length-append (map payloads.Lease a.leases) _ ∙ ap (λ n. n + length (filter_map (write_of ps) a.writes)) (length-map a.leases payloads.Lease)

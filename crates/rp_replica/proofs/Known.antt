@@ -1,5 +1,6 @@
 -- Which proposals are still found once others changed or ended.
-use Rattle.std.proofs.Common.{◌≡◌, ℕ, Bool, true, false, cond, not, ◌&&◌, List, [], ◌∷◌, Option, None, Some, is_some, refl, sym, ap, subst, ◌∙◌, eqb-true}
+use Rattle.std.proofs.Common.{◌≡◌, ℕ, ◌+◌, ◌<◌, Bool, true, false, cond, not, ◌&&◌, List, [], ◌∷◌, length, drop, get_or, Option, None, Some, is_some, refl, sym, ap, subst, ◌∙◌, eqb-true}
+use Rattle.std.proofs.lemmas.List.{drop_more}
 use Rattle.std.specs.List.{All}
 use Rattle.std.specs.Prelude.{IsSome}
 use Rattle.std.proofs.lemmas.List.Elements.{All-nil, All-cons, All-head, All-tail}
@@ -7,7 +8,7 @@ use Rattle.rp_base.specs.declared.ids.CmdId.{CmdId}
 use Rattle.rp_flush.specs.Assigns.{same_id}
 use Rattle.rp_pending.specs.declared.proposals.Proposal.{Proposal}
 use Rattle.rp_pending.specs.Proposals.{has_id, proposal_of, without, with_changed, proposed}
-use Rattle.rp_replica.specs.Flushes.{without_all}
+use Rattle.rp_replica.specs.Flushes.{without_all, proposed_all}
 use Rattle.rp_replica.specs.Plans.{ArePending}
 
 some_by : {X : Type 0} (b : Bool) (x y : X) (r s : Option X) → is_some r ≡ is_some s → is_some (cond b (Some x) r) ≡ is_some (cond b (Some y) s)
@@ -31,7 +32,10 @@ pub still_pending : (ws : List (CmdId × ℕ)) (other : CmdId) (max now round : 
     → ArePending ws (with_changed other (proposed max now round) ps)
 still_pending [] other max now round ps h = All-nil _
 still_pending (w ∷ ws) other max now round ps h =
-    All-cons _ w ws (known_changed w.0 other max now round ps ∙ All-head _ w ws h) (still_pending ws other max now round ps (All-tail _ w ws h))
+    let known = All-head (λ (v : CmdId × ℕ). IsSome (proposal_of v.0 ps)) w ws h in
+    let rest = All-tail (λ (v : CmdId × ℕ). IsSome (proposal_of v.0 ps)) w ws h in
+    All-cons (λ (v : CmdId × ℕ). IsSome (proposal_of v.0 (with_changed other (proposed max now round) ps))) w ws
+    (known_changed w.0 other max now round ps ∙ known) (still_pending ws other max now round ps rest)
 
 and_true : (a b : Bool) → (a && b) ≡ true → (a ≡ true) × (b ≡ true)
 and_true true b h = (refl, h)
@@ -68,4 +72,22 @@ pub known_without_all : (id : CmdId) (ids : List CmdId) (ps : List Proposal) →
     → is_some (proposal_of id (without_all ids ps)) ≡ is_some (proposal_of id ps)
 known_without_all id [] ps h = refl
 known_without_all id (other ∷ ids) ps h =
-    known_without_all id ids (without other ps) (All-tail _ other ids h) ∙ known_without id other ps (All-head _ other ids h)
+    known_without_all id ids (without other ps) (All-tail (λ o. id ≡ o → ⊥) other ids h) ∙ known_without id other ps (All-head (λ o. id ≡ o → ⊥) other ids h)
+
+-- the commands from a place on are the one there and those behind it
+opened : (ws : List (CmdId × ℕ)) (i : ℕ) (w : CmdId × ℕ) → i < length ws → w ≡ get_or ws i w → drop i ws ≡ w ∷ drop (i + 1) ws
+opened ws i w within is = drop_more ws i w within ∙ ap (λ v. v ∷ drop (i + 1) ws) (sym is)
+
+pub first_pending : (ws : List (CmdId × ℕ)) (i : ℕ) (w : CmdId × ℕ) (ps : List Proposal) → i < length ws → w ≡ get_or ws i w → ArePending (drop i ws) ps
+    → IsSome (proposal_of w.0 ps)
+first_pending ws i w ps within is h =
+    All-head (λ (v : CmdId × ℕ). IsSome (proposal_of v.0 ps)) w (drop (i + 1) ws) (subst (λ l. ArePending l ps) (opened ws i w within is) h)
+
+-- one command is proposed, and those behind it are still pending
+pub one_proposed : (ws : List (CmdId × ℕ)) (i : ℕ) (w : CmdId × ℕ) (ps qs all : List Proposal) (now round : ℕ) → i < length ws → w ≡ get_or ws i w
+    → ArePending (drop i ws) ps → qs ≡ with_changed w.0 (proposed w.1 now round) ps → proposed_all (drop i ws) now round ps ≡ all
+    → (proposed_all (drop (i + 1) ws) now round qs ≡ all) × ArePending (drop (i + 1) ws) qs
+one_proposed ws i w ps qs all now round within is known q leads =
+    let rest = All-tail (λ (v : CmdId × ℕ). IsSome (proposal_of v.0 ps)) w (drop (i + 1) ws) (subst (λ l. ArePending l ps) (opened ws i w within is) known) in
+    (ap (proposed_all (drop (i + 1) ws) now round) q ∙ sym (ap (λ l. proposed_all l now round ps) (opened ws i w within is)) ∙ leads,
+    subst (λ l. ArePending (drop (i + 1) ws) l) (sym q) (still_pending (drop (i + 1) ws) w.0 w.1 now round ps rest))

@@ -1,4 +1,4 @@
-ghost use Rattle.std.specs.Prelude.{◌≡◌, ◌≤◌, ◌+◌, ◌<◌, ◌^◌, ◌++◌, map, filter_map, length, OnOk, IfOk};
+ghost use Rattle.std.specs.Prelude.{◌≡◌, ◌≤◌, ◌+◌, ◌<◌, ◌^◌, [], ◌∷◌, ◌++◌, map, filter_map, length, OnOk, IfOk};
 ghost use Rattle.rp_request.specs.declared.commands.Payload.TheVariants as payloads;
 ghost use Rattle.rp_raftlog.specs.LogState.{appended, last_index};
 ghost use Rattle.rp_replica.specs.declared.events.EventAnswer.TheVariants as answers;
@@ -94,13 +94,12 @@ fn push_writes(
     Ok(())
 }
 
-fn refused_with(lease: &Lease, id: CmdId) -> Ended
-    ensures { result ≡ refused_with lease.now id }
+/// Puts the end of a refused attempt behind others.
+fn push_refusal(told: &mut Outcomes, lease: &Lease, id: CmdId) -> Result<(), NoMemory>
+    ensures { OnOk result (told.new ≡ told.old ++ refused_with lease.now id ∷ []) }
 {
-    Ended {
-        id,
-        outcome: Outcome::Refused(Refusal::NotLeaseHolder { lease: *lease }),
-    }
+    let outcome = Outcome::Refused(Refusal::NotLeaseHolder { lease: *lease });
+    told.push(Ended { id, outcome })
 }
 
 /// What the refused attempts are told: the present lease.
@@ -109,7 +108,7 @@ fn refusals(alloc: Global, refused: &[CmdId], lease: &Lease) -> Result<Outcomes,
 {
     let mut told = Outcomes::new(alloc);
     for id in refused {
-        told.push(refused_with(lease, *id))?;
+        push_refusal(&mut told, lease, *id)?;
     }
     Ok(told)
 }
