@@ -8,7 +8,7 @@ use Rattle.rp_request.specs.declared.items.Record.TheVariants as kept
 use Rattle.rp_request.specs.declared.outcomes.Reply.{Reply}
 use Rattle.rp_request.specs.Records.{applied}
 use Rattle.rp_apply.specs.Applied.{AppliedState, command_record, record_of, after, records_of, item}
-use Rattle.rp_rangesafe.specs.Attempts.{Success, Refused}
+use Rattle.rp_rangesafe.specs.Attempts.{IsBorn, Success, Refused}
 use Rattle.rp_rangesafe.specs.Along.{entry, state}
 use Rattle.rp_rangesafe.specs.World.{World, state_at}
 use Rattle.rp_rangesafe.specs.Places.{IsReached, IsLater, IsPlace, items_to}
@@ -41,6 +41,10 @@ one_place_of_all w reach range id reply e =
 
 one_owner : (o : Owner) (q r : ℕ) → o ≡ At q → o ≡ At r → q ≡ r
 one_owner o q r e h = cc
+
+-- an attempt is admitted in one range
+pub one_range : (w : Ranges) → AreReached w → (id : CmdId) (q r : ℕ) → IsBorn ((w.range q).attempt id).stage → IsBorn ((w.range r).attempt id).stage → q ≡ r
+one_range w reach id q r b c = let h = whole_reached w reach in one_owner (w.owner id) q r (h.owned q id b) (h.owned r id c)
 
 not_turned : (o : Owner) (r : ℕ) → o ≡ Turned → o ≡ At r → ⊥
 not_turned o r e h = cc

@@ -187,3 +187,9 @@ pub fn a_node_stands_in_the_list()
 pub fn a_state_is_that_of_its_entries()
     ensures { (w : World) (i : ℕ) → i ≤ length w.log → state_at w i ≡ after_all w.start (take i w.log) }
 {}
+
+/// An attempt is admitted in one range alone.
+pub fn an_attempt_is_in_one_range()
+    ensures { (w : Ranges) → AreReached w → (id : CmdId) (q : ℕ) (r : ℕ) → IsBorn ((w.range q).attempt id).stage
+        → IsBorn ((w.range r).attempt id).stage → q ≡ r }
+{}
