@@ -1,0 +1,13 @@
+//! One node that plays the lines of a script on its replica, and what it shows.
+#![tactic(auto)]
+
+mod builds;
+mod counts;
+mod events;
+mod notes;
+mod plays;
+mod views;
+mod worlds;
+
+pub use builds::unbuilt_word;
+pub use worlds::World;
