@@ -4,3 +4,4 @@ pub mod Playing
 pub mod Views
 pub mod Allows
 pub mod Builds
+pub mod Sound

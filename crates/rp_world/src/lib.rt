@@ -4,6 +4,7 @@
 mod builds;
 mod counts;
 mod events;
+pub mod laws;
 mod notes;
 mod plays;
 mod views;
