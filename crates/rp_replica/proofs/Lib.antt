@@ -2,3 +2,4 @@ pub mod Known
 pub mod Assigning
 pub mod Flushing
 pub mod Carrying
+pub mod Writing

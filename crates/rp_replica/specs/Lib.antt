@@ -4,6 +4,7 @@ pub mod Flushes
 pub mod Applications
 pub mod Events
 pub mod Carried
+pub mod Writes
 pub mod Plans
 pub mod Held
 pub mod Allows

@@ -7,6 +7,9 @@ ghost use Rattle.rp_replica.specs.Flushes.{command_of, entry_of, flushed, freed_
 ghost use Rattle.rp_replica.specs.Allows.{MayFlush};
 ghost use Rattle.rp_replica.specs.Plans.{Makes, FlushFits, ArePending, after_flush};
 ghost use Rattle.rp_replica.specs.Carried.{Carries, EachCarries};
+ghost use Rattle.rp_replica.specs.Writes.{WritesFit};
+ghost use Rattle.rp_codec.specs.Fits.{FitsPayload};
+ghost use Rattle.std.specs.List.{AllByRecursion};
 
 use crate::events::{Effects, Ended, EventAnswer, Outcomes};
 use crate::plans::{FlushPlan, ReplicaPlan};
@@ -27,6 +30,7 @@ const FIRST_TERM: u64 = 1;
 fn entry(alloc: Global, payload: &Payload) -> Result<Entry, NoMemory>
     ensures entry { IfOk result (λ e. e ≡ entry_of payload.now) }
     ensures carries { IfOk result (λ e. Carries e) }
+    ensures fits { OnOk result (FitsPayload payload.now) }
 {
     let payload = encode(alloc, payload)?;
     Ok(Entry {
@@ -55,6 +59,7 @@ fn push_asks(alloc: Global, entries: &mut Entries, asks: &[LeaseAsk]) -> Result<
     requires { EachCarries entries.old }
     ensures carry { OnOk result (EachCarries entries.new) }
     ensures entries { OnOk result (entries.new ≡ entries.old ++ map (λ ask. entry_of (payloads.Lease ask)) asks.now) }
+    ensures fits { OnOk result (AllByRecursion FitsPayload (map payloads.Lease asks.now)) }
 {
     for ask in asks {
         let entry = entry(alloc, &Payload::Lease(*ask))?;
@@ -74,6 +79,7 @@ fn push_write(
     requires { EachCarries entries.old }
     ensures carry { OnOk result (EachCarries entries.new) }
     ensures entries { OnOk result (entries.new ≡ entries.old ++ map entry_of (listed (write_of pending.now.list (id, max)))) }
+    ensures fits { OnOk result (AllByRecursion FitsPayload (listed (write_of pending.now.list (id, max)))) }
 {
     match pending.find(id) {
         None => Ok(()),
@@ -95,6 +101,7 @@ fn push_writes(
     requires { EachCarries entries.old }
     ensures carry { OnOk result (EachCarries entries.new) }
     ensures entries { OnOk result (entries.new ≡ entries.old ++ map entry_of (filter_map (write_of pending.now.list) writes.now)) }
+    ensures fits { OnOk result (AllByRecursion FitsPayload (filter_map (write_of pending.now.list) writes.now)) }
 {
     for write in writes {
         push_write(alloc, entries, pending, write.0, write.1)?;
@@ -130,6 +137,8 @@ fn entries_of(
 ) -> Result<Entries, NoMemory>
     ensures carry { IfOk result (λ e. EachCarries e) }
     ensures entries { IfOk result (λ e. e ≡ map (λ ask. entry_of (payloads.Lease ask)) leases.now ++ map entry_of (filter_map (write_of pending.now.list) writes.now)) }
+    ensures asks { OnOk result (AllByRecursion FitsPayload (map payloads.Lease leases.now)) }
+    ensures commands { OnOk result (AllByRecursion FitsPayload (filter_map (write_of pending.now.list) writes.now)) }
 {
     let mut entries = Entries::new(alloc);
     push_asks(alloc, &mut entries, leases)?;
@@ -184,7 +193,8 @@ impl Replica {
         round: u64,
     ) -> Result<ReplicaPlan, NoMemory>
         requires { MayFlush self.now.replica }
-        ensures { IfOk result (λ p. Makes self.now.replica p (flushed self.now.replica now round)) }
+        ensures plan { IfOk result (λ p. Makes self.now.replica p (flushed self.now.replica now round)) }
+        ensures fits { OnOk result (WritesFit self.now.replica) }
     {
         let waiting = self.pending.waiting()?;
         let lai = self.applied.lai();

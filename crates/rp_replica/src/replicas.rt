@@ -2,8 +2,9 @@ ghost use Rattle.std.specs.Prelude.{◌≡◌, ◌≤◌, [], ◌∷◌, ◌++�
 ghost use Rattle.rp_replica.specs.Replicas.{Done, committed, leaves, started};
 ghost use Rattle.rp_replica.specs.Events.{event, peeked};
 ghost use Rattle.rp_replica.specs.Plans.{IsCollect, Makes, PlanFits, HasRoom, IsRoomWithin, planned};
-ghost use Rattle.rp_replica.specs.declared.events.ReplicaEvent.TheVariants.{Collect};
+ghost use Rattle.rp_replica.specs.declared.events.ReplicaEvent.TheVariants.{Collect, Flush};
 ghost use Rattle.rp_replica.specs.Allows.{Allows};
+ghost use Rattle.rp_replica.specs.Writes.{WritesFit};
 
 use crate::events::{Effects, EventAnswer, Outcomes, ReplicaEvent};
 use crate::plans::ReplicaPlan;
@@ -116,6 +117,7 @@ impl Replica {
         ensures room { IsRoomWithin self.old.room self.new.room }
         ensures plan { IfOk result (λ p. Makes self.new.replica p (event self.new.replica happens now round [])) }
         ensures collect { happens ≡ Collect → IfOk result (λ p. IsCollect p) }
+        ensures fits { happens ≡ Flush → OnOk result (WritesFit self.new.replica) }
     {
         self.draft(alloc, happens, now, round)
     }
@@ -130,6 +132,7 @@ impl Replica {
         requires { Allows self.now.replica happens }
         ensures plan { IfOk result (λ p. Makes self.now.replica p (event self.now.replica happens now round [])) }
         ensures collect { happens ≡ Collect → IfOk result (λ p. IsCollect p) }
+        ensures fits { happens ≡ Flush → OnOk result (WritesFit self.now.replica) }
     {
         match happens {
             ReplicaEvent::Admit { id, request } => self.plan_admission(alloc, id, request),

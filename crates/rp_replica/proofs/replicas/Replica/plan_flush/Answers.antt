@@ -3,11 +3,14 @@ use Rattle.rp_replica.specs.declared.plans.ReplicaPlan.TheVariants.{Flushes}
 use Rattle.rp_replica.specs.Flushes.{flushed}
 use Rattle.rp_replica.specs.Allows.{MayFlush}
 use Rattle.rp_replica.specs.Plans.{Makes}
+use Rattle.rp_replica.specs.Writes.{WritesFit}
 use Rattle.rp_replica.proofs.Flushing.{makes_flush}
+use Rattle.rp_replica.proofs.Writing.{writes_fit}
 use Rattle.rp_replica.proofs.replicas.Replica.plan_flush.Goals as goal
 
 pub returns : goal.returns
-returns c =
+returns c = record {
+  plan =
     subst (λ h. Makes h.replica (Flushes (record {
       entries = c.in_ok-entries.entries;
       writes = c.in_ok-assigned.assigned.writes;
@@ -21,4 +24,8 @@ returns c =
     c.as_slice.result.now c.as_slice-2.result.now c.as_slice-3.result.now c.in_ok-entries.entries c.in_ok-outcomes.outcomes
     c.in_ok-waiting.ensures c.lease.ensures c.lease-lease.ensures c.lai-lai.ensures c.in_ok-assigned.ensures
     c.as_slice.ensures c.as_slice-2.ensures c.as_slice-3.ensures c.in_ok-entries.ensures.entries c.in_ok-entries.ensures.carry c.in_ok-outcomes.ensures
-    (subst (λ h. MayFlush h.replica) (sym c.self.view_is) (record { assigned = c.requires.assigned; index = c.requires.index })))
+    (subst (λ h. MayFlush h.replica) (sym c.self.view_is) (record { assigned = c.requires.assigned; index = c.requires.index })));
+  fits = subst (λ h. WritesFit h.replica) c.self.view_is (writes_fit _ c.in_ok-waiting.waiting c.lease.result c.lai-lai.result c.in_ok-assigned.assigned
+    c.as_slice.result.now c.as_slice-2.result.now c.in_ok-waiting.ensures c.lease.ensures c.lai-lai.ensures c.in_ok-assigned.ensures
+    c.as_slice.ensures c.as_slice-2.ensures c.in_ok-entries.ensures.asks c.in_ok-entries.ensures.commands);
+}
