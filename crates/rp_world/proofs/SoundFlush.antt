@@ -20,7 +20,8 @@ use Rattle.rp_replica.specs.Flushes.{command_of, entry_of, flushed, payloads_of,
 use Rattle.rp_replica.specs.Replicas.{Replica}
 use Rattle.rp_replica.proofs.Assigning.{few_entries, length_entries}
 use Rattle.rp_replica.proofs.Carrying.{read_back}
-use Rattle.rp_world.specs.Sound.{IsSent, IsGiven, IsWrite, IsSoundReplica, assigning, Fit}
+use Rattle.rp_world.specs.Sound.{IsSent, IsGiven, IsWrite, IsSoundReplica}
+use Rattle.rp_replica.specs.Writes.{assigning, WritesFit}
 use Rattle.rp_world.proofs.SoundLists.{all_append, all_weaker, all_map, all_filter, fewer_filtered, fewer_mapped}
 
 -- a change that keeps id and request
@@ -95,7 +96,7 @@ few_proposed r =
 given_later : (last more : ℕ) → last ≤ more → (e : Entry) → IsGiven last e → IsGiven more e
 given_later last more le e h = record { command = h.command; carries = h.carries; given = omega (arith, le, h.given); plain = h.plain }
 
-pub flush_sound : (r : Replica) (sent : List ℕ) (k most ticks round : ℕ) → IsSoundReplica r sent k most → Fit r
+pub flush_sound : (r : Replica) (sent : List ℕ) (k most ticks round : ℕ) → IsSoundReplica r sent k most → WritesFit r
     → IsSoundReplica (flushed r ticks round).replica sent k most
 flush_sound r sent k most ticks round h fit =
     let last : ℕ = max r.assigned r.applied.state.lai in
@@ -113,7 +114,7 @@ flush_sound r sent k most ticks round h fit =
           (all_weaker (IsGiven r.assigned) (IsGiven (assigning r).last) (given_later r.assigned (assigning r).last (omega (arith, same))) r.log.entries h.entries)
           (subst (λ l. AllByRecursion (IsGiven (assigning r).last) (map entry_of l)) (sym is)
           (given_all sent r.pending (assigning r).writes (assigning r).last h.pending (numbers_within last _ (assigning r).last (omega arith))
-          (subst (AllByRecursion FitsPayload) is fit)));
+          (subst (AllByRecursion FitsPayload) is fit.each)));
       base = h.base;
       index = omega (arith, h.index, all);
       lai = omega (arith, same, h.lai);

@@ -1,9 +1,9 @@
 -- Lines that are built keep a node sound, and a sound node may play them.
-use Rattle.std.proofs.Common.{◌≡◌, ◌≢◌, ◌≤◌, ◌<◌, ◌+◌, ◌-◌, ◌==◌, ℕ, zero, suc, max, Bool, true, false, cond, not, nat_lt, List, [], ◌∷◌, ◌++◌, length, map, replicate, get_or, set, Option, None, Some, Result, Ok, Err, refl, sym, ap, subst, ◌∙◌, arith, length-append, eqb-true}
+use Rattle.std.proofs.Common.{◌≡◌, ◌≢◌, ◌≤◌, ◌<◌, ◌+◌, ◌-◌, ◌==◌, ℕ, zero, suc, max, Bool, true, false, cond, not, nat_lt, List, [], ◌∷◌, ◌++◌, length, drop, map, replicate, get_or, set, Option, None, Some, Result, Ok, Err, refl, sym, ap, subst, ◌∙◌, arith, length-append, eqb-true}
 use Rattle.std.specs.Prelude.{IsFalse, ◌^◌}
 use Rattle.std.specs.List.{AllByRecursion, find}
 use Rattle.std.proofs.Math.Nat.{max-eq_left}
-use Rattle.std.proofs.lemmas.List.{get_or-replicate, length-replicate, get_or-set_other, get_or-set_same, length-set}
+use Rattle.std.proofs.lemmas.List.{drop_more, get_or-replicate, length-replicate, get_or-set_other, get_or-set_same, length-set}
 use Rattle.std.proofs.lemmas.Bool.Decides.{nat_tests}
 use Rattle.rp_base.specs.declared.ids.CmdId.{CmdId}
 use Rattle.rp_base.specs.declared.items.Item.TheVariants as items
@@ -25,13 +25,16 @@ use Rattle.rp_replica.specs.Replicas.{Replica}
 use Rattle.rp_replica.proofs.Known.{one_id}
 use Rattle.rp_replica.specs.declared.events.ReplicaEvent.TheVariants as events
 use Rattle.rp_script.specs.Bounds.{IsBounded}
+use Rattle.rp_script.specs.declared.lines.NumberedLine.{NumberedLine}
 use Rattle.rp_script.specs.declared.lines.ScriptLine.{ScriptLine}
 use Rattle.rp_script.specs.declared.lines.ScriptLine.TheVariants as lines
 use Rattle.rp_world.specs.Allows.{MayPlay, MaySend}
 use Rattle.rp_world.specs.Builds.{unbuilt_request, unbuilt_word}
 use Rattle.rp_world.specs.Notes.{absent_text, full_text}
-use Rattle.rp_world.specs.Playing.{applied, asked, collected, flushed, happens, has_replica, noted, peeked, placed, played, sent, told, where_present}
-use Rattle.rp_world.specs.Sound.{IsSent, IsGiven, IsWrite, IsSoundReplica, IsSound, Fit, FlushFits}
+use Rattle.rp_world.specs.Sound.{IsPlayable}
+use Rattle.rp_world.specs.Playing.{applied, asked, collected, flushed, happens, has_replica, noted, peeked, placed, played, played_all, sent, told, where_present}
+use Rattle.rp_world.specs.Sound.{IsSent, IsGiven, IsWrite, IsSoundReplica, IsSound, FlushFits}
+use Rattle.rp_replica.specs.Writes.{WritesFit}
 use Rattle.rp_world.specs.Worlds.{World, started, with_note, with_outcome, took, next_command, counted}
 use Rattle.rp_world.proofs.SoundLists.{all_snoc, all_append, all_weaker}
 use Rattle.rp_world.proofs.SoundFlush.{flush_sound}
@@ -145,7 +148,7 @@ collected_sound w n most h =
       };
     }
 
-flushed_sound : (w : World) (n most : ℕ) → IsSound w n most → Fit w.replica → IsSound (flushed w) n most
+flushed_sound : (w : World) (n most : ℕ) → IsSound w n most → WritesFit w.replica → IsSound (flushed w) n most
 flushed_sound w n most h fit =
     record { clients = h.clients; counts = h.counts; waiting = h.waiting; replica = flush_sound w.replica w.sent (length w.waiting) most 0 0 h.replica fit }
 
@@ -257,3 +260,25 @@ may_play w n most (lines.Deliver node number) h few small bounded = tt
 may_play w n most (lines.Loss percent salt) h few small bounded = tt
 may_play w n most (lines.Settle rounds) h few small bounded = tt
 may_play w n most lines.End h few small bounded = tt
+
+pub may_show : (w : World) (n most : ℕ) → IsSound w n most → most ≤ 65536 → w.replica.applied.index < 2 ^ 64 - 1
+may_show w n most h small =
+    let r = h.replica in
+    omega (arith, r.index, r.base, r.written, small)
+
+-- the lines that are left after one more
+opened : (ls : List NumberedLine) (i : ℕ) (l : NumberedLine) → i < length ls → l ≡ get_or ls i l → drop i ls ≡ l ∷ drop (i + 1) ls
+opened ls i l within is = drop_more ls i l within ∙ ap (λ v. v ∷ drop (i + 1) ls) (sym is)
+
+pub first_playable : (ls : List NumberedLine) (i : ℕ) (l : NumberedLine) → i < length ls → l ≡ get_or ls i l → AllByRecursion IsPlayable (drop i ls)
+    → IsPlayable l × AllByRecursion IsPlayable (drop (i + 1) ls)
+first_playable ls i l within is h = subst (AllByRecursion IsPlayable) (opened ls i l within is) h
+
+pub leads_on : (ls : List NumberedLine) (i : ℕ) (l : NumberedLine) (w v end : World) → i < length ls → l ≡ get_or ls i l → v ≡ played w l.number l.line
+    → played_all w (drop i ls) ≡ end → played_all v (drop (i + 1) ls) ≡ end
+leads_on ls i l w v end within is p h =
+    ap (λ x. played_all x (drop (i + 1) ls)) p ∙ sym (ap (played_all w) (opened ls i l within is)) ∙ h
+
+pub playable_more : (ls : List NumberedLine) (i : ℕ) (l : NumberedLine) → i < length ls → l ≡ get_or ls i l → IsPlayable l
+    → (AllByRecursion IsPlayable (drop i ls) → AllByRecursion IsPlayable ls) → AllByRecursion IsPlayable (drop (i + 1) ls) → AllByRecursion IsPlayable ls
+playable_more ls i l within is p so_far rest = so_far (subst (AllByRecursion IsPlayable) (sym (opened ls i l within is)) (p, rest))

@@ -1,23 +1,22 @@
 -- What holds of a node along the lines of a script that are built.
-use Rattle.std.specs.Prelude.{◌≡◌, ℕ, ◌+◌, ◌-◌, ◌≤◌, max, List, length, Some, IsFalse, IsTrue, slice_index}
+use Rattle.std.specs.Prelude.{◌≡◌, ℕ, ◌+◌, ◌-◌, ◌≤◌, List, length, None, Some, IsFalse, IsTrue, slice_index}
 use Rattle.std.specs.List.{AllByRecursion}
 use Rattle.rp_base.specs.declared.items.Item.{Item}
 use Rattle.rp_base.specs.declared.items.Item.TheVariants as items
 use Rattle.rp_request.specs.Covers.{is_split}
 use Rattle.rp_request.specs.declared.commands.Command.{Command}
 use Rattle.rp_request.specs.declared.commands.Payload.TheVariants as payloads
-use Rattle.rp_codec.specs.Fits.{FitsPayload}
-use Rattle.rp_flush.specs.Assigns.{assigned_of}
-use Rattle.rp_flush.specs.declared.assigns.Assigned.{Assigned}
-use Rattle.rp_pending.specs.Refreshes.{waiting_of}
 use Rattle.rp_pending.specs.declared.proposals.Proposal.{Proposal}
 use Rattle.rp_raftlog.specs.LogState.{last_index}
 use Rattle.rp_raftlog.specs.declared.entries.Entry.{Entry}
 use Rattle.rp_replica.specs.Applications.{payload_of}
-use Rattle.rp_replica.specs.Flushes.{payloads_of}
+use Rattle.rp_replica.specs.Writes.{WritesFit}
 use Rattle.rp_replica.specs.Replicas.{Replica}
+use Rattle.rp_script.specs.Bounds.{IsBounded}
+use Rattle.rp_script.specs.declared.lines.NumberedLine.{NumberedLine}
 use Rattle.rp_script.specs.declared.lines.ScriptLine.{ScriptLine}
 use Rattle.rp_script.specs.declared.lines.ScriptLine.TheVariants as lines
+use Rattle.rp_world.specs.Builds.{unbuilt_word}
 use Rattle.rp_world.specs.Worlds.{World}
 use Rattle.rp_world.specs.Playing.{collected, has_replica}
 
@@ -56,15 +55,12 @@ pub record IsSound (w : World) (commands most : ℕ) : Type 0 where
   pub waiting : AllByRecursion IsWrite w.waiting
   pub replica : IsSoundReplica w.replica w.sent (length w.waiting) most
 
--- what a flush assigns here
-abbrev pub assigning : Replica → Assigned
-assigning r = assigned_of r.inbox (waiting_of r.pending) r.applied.state.lease.seq (max r.assigned r.applied.state.lai)
-
--- the payloads that a flush writes hold numbers of their widths, as the types of the code say
-abbrev pub Fit : Replica → Type 0
-Fit r = AllByRecursion FitsPayload (payloads_of r.pending (assigning r))
-
 -- where a line flushes, what it writes fits
 abbrev pub FlushFits : World → ScriptLine → Type 0
-FlushFits w (lines.Flush node range) = IsTrue (has_replica w range) → Fit (collected w).replica
+FlushFits w (lines.Flush node range) = IsTrue (has_replica w range) → WritesFit (collected w).replica
 FlushFits w _ = Unit {0}
+
+-- a line that can be played: its client is one of 1 to 64, and it is built
+pub record IsPlayable (l : NumberedLine) : Type 0 where
+  pub bounded : IsBounded l.line
+  pub built : unbuilt_word l.line ≡ None

@@ -2,6 +2,8 @@ ghost use Rattle.std.specs.Prelude.{◌≡◌, ◌≤◌, [], length, OnOk, OnEr
 ghost use Rattle.rp_replica.specs.Replicas.{leaves};
 ghost use Rattle.rp_replica.specs.Events.{event, collected};
 ghost use Rattle.rp_replica.specs.Allows.{Allows};
+ghost use Rattle.rp_replica.specs.Writes.{WritesFit};
+ghost use Rattle.rp_replica.specs.declared.events.ReplicaEvent.TheVariants.{Flush};
 ghost use Rattle.std.specs.BTreeMap.{insert_entry};
 ghost use Rattle.rp_world.specs.Worlds.{cmd_cmp, ended_in};
 
@@ -20,6 +22,7 @@ pub fn happen(
 ) -> Result<Effects, NoMemory>
     requires { Allows replica.old.replica happens }
     ensures ok { IfOk result (λ e. leaves replica.new.replica e.answer e.outcomes ≡ event replica.old.replica happens 0 0 []) }
+    ensures fits { happens ≡ Flush → OnOk result (WritesFit replica.old.replica) }
     ensures err { OnErr result (replica.new.replica ≡ replica.old.replica) }
 {
     let plan = replica.plan(alloc, happens, Tick::new(0), 0)?;

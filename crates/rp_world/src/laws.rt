@@ -1,5 +1,5 @@
 //! Laws of the lines that are built, for the proofs above. No program calls these functions.
-ghost use Rattle.std.specs.Prelude.{◌≡◌, ℕ, ◌+◌, ◌≤◌, None};
+ghost use Rattle.std.specs.Prelude.{◌≡◌, ℕ, ◌+◌, ◌-◌, ◌≤◌, ◌<◌, ◌^◌, None};
 ghost use Rattle.rp_script.specs.Bounds.{IsBounded};
 ghost use Rattle.rp_script.specs.declared.lines.ScriptLine.{ScriptLine};
 ghost use Rattle.rp_world.specs.Allows.{MayPlay};
@@ -23,4 +23,9 @@ pub fn a_line_keeps_a_node_sound()
 /// After at most 65,536 lines a sound node may play each line.
 pub fn a_sound_node_may_play()
     ensures { (w : World) (n : ℕ) (most : ℕ) (l : ScriptLine) → IsSound w n most → n ≤ 65536 → most ≤ 65536 → IsBounded l → MayPlay w l }
+{}
+
+/// And it can be shown.
+pub fn a_sound_node_can_be_shown()
+    ensures { (w : World) (n : ℕ) (most : ℕ) → IsSound w n most → most ≤ 65536 → w.replica.applied.index < 2 ^ 64 - 1 }
 {}

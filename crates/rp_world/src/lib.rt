@@ -7,8 +7,10 @@ mod events;
 pub mod laws;
 mod notes;
 mod plays;
+mod runs;
 mod views;
 mod worlds;
 
 pub use builds::unbuilt_word;
+pub use runs::{are_playable, is_playable, play_lines};
 pub use worlds::World;

@@ -1,6 +1,8 @@
 ghost use Rattle.std.specs.Prelude.{◌≡◌, ◌+◌, ◌-◌, ◌<◌, ◌^◌, None, OnOk, slice_index};
 ghost use Rattle.rp_pending.specs.Proposals.{proposal_of};
 ghost use Rattle.rp_replica.specs.Allows.{MayFlush, MayApply};
+ghost use Rattle.rp_replica.specs.Writes.{WritesFit};
+ghost use Rattle.rp_world.specs.Sound.{FlushFits};
 ghost use Rattle.rp_world.specs.Allows.{MayPlay, MaySend};
 ghost use Rattle.rp_world.specs.Notes.{absent_text};
 ghost use Rattle.rp_world.specs.Worlds.{with_note};
@@ -79,7 +81,8 @@ impl World {
     /// What waits goes to the log.
     fn flush(&mut self) -> Result<(), NoMemory>
         requires { MayFlush (collected self.old).replica }
-        ensures { OnOk result (self.new ≡ flushed (collected self.old)) }
+        ensures flushed { OnOk result (self.new ≡ flushed (collected self.old)) }
+        ensures fits { OnOk result (WritesFit (collected self.old).replica) }
     {
         self.collect()?;
         self.happen(ReplicaEvent::Flush)?;
@@ -127,7 +130,9 @@ impl World {
     /// wanting, what was done before it stands.
     pub fn play(&mut self, number: u32, line: &ScriptLine) -> Result<(), NoMemory>
         requires { MayPlay self.old line.now }
-        ensures { OnOk result (self.new ≡ played self.old number line.now) }
+        ensures played { OnOk result (self.new ≡ played self.old number line.now) }
+        // What a flush wrote holds numbers of their widths.
+        ensures fits { OnOk result (FlushFits self.old line.now) }
     {
         match *line {
             ScriptLine::Send {

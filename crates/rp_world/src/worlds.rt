@@ -2,6 +2,8 @@ ghost use Rattle.std.specs.Prelude.{◌≡◌, ◌≤◌, ◌==◌, OnOk, IfOk};
 ghost use Rattle.rp_world.specs.Worlds.{started, with_outcome, with_note, took};
 ghost use Rattle.rp_world.specs.Playing.{happens, has_replica, collected};
 ghost use Rattle.rp_replica.specs.Allows.{Allows};
+ghost use Rattle.rp_replica.specs.Writes.{WritesFit};
+ghost use Rattle.rp_replica.specs.declared.events.ReplicaEvent.TheVariants.{Flush};
 
 use crate::counts::Counts;
 use crate::events::{collect, end_all, end_one, happen};
@@ -90,6 +92,7 @@ impl World {
         requires { Allows self.old.replica event }
         ensures answer { IfOk result (λ e. e.answer ≡ (happens self.old event).answer) }
         ensures done { OnOk result (self.new ≡ took self.old (happens self.old event)) }
+        ensures fits { event ≡ Flush → OnOk result (WritesFit self.old.replica) }
     {
         let effects = happen(&mut self.replica, self.alloc, event)?;
         end_all(&mut self.outcomes, effects.outcomes.as_slice())?;
