@@ -42,31 +42,55 @@ written_seq s c verdicts.Nothing = refl
 recorded_sound : (r : Replica) (sent : List ℕ) (k most : ℕ) (c : Command) → IsSoundReplica r sent k most → r.applied.index + 1 ≤ last_index r.log → c.max ≤ r.assigned
     → IsSoundReplica (recorded r (payloads.Write c)) sent k most
 recorded_sound r sent k most c h next max = record {
-  pending = h.pending; entries = h.entries; base = h.base; index = next;
+  pending = h.pending;
+  entries = h.entries;
+  base = h.base;
+  index = next;
   lai = written_lai r.applied.state c (command_verdict r.applied.state c) r.assigned h.lai max;
   seq = written_seq r.applied.state c (command_verdict r.applied.state c) ∙ h.seq;
-  inbox = h.inbox; given = h.given; written = h.written;
+  inbox = h.inbox;
+  given = h.given;
+  written = h.written;
 }
 
 pub more_sound : (r : Replica) (sent : List ℕ) (k most : ℕ) → IsSoundReplica r sent k most → IsSoundReplica r sent k (most + 1)
 more_sound r sent k most h = record {
-  pending = h.pending; entries = h.entries; base = h.base; index = h.index; lai = h.lai; seq = h.seq; inbox = h.inbox;
-  given = omega (arith, h.given); written = omega (arith, h.written);
+  pending = h.pending;
+  entries = h.entries;
+  base = h.base;
+  index = h.index;
+  lai = h.lai;
+  seq = h.seq;
+  inbox = h.inbox;
+  given = omega (arith, h.given);
+  written = omega (arith, h.written);
 }
 
 turned_sound : (r : Replica) (sent : List ℕ) (k most : ℕ) (t : Turn) → IsSoundReplica r sent k most → IsSoundReplica (turned r t) sent k (most + 1)
 turned_sound r sent k most turns.Stays h = more_sound r sent k most h
 turned_sound r sent k most (turns.Ends id) h = record {
-  pending = all_filter (IsSent sent) _ r.pending h.pending; entries = h.entries; base = h.base; index = h.index; lai = h.lai; seq = h.seq; inbox = h.inbox;
-  given = omega (arith, h.given); written = omega (arith, h.written);
+  pending = all_filter (IsSent sent) _ r.pending h.pending;
+  entries = h.entries;
+  base = h.base;
+  index = h.index;
+  lai = h.lai;
+  seq = h.seq;
+  inbox = h.inbox;
+  given = omega (arith, h.given);
+  written = omega (arith, h.written);
 }
 turned_sound r sent k most (turns.WaitsAgain id) h =
     let long = length-append r.inbox (items.Write id ∷ []) in
     record {
       pending = changed_sent sent id waiting_again (λ p q. record { count = q.count; plain = q.plain }) r.pending h.pending;
-      entries = h.entries; base = h.base; index = h.index; lai = h.lai; seq = h.seq;
+      entries = h.entries;
+      base = h.base;
+      index = h.index;
+      lai = h.lai;
+      seq = h.seq;
       inbox = all_snoc IsWrite r.inbox (items.Write id) h.inbox tt;
-      given = omega (arith, h.given, long); written = omega (arith, h.written, long);
+      given = omega (arith, h.given, long);
+      written = omega (arith, h.written, long);
     }
 
 pub apply_sound : (r : Replica) (sent : List ℕ) (k most : ℕ) (c : Command) → IsSoundReplica r sent k most → r.applied.index + 1 ≤ last_index r.log → c.max ≤ r.assigned

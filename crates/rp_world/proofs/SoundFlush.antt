@@ -107,7 +107,7 @@ flush_sound r sent k most ticks round h fit =
     let all = length-append r.log.entries (map entry_of (payloads_of r.pending (assigning r))) in
     let asks = no_asks r.inbox h.inbox in
     let is : payloads_of r.pending (assigning r) ≡ filter_map (write_of r.pending) (assigning r).writes =
-      ap (λ l. map payloads.Lease l ++ filter_map (write_of r.pending) (assigning r).writes) asks in
+    ap (λ l. map payloads.Lease l ++ filter_map (write_of r.pending) (assigning r).writes) asks in
     record {
       pending = proposed_sent sent (assigning r).writes ticks round _ (without_sent sent (assigning r).refused r.pending h.pending);
       entries = all_append (IsGiven (assigning r).last) r.log.entries _

@@ -25,7 +25,7 @@ loop-line-preserved c =
     let l = c.line-item.result in
     let p = first_playable c.args.lines.now i l c.loop-line-test.true c.line-item.is c.loop-line.invariant.playable in
     let sound : IsSound c.play.new.self (i + 1) (i + 1) = subst (λ w. IsSound w (i + 1) (i + 1)) (sym c.in_ok-play.ensures.played)
-      (stays_sound c.loop-line.world i i l.number l.line c.loop-line.invariant.sound p.0.bounded p.0.built c.in_ok-play.ensures.fits) in
+    (stays_sound c.loop-line.world i i l.number l.line c.loop-line.invariant.sound p.0.bounded p.0.built c.in_ok-play.ensures.fits) in
     record {
       leads = leads_on c.args.lines.now i l c.loop-line.world c.play.new.self _ c.loop-line-test.true c.line-item.is c.in_ok-play.ensures.played c.loop-line.invariant.leads;
       sound = sound;
