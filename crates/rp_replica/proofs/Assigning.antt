@@ -1,10 +1,10 @@
 -- What a flush assigns is pending, and is no more than the inbox holds.
 use Rattle.std.proofs.Common.{◌≡◌, ◌≤◌, ◌+◌, ◌==◌, ℕ, suc, Bool, true, false, cond, not, List, [], ◌∷◌, ◌++◌, length, map, Option, None, Some, is_some, refl, sym, ap, subst, ◌∙◌, arith, length-append}
-use Rattle.std.specs.Prelude.{filter_map, IsSome, max}
+use Rattle.std.specs.Prelude.{filter_map, IsSome}
 use Rattle.std.specs.List.{All, filter, find, cons_option}
 use Rattle.std.specs.Option.{option_map, option_map_or}
 use Rattle.std.proofs.lemmas.List.{length-map}
-use Rattle.std.proofs.lemmas.List.Elements.{All-nil, All-cons, All-head, All-tail, All-map, filter_passes}
+use Rattle.std.proofs.lemmas.List.Elements.{All-nil, All-cons, All-head, All-tail, filter_passes}
 use Rattle.rp_base.specs.declared.ids.CmdId.{CmdId}
 use Rattle.rp_base.specs.declared.items.Item.{Item}
 use Rattle.rp_base.specs.declared.items.Item.TheVariants.{Write, Lease}
@@ -12,12 +12,11 @@ use Rattle.rp_base.specs.declared.leases.LeaseAsk.{LeaseAsk}
 use Rattle.rp_request.specs.declared.commands.Payload.{Payload}
 use Rattle.rp_request.specs.declared.commands.Payload.TheVariants as payloads
 use Rattle.rp_request.specs.declared.commands.Waiting.{Waiting}
-use Rattle.rp_raftlog.specs.declared.entries.Entry.{Entry}
 use Rattle.rp_flush.specs.declared.assigns.Assigned.{Assigned}
 use Rattle.rp_flush.specs.Assigns.{same_id, asks_of, ids_of, once, seq_of, waits_under, waits_under_another, numbered, assigned_of}
 use Rattle.rp_pending.specs.declared.proposals.Proposal.{Proposal}
-use Rattle.rp_pending.specs.Proposals.{has_id, is_proposed, proposal_of}
-use Rattle.rp_pending.specs.Refreshes.{waits, waiting_of}
+use Rattle.rp_pending.specs.Proposals.{is_proposed, proposal_of}
+use Rattle.rp_pending.specs.Refreshes.{waiting_of}
 use Rattle.rp_replica.specs.Flushes.{entry_of, payloads_of, write_of, without_all}
 use Rattle.rp_replica.specs.Plans.{ArePending}
 use Rattle.rp_replica.proofs.Known.{one_id, known_without_all}

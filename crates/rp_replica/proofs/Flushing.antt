@@ -1,12 +1,11 @@
 -- A planned flush is the flush of the definition.
-use Rattle.std.proofs.Common.{◌≡◌, ◌≤◌, ◌<◌, ◌+◌, ◌^◌, ℕ, max, List, ◌++◌, length, map, refl, sym, ap, subst, ◌∙◌, arith}
+use Rattle.std.proofs.Common.{◌≡◌, ◌+◌, ℕ, max, List, ◌++◌, map, refl, sym, ap, subst, ◌∙◌, arith}
 use Rattle.std.specs.Prelude.{filter_map}
 use Rattle.rp_base.specs.declared.ids.CmdId.{CmdId}
 use Rattle.rp_base.specs.declared.leases.Lease as leases
 use Rattle.rp_base.specs.declared.leases.LeaseAsk.{LeaseAsk}
 use Rattle.rp_request.specs.declared.commands.Payload.TheVariants as payloads
 use Rattle.rp_request.specs.declared.commands.Waiting.{Waiting}
-use Rattle.rp_raftlog.specs.LogState.{last_index}
 use Rattle.rp_raftlog.specs.declared.entries.Entry.{Entry}
 use Rattle.rp_flush.specs.declared.assigns.Assigned.{Assigned}
 use Rattle.rp_flush.specs.Assigns.{assigned_of}
@@ -52,14 +51,14 @@ pub makes_flush : (r : Replica) (now round : ℕ) (waiting : List Waiting) (leas
     → EachCarries entries → outcomes ≡ map (refused_with told) refused → MayFlush r → Makes r (with_lists a now round entries outcomes) (flushed r now round)
 makes_flush r now round waiting lease told lai a asks writes refused entries outcomes w l t i e ls ws rs es carry o h =
     let is : a ≡ assigning r =
-      e ∙ ap (λ ws. assigned_of r.inbox ws lease.seq (max r.assigned lai)) w ∙ ap (λ l. assigned_of r.inbox (waiting_of r.pending) l.seq (max r.assigned lai)) l
-      ∙ ap (λ n. assigned_of r.inbox (waiting_of r.pending) r.applied.state.lease.seq (max r.assigned n)) i in
+    e ∙ ap (λ ws. assigned_of r.inbox ws lease.seq (max r.assigned lai)) w ∙ ap (λ l. assigned_of r.inbox (waiting_of r.pending) l.seq (max r.assigned lai)) l
+    ∙ ap (λ n. assigned_of r.inbox (waiting_of r.pending) r.applied.state.lease.seq (max r.assigned n)) i in
     let entries_is : entries ≡ map entry_of (payloads_of r.pending (assigning r)) =
-      es ∙ ap (λ l. map (λ ask. entry_of (payloads.Lease ask)) l ++ map entry_of (filter_map (write_of r.pending) writes)) ls
-      ∙ ap (λ l. map (λ ask. entry_of (payloads.Lease ask)) a.leases ++ map entry_of (filter_map (write_of r.pending) l)) ws
-      ∙ entries_are r.pending a ∙ ap (λ b. map entry_of (payloads_of r.pending b)) is in
+    es ∙ ap (λ l. map (λ ask. entry_of (payloads.Lease ask)) l ++ map entry_of (filter_map (write_of r.pending) writes)) ls
+    ∙ ap (λ l. map (λ ask. entry_of (payloads.Lease ask)) a.leases ++ map entry_of (filter_map (write_of r.pending) l)) ws
+    ∙ entries_are r.pending a ∙ ap (λ b. map entry_of (payloads_of r.pending b)) is in
     let outcomes_is : outcomes ≡ map (refused_with r.applied.state.lease) (assigning r).refused =
-      o ∙ ap (λ l. map (refused_with told) l) rs ∙ ap (λ l. map (refused_with l) a.refused) t ∙ ap (λ b. map (refused_with r.applied.state.lease) b.refused) is in
+    o ∙ ap (λ l. map (refused_with told) l) rs ∙ ap (λ l. map (refused_with l) a.refused) t ∙ ap (λ b. map (refused_with r.applied.state.lease) b.refused) is in
     subst (λ b. Makes r (with_lists b now round entries outcomes) (flushed r now round)) (sym is)
     (subst (λ l. Makes r (with_lists (assigning r) now round l outcomes) (flushed r now round)) (sym entries_is)
     (subst (λ l. Makes r (with_lists (assigning r) now round (map entry_of (payloads_of r.pending (assigning r))) l) (flushed r now round)) (sym outcomes_is)

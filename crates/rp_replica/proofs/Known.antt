@@ -1,5 +1,5 @@
 -- Which proposals are still found once others changed or ended.
-use Rattle.std.proofs.Common.{◌≡◌, ℕ, ◌+◌, ◌<◌, Bool, true, false, cond, not, ◌&&◌, List, [], ◌∷◌, length, drop, get_or, Option, None, Some, is_some, refl, sym, ap, subst, ◌∙◌, eqb-true}
+use Rattle.std.proofs.Common.{◌≡◌, ℕ, ◌+◌, ◌<◌, Bool, true, false, cond, not, ◌&&◌, List, [], ◌∷◌, length, drop, get_or, Option, Some, is_some, refl, sym, ap, subst, ◌∙◌, eqb-true}
 use Rattle.std.proofs.lemmas.List.{drop_more}
 use Rattle.std.specs.List.{All}
 use Rattle.std.specs.Prelude.{IsSome}
@@ -88,6 +88,7 @@ pub one_proposed : (ws : List (CmdId × ℕ)) (i : ℕ) (w : CmdId × ℕ) (ps q
     → ArePending (drop i ws) ps → qs ≡ with_changed w.0 (proposed w.1 now round) ps → proposed_all (drop i ws) now round ps ≡ all
     → (proposed_all (drop (i + 1) ws) now round qs ≡ all) × ArePending (drop (i + 1) ws) qs
 one_proposed ws i w ps qs all now round within is known q leads =
-    let rest = All-tail (λ (v : CmdId × ℕ). IsSome (proposal_of v.0 ps)) w (drop (i + 1) ws) (subst (λ l. ArePending l ps) (opened ws i w within is) known) in
-    (ap (proposed_all (drop (i + 1) ws) now round) q ∙ sym (ap (λ l. proposed_all l now round ps) (opened ws i w within is)) ∙ leads,
-    subst (λ l. ArePending (drop (i + 1) ws) l) (sym q) (still_pending (drop (i + 1) ws) w.0 w.1 now round ps rest))
+    let rest = All-tail (λ (v : CmdId × ℕ). IsSome (proposal_of v.0 ps)) w (drop (i + 1) ws) (subst (λ l. ArePending l ps) (opened ws i w within is) known) in (
+      ap (proposed_all (drop (i + 1) ws) now round) q ∙ sym (ap (λ l. proposed_all l now round ps) (opened ws i w within is)) ∙ leads,
+      subst (λ l. ArePending (drop (i + 1) ws) l) (sym q) (still_pending (drop (i + 1) ws) w.0 w.1 now round ps rest),
+    )

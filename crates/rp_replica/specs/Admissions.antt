@@ -1,5 +1,5 @@
 -- Admission at the leaseholder (after CockroachDB: the lease, the bounds, the latches, and then the evaluation).
-use Rattle.std.specs.Prelude.{ℕ, ◌==◌, if◌then◌else◌, List, [], ◌∷◌, ◌++◌, None, Result, Ok, Err}
+use Rattle.std.specs.Prelude.{ℕ, ◌==◌, if◌then◌else◌, [], ◌∷◌, ◌++◌, None, Result, Ok, Err}
 use Rattle.rp_base.specs.declared.ids.CmdId.{CmdId}
 use Rattle.rp_request.specs.Covers.{spans_of, in_bounds}
 use Rattle.rp_request.specs.declared.outcomes.Refusal.{Refusal}
@@ -7,7 +7,6 @@ use Rattle.rp_request.specs.declared.outcomes.Refusal.TheVariants.{NotLeaseHolde
 use Rattle.rp_request.specs.declared.requests.Request.{Request}
 use Rattle.rp_latch.specs.Holds.{answer}
 use Rattle.rp_latch.specs.declared.holds.Held.{Held}
-use Rattle.rp_latch.specs.declared.holds.Hold.{Hold}
 use Rattle.rp_eval.specs.Evaluations.{evaluated}
 use Rattle.rp_eval.specs.declared.evaluations.Evaluated.{Evaluated}
 use Rattle.rp_pending.specs.declared.proposals.Proposal.{Proposal}
@@ -25,15 +24,22 @@ unlatched (Err held) evaluation = Err (Latched held.by held.held)
 abbrev pub guarded : Replica → Request → Result Evaluated Refusal
 guarded r request = if r.applied.state.lease.holder == r.node
     then (if in_bounds r.applied.state.desc request
-        then unlatched (answer r.latches (spans_of request)) (evaluated r.applied.state.table r.applied.state.desc request)
-        else Err (RangeMismatch r.applied.state.desc))
+    then unlatched (answer r.latches (spans_of request)) (evaluated r.applied.state.table r.applied.state.desc request)
+    else Err (RangeMismatch r.applied.state.desc))
     else Err (NotLeaseHolder r.applied.state.lease)
 
 -- a proposal as it is admitted, under the lease sequence of its evaluation
 abbrev pub proposal : CmdId → Request → Evaluated → ℕ → Proposal
 proposal id request e seq = record {
-  id = id; request = request; batch = e.batch; reply = e.reply; seq = seq;
-  max = 0; stage = stages.Waiting; since = 0; round = None;
+  id = id;
+  request = request;
+  batch = e.batch;
+  reply = e.reply;
+  seq = seq;
+  max = 0;
+  stage = stages.Waiting;
+  since = 0;
+  round = None;
 }
 
 -- the attempt holds its latches and waits

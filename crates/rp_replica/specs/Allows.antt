@@ -1,5 +1,5 @@
 -- Which events may be planned at a replica.
-use Rattle.std.specs.Prelude.{◌≡◌, ℕ, ◌+◌, ◌-◌, ◌<◌, ◌^◌, max, length, Option, None, Some}
+use Rattle.std.specs.Prelude.{◌≡◌, ◌+◌, ◌-◌, ◌<◌, ◌^◌, max, length, Option, None, Some}
 use Rattle.rp_raftlog.specs.LogState.{last_index, entry_at}
 use Rattle.rp_raftlog.specs.declared.entries.Entry.{Entry}
 use Rattle.rp_request.specs.declared.commands.Payload.{Payload}

@@ -1,10 +1,10 @@
-ghost use Rattle.std.specs.Prelude.{◌≡◌, ◌≤◌, ◌+◌, IfOk, Some, Option};
+ghost use Rattle.std.specs.Prelude.{◌≡◌, ◌≤◌, ◌+◌, IfOk, Some};
 ghost use Rattle.rp_replica.specs.Replicas.{leaves};
-ghost use Rattle.rp_replica.specs.Applications.{applied, applied_one, is_own, is_own_command, payload_of, turn, turn_of, told, told_of, recorded, turned};
+ghost use Rattle.rp_replica.specs.Applications.{applied, is_own, is_own_command, payload_of, turn, turn_of, told, told_of, recorded, turned};
 ghost use Rattle.rp_replica.specs.Allows.{MayApply};
-ghost use Rattle.rp_replica.specs.Plans.{Makes, ApplicationFits, HasRoom, IsKnown};
+ghost use Rattle.rp_replica.specs.Plans.{Makes, ApplicationFits, IsKnown};
 ghost use Rattle.rp_replica.specs.declared.events.EventAnswer.TheVariants as answers;
-ghost use Rattle.rp_apply.specs.Applied.{command_verdict, verdict};
+ghost use Rattle.rp_apply.specs.Applied.{verdict};
 ghost use Rattle.rp_apply.specs.Rooms.{IsWithin, needed};
 ghost use Rattle.rp_replica.specs.Plans.{items_of};
 ghost use Rattle.rp_raftlog.specs.declared.entries.Entry.{Entry};
@@ -13,7 +13,7 @@ use crate::events::{Effects, Ended, EventAnswer, Outcomes};
 use crate::plans::{Application, ReplicaPlan, Turn};
 use crate::replicas::Replica;
 use rp_apply::{Verdict, check};
-use rp_base::{Item, Lease, LeaseIndex, NoMemory};
+use rp_base::{Item, Lease, NoMemory};
 use rp_codec::{DecodeFault, decode};
 use rp_pending::Stage;
 use rp_raftlog::Entry;
@@ -44,7 +44,12 @@ fn turn(command: &Command, verdict: Verdict) -> Turn
 }
 
 /// What its client is told.
-fn told(alloc: Global, lease: Lease, command: &Command, verdict: Verdict) -> Result<Outcomes, NoMemory>
+fn told(
+    alloc: Global,
+    lease: Lease,
+    command: &Command,
+    verdict: Verdict,
+) -> Result<Outcomes, NoMemory>
     ensures { IfOk result (λ o. o ≡ told lease command.now verdict) }
 {
     let outcome = match verdict {
@@ -95,7 +100,12 @@ impl Replica {
         if !self.is_own(command) {
             return Ok(Outcomes::new(alloc));
         }
-        told(alloc, self.applied.lease(), command, check(&self.applied, payload))
+        told(
+            alloc,
+            self.applied.lease(),
+            command,
+            check(&self.applied, payload),
+        )
     }
 
     pub(crate) fn plan_application(&self, alloc: Global) -> Result<ReplicaPlan, NoMemory>

@@ -33,6 +33,7 @@ pub struct FlushPlan {
     pub refused: Seq<CmdId>,
     /// The last lease index that is given.
     pub last: LeaseIndex,
+    /// The tick and the round of the node at which they are proposed.
     pub now: Tick,
     pub round: u64,
     /// The ends of the refused ones.
@@ -42,8 +43,10 @@ pub struct FlushPlan {
 /// What an application will do.
 #[derive(Drop)]
 pub struct Application {
+    /// What the entry carries.
     pub payload: Payload,
     pub turn: Turn,
+    /// The end of the proposal, where the entry ends one.
     pub outcomes: Outcomes,
 }
 
@@ -52,10 +55,13 @@ pub struct Application {
 pub enum ReplicaPlan {
     /// Nothing changes.
     Answers { answer: EventAnswer },
+    /// The proposal takes its latches and waits.
     Admits { proposal: Proposal },
     /// What the buffer gave, at most 16 items, which are handed in last.
     Collects { taken: Items },
+    /// The inbox goes to the log.
     Flushes { flush: FlushPlan },
+    /// The next committed entry is applied.
     Applies { application: Application },
 }
 

@@ -1,4 +1,4 @@
-ghost use Rattle.std.specs.Prelude.{◌≡◌, ◌≤◌, [], ◌∷◌, ◌++◌, OnOk, IfOk};
+ghost use Rattle.std.specs.Prelude.{◌≡◌, [], OnOk, IfOk};
 ghost use Rattle.rp_replica.specs.Replicas.{Done, committed, leaves, started};
 ghost use Rattle.rp_replica.specs.Events.{event, peeked};
 ghost use Rattle.rp_replica.specs.Plans.{IsCollect, Makes, PlanFits, HasRoom, IsRoomWithin, planned};
@@ -39,22 +39,22 @@ impl Model for Replica {
     ghost coded = { Prim.hlevel (codes, table_code) };
 
     ghost view = { λ r. record {
-        replica = record {
-            node = r.node;
-            log = r.log.log;
-            applied = r.applied.history;
-            latches = r.latches.list;
-            pending = r.pending.list;
-            assigned = r.assigned;
-            inbox = r.inbox.list;
-        };
-        room = record {
-            log = r.log.spare;
-            applied = r.applied.room;
-            latches = r.latches.spare;
-            pending = r.pending.spare;
-            inbox = r.inbox.spare;
-        };
+      replica = record {
+        node = r.node;
+        log = r.log.log;
+        applied = r.applied.history;
+        latches = r.latches.list;
+        pending = r.pending.list;
+        assigned = r.assigned;
+        inbox = r.inbox.list;
+      };
+      room = record {
+        log = r.log.spare;
+        applied = r.applied.room;
+        latches = r.latches.spare;
+        pending = r.pending.spare;
+        inbox = r.inbox.spare;
+      };
     } };
 }
 
@@ -96,7 +96,7 @@ impl Replica {
         self.log.last().0
     }
 
-    /// The attempts that have not ended, and the replica's applied state, for its report.
+    /// The attempts that have not ended, in order of admission.
     pub fn pending(&self) -> &Pending
         ensures { result.now.list ≡ self.now.replica.pending }
     {
@@ -136,10 +136,14 @@ impl Replica {
     {
         match happens {
             ReplicaEvent::Admit { id, request } => self.plan_admission(alloc, id, request),
-            ReplicaEvent::Collect => Ok(ReplicaPlan::Collects { taken: Items::new(alloc) }),
+            ReplicaEvent::Collect => Ok(ReplicaPlan::Collects {
+                taken: Items::new(alloc),
+            }),
             ReplicaEvent::Flush => self.plan_flush(alloc, now, round),
             ReplicaEvent::Apply => self.plan_application(alloc),
-            ReplicaEvent::Peek { key } => Ok(ReplicaPlan::Answers { answer: self.peek(key) }),
+            ReplicaEvent::Peek { key } => Ok(ReplicaPlan::Answers {
+                answer: self.peek(key),
+            }),
         }
     }
 
@@ -153,7 +157,8 @@ impl Replica {
         }
     }
 
-    /// Makes the room that a plan needs.
+    /// Makes the room that a plan needs: at a collect, for 16 items. It leaves all that contracts see,
+    /// room aside.
     pub fn make_room(&mut self, plan: &ReplicaPlan) -> Result<(), NoMemory>
         requires { PlanFits self.old.replica plan.now }
         ensures replica { self.new.replica ≡ self.old.replica }
@@ -175,7 +180,7 @@ impl Replica {
         }
     }
 
-    /// Does what was planned, without memory.
+    /// Does what was planned in this state, once `make_room` has answered Ok for it. It takes no memory.
     pub fn commit(&mut self, alloc: Global, plan: ReplicaPlan) -> Effects
         requires fits { PlanFits self.old.replica plan }
         requires room { HasRoom self.old.room plan }

@@ -10,7 +10,7 @@ use Rattle.rp_replica.proofs.flushes.push_asks.Given as goal
 abbrev pub invariant-loop-ask : goal.invariant-loop-ask
 invariant-loop-ask l = record {
   makes : l.entries ++ map (λ ask. entry_of (payloads.Lease ask)) (drop l.ask-index l.asks)
-    ≡ l.fn.entries ++ map (λ ask. entry_of (payloads.Lease ask)) l.asks;
+      ≡ l.fn.entries ++ map (λ ask. entry_of (payloads.Lease ask)) l.asks;
   carry : EachCarries l.entries;
   fits : AllByRecursion FitsPayload (map payloads.Lease (drop l.ask-index l.asks)) → AllByRecursion FitsPayload (map payloads.Lease l.asks);
 }

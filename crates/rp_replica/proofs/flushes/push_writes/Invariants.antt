@@ -10,7 +10,7 @@ use Rattle.rp_replica.proofs.flushes.push_writes.Given as goal
 abbrev pub invariant-loop-write : goal.invariant-loop-write
 invariant-loop-write l = record {
   makes : l.entries ++ map entry_of (filter_map (write_of l.pending.list) (drop l.write-index l.writes))
-    ≡ l.fn.entries ++ map entry_of (filter_map (write_of l.pending.list) l.writes);
+      ≡ l.fn.entries ++ map entry_of (filter_map (write_of l.pending.list) l.writes);
   carry : EachCarries l.entries;
   fits : AllByRecursion FitsPayload (filter_map (write_of l.pending.list) (drop l.write-index l.writes)) → AllByRecursion FitsPayload (filter_map (write_of l.pending.list) l.writes);
 }

@@ -1,4 +1,4 @@
-use Rattle.std.proofs.Common.{◌≡◌, sym, subst}
+use Rattle.std.proofs.Common.{sym, subst}
 use Rattle.rp_replica.specs.declared.plans.ReplicaPlan.TheVariants.{Flushes}
 use Rattle.rp_replica.specs.Flushes.{flushed}
 use Rattle.rp_replica.specs.Allows.{MayFlush}
