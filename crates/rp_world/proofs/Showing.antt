@@ -205,8 +205,11 @@ sent_by w line client q false h =
 
 flushed_showing : (w : World) → IsShowing w → IsShowing (flushed (collected w))
 flushed_showing w h = record {
-  desc = h.desc; outcomes = all_ended (happens (collected w) events.Flush).outcomes w.outcomes
-      (refused_shown w.replica.applied.state.lease (assigning (collected w).replica).refused) h.outcomes; first = h.first; records = h.records;
+  desc = h.desc;
+  outcomes = all_ended (happens (collected w) events.Flush).outcomes w.outcomes
+      (refused_shown w.replica.applied.state.lease (assigning (collected w).replica).refused) h.outcomes;
+  first = h.first;
+  records = h.records;
 }
 
 applied_at : (w : World) (line : ℕ) (o : Option Entry) → IsShowing w → ((e : Entry) → o ≡ Some e → IsGiven w.replica.assigned e)
