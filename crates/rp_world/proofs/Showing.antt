@@ -1,6 +1,6 @@
 -- Lines that are built keep what a node shows such that it can be written.
-use Rattle.std.proofs.Common.{◌≡◌, ◌≤◌, ◌<◌, ◌+◌, ◌-◌, ◌==◌, ℕ, zero, suc, Bool, true, false, cond, nat_lt, List, [], ◌∷◌, ◌++◌, length, map, Option, None, Some, Result, Ok, Err, inl, inr, refl, sym, ap, subst, ◌∙◌, arith, length-append}
-use Rattle.std.specs.Prelude.{All, IsFalse, ◌^◌, nat_eq, if◌then◌else◌}
+use Rattle.std.proofs.Common.{◌≡◌, ◌≤◌, ◌+◌, ◌-◌, ◌==◌, ℕ, Bool, true, false, cond, nat_lt, List, [], ◌∷◌, ◌++◌, length, map, Option, None, Some, Result, Ok, Err, inl, inr, refl, sym, ap, subst, ◌∙◌, arith, length-append}
+use Rattle.std.specs.Prelude.{All, IsFalse, nat_eq, if◌then◌else◌}
 use Rattle.std.specs.List.{AllByRecursion}
 use Rattle.std.specs.declared.cmp.Ordering.{Ordering}
 use Rattle.std.specs.declared.cmp.Ordering.TheVariants.{Less, Equal, Greater}
@@ -39,7 +39,7 @@ use Rattle.rp_apply.specs.Applied.{AppliedState, command_verdict, desc_after, re
 use Rattle.rp_apply.specs.History.{History}
 use Rattle.rp_apply.specs.declared.verdicts.Verdict.{Verdict}
 use Rattle.rp_apply.specs.declared.verdicts.Verdict.TheVariants as verdicts
-use Rattle.rp_raftlog.specs.LogState.{entry_at, last_index}
+use Rattle.rp_raftlog.specs.LogState.{entry_at}
 use Rattle.rp_raftlog.specs.declared.entries.Entry.{Entry}
 use Rattle.rp_report.specs.Shown.{IsShownDesc, IsShownRefusal, IsShownOutcome, IsShownAnswer, IsShownRange, IndexesFit, IsShownView}
 use Rattle.rp_replica.specs.Admissions.{admitted_by, guarded, unlatched}
@@ -54,9 +54,8 @@ use Rattle.rp_replica.specs.declared.plans.Turn.TheVariants as turns
 use Rattle.rp_replica.specs.Writes.{assigning}
 use Rattle.rp_script.specs.declared.lines.ScriptLine.{ScriptLine}
 use Rattle.rp_script.specs.declared.lines.ScriptLine.TheVariants as lines
-use Rattle.rp_world.specs.Builds.{unbuilt_request, unbuilt_word}
 use Rattle.rp_world.specs.Notes.{absent_text, full_text}
-use Rattle.rp_world.specs.Playing.{applied, asked, collected, flushed, happens, has_replica, noted, peeked, placed, played, sent, told}
+use Rattle.rp_world.specs.Playing.{applied, asked, collected, flushed, happens, has_replica, noted, peeked, played, told}
 use Rattle.rp_world.specs.Shows.{IsShownEntry, IsShowing}
 use Rattle.rp_world.specs.Sound.{IsGiven, IsSound}
 use Rattle.rp_world.specs.Views.{answer_of, range_view, view_of}

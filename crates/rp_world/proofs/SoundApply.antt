@@ -1,7 +1,7 @@
 -- An application keeps a replica sound.
-use Rattle.std.proofs.Common.{◌≡◌, ◌≤◌, ◌<◌, ◌+◌, ◌-◌, ◌==◌, ℕ, suc, Bool, true, false, cond, not, nat_lt, List, [], ◌∷◌, ◌++◌, length, map, Option, None, Some, refl, sym, ap, subst, ◌∙◌, arith, length-append}
-use Rattle.std.specs.Prelude.{slice_get, IsFalse, ◌^◌}
-use Rattle.std.specs.List.{AllByRecursion, filter}
+use Rattle.std.proofs.Common.{◌≡◌, ◌≤◌, ◌+◌, ◌-◌, ℕ, Bool, true, false, cond, nat_lt, List, [], ◌∷◌, length, Option, None, Some, refl, ◌∙◌, arith, length-append}
+use Rattle.std.specs.Prelude.{slice_get, IsFalse}
+use Rattle.std.specs.List.{AllByRecursion}
 use Rattle.rp_base.specs.declared.ranges.Desc.{Desc}
 use Rattle.rp_base.specs.declared.items.Item.TheVariants as items
 use Rattle.rp_request.specs.Covers.{is_split}
@@ -16,8 +16,8 @@ use Rattle.rp_apply.specs.Rooms.{MaySplit}
 use Rattle.rp_apply.specs.declared.verdicts.Verdict.{Verdict}
 use Rattle.rp_apply.specs.declared.verdicts.Verdict.TheVariants as verdicts
 use Rattle.rp_pending.specs.Proposals.{waiting_again}
-use Rattle.rp_replica.specs.Allows.{MayApply, MayApplyNext, MayApplyThis}
-use Rattle.rp_replica.specs.Applications.{applied_one, payload_of, recorded, turned, turn_of}
+use Rattle.rp_replica.specs.Allows.{MayApply, MayApplyNext}
+use Rattle.rp_replica.specs.Applications.{applied_one, recorded, turned, turn_of}
 use Rattle.rp_replica.specs.Replicas.{Replica}
 use Rattle.rp_replica.specs.declared.plans.Turn.{Turn}
 use Rattle.rp_replica.specs.declared.plans.Turn.TheVariants as turns

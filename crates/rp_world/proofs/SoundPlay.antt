@@ -1,9 +1,9 @@
 -- Lines that are built keep a node sound, and a sound node may play them.
-use Rattle.std.proofs.Common.{◌≡◌, ◌≢◌, ◌≤◌, ◌<◌, ◌+◌, ◌-◌, ◌==◌, ℕ, zero, suc, max, Bool, true, false, cond, not, nat_lt, List, [], ◌∷◌, ◌++◌, length, drop, map, replicate, get_or, set, Option, None, Some, Result, Ok, Err, refl, sym, ap, subst, ◌∙◌, arith, length-append, eqb-true}
+use Rattle.std.proofs.Common.{◌≡◌, ◌≢◌, ◌≤◌, ◌<◌, ◌+◌, ◌-◌, ◌==◌, ℕ, zero, suc, max, Bool, true, false, cond, nat_lt, List, [], ◌∷◌, ◌++◌, length, drop, replicate, get_or, set, Option, None, Some, Result, Ok, Err, refl, sym, ap, subst, ◌∙◌, arith, length-append, eqb-true}
 use Rattle.std.specs.Prelude.{IsFalse, ◌^◌}
-use Rattle.std.specs.List.{AllByRecursion, find}
+use Rattle.std.specs.List.{AllByRecursion}
 use Rattle.std.proofs.Math.Nat.{max-eq_left}
-use Rattle.std.proofs.lemmas.List.{drop_more, get_or-replicate, length-replicate, get_or-set_other, get_or-set_same, length-set}
+use Rattle.std.proofs.lemmas.List.{drop_more, length-replicate, get_or-set_other, get_or-set_same, length-set}
 use Rattle.std.proofs.lemmas.Bool.Decides.{nat_tests}
 use Rattle.rp_base.specs.declared.ids.CmdId.{CmdId}
 use Rattle.rp_base.specs.declared.items.Item.TheVariants as items
@@ -32,7 +32,7 @@ use Rattle.rp_world.specs.Allows.{MayPlay, MaySend}
 use Rattle.rp_world.specs.Builds.{unbuilt_request, unbuilt_word}
 use Rattle.rp_world.specs.Notes.{absent_text, full_text}
 use Rattle.rp_world.specs.Sound.{IsPlayable}
-use Rattle.rp_world.specs.Playing.{applied, asked, collected, flushed, happens, has_replica, noted, peeked, placed, played, played_all, sent, told, where_present}
+use Rattle.rp_world.specs.Playing.{applied, asked, collected, flushed, happens, has_replica, noted, peeked, played, played_all, told}
 use Rattle.rp_world.specs.Sound.{IsSent, IsGiven, IsWrite, IsSoundReplica, IsSound, FlushFits}
 use Rattle.rp_replica.specs.Writes.{WritesFit}
 use Rattle.rp_world.specs.Worlds.{World, started, with_note, with_outcome, took, next_command, counted}

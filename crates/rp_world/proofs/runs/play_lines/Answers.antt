@@ -1,4 +1,4 @@
-use Rattle.std.proofs.Common.{◌≡◌, ◌≤◌, ◌+◌, ◌<◌, ap, subst, sym, refl, arith}
+use Rattle.std.proofs.Common.{◌+◌, ap, subst, sym, arith}
 use Rattle.rp_world.specs.Playing.{played_all}
 use Rattle.rp_world.specs.Shows.{IsShowing}
 use Rattle.rp_world.specs.Sound.{IsSound}
