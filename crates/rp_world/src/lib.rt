@@ -1,0 +1,18 @@
+//! One node that plays the lines of a script on its replica, and what it shows.
+#![tactic(auto)]
+
+mod builds;
+mod counts;
+mod events;
+pub mod laws;
+mod notes;
+mod plays;
+mod runs;
+#[cfg(test)]
+mod tests;
+mod views;
+mod worlds;
+
+pub use builds::unbuilt_word;
+pub use runs::{are_playable, is_playable, play_lines};
+pub use worlds::World;
