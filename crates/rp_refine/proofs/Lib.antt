@@ -1,0 +1,6 @@
+pub mod Stands
+pub mod Ghosts
+pub mod Shadows
+pub mod Admitting
+pub mod Applying
+pub mod Settled

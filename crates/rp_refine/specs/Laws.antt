@@ -1,0 +1,2 @@
+-- What the laws say of a run of one replica.
+use Rattle.std.specs.Prelude.{◌≡◌}
