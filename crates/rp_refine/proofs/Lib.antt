@@ -4,3 +4,5 @@ pub mod Shadows
 pub mod Admitting
 pub mod Applying
 pub mod Settled
+pub mod Flushing
+pub mod Following

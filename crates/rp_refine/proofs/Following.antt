@@ -1,0 +1,81 @@
+-- Each run of one replica is shown by ranges that are reached.
+use Rattle.std.proofs.Common.{◌≡◌, ℕ, List, [], ◌∷◌, None, refl, sym, ap, subst, ◌∙◌, arith}
+use Rattle.rp_base.specs.declared.items.Item.{Item}
+use Rattle.rp_replica.specs.declared.events.ReplicaEvent.{ReplicaEvent}
+use Rattle.rp_replica.specs.declared.events.ReplicaEvent.TheVariants.{Admit, Collect, Flush, Apply, Peek}
+use Rattle.rp_replica.specs.Events.{event}
+use Rattle.rp_rangesafe.specs.Ranges.{Ranges, at_first, AreReached, AreLater}
+use Rattle.rp_refine.specs.Runs.{Input, Run, begun, left_by, next, LawfulEvent, AllLawful, play}
+use Rattle.rp_refine.specs.Laws.{IsReached, IsLater}
+use Rattle.rp_refine.proofs.Ghosts.{reached_first, are_later_itself, are_later_further, are_reached_later}
+use Rattle.rp_refine.proofs.Shadows.{Shadow, Follows}
+use Rattle.rp_refine.proofs.Admitting.{admit_follows}
+use Rattle.rp_refine.proofs.Applying.{apply_follows}
+use Rattle.rp_refine.proofs.Flushing.{flush_follows}
+
+-- at first
+shadow_begun : Shadow at_first begun
+shadow_begun = record {
+  opened = refl;
+  shows = record {
+    base = record {
+      start = refl;
+      live = refl;
+      barrier = refl;
+      here_is = refl;
+      base = refl;
+      carried = tt;
+      within = omega arith;
+      index = refl;
+      state = refl;
+      records = refl;
+    };
+    tells = record {
+      stands = record { holds = tt; listed = λ q h. absurd h; latched = λ q h. absurd h };
+      agrees = λ q. (refl, refl);
+    };
+  };
+}
+
+-- one event
+follows_event : (w : Ranges) (x : Run) → Shadow w x → (e : ReplicaEvent) (ticks round : ℕ) (taken : List Item) → LawfulEvent x e taken
+    → Follows w (left_by x.outcome e (event x.replica e ticks round taken))
+follows_event w x s (Admit id request) ticks round taken l = admit_follows w x s id request l
+follows_event w x s Collect ticks round taken l = record {
+  to = w;
+  later = are_later_itself w;
+  shadow = record { opened = s.opened; shows = record { base = s.shows.base; tells = s.shows.tells } };
+}
+follows_event w x s Flush ticks round taken l = flush_follows w x s ticks round l
+follows_event w x s Apply ticks round taken l = apply_follows w x s
+follows_event w x s (Peek key) ticks round taken l = record {
+  to = w;
+  later = are_later_itself w;
+  shadow = record { opened = s.opened; shows = record { base = s.shows.base; tells = s.shows.tells } };
+}
+
+-- events one after the other
+pub follows_all : (w : Ranges) (x : Run) → Shadow w x → (is : List Input) → AllLawful x is → Follows w (play x is)
+follows_all w x s [] l = record { to = w; later = are_later_itself w; shadow = s }
+follows_all w x s (i ∷ is) l =
+    let f = follows_event w x s i.event i.ticks i.round i.taken l.0 in
+    let g = follows_all f.to (next x i) f.shadow is l.1 in
+    record { to = g.to; later = are_later_further w f.to g.to f.later g.later; shadow = g.shadow }
+
+-- the ranges that show a run
+pub record Shown (x : Run) : Type 0 where
+  pub ranges : Ranges
+  pub reached : AreReached ranges
+  pub shadow : Shadow ranges x
+
+pub shown_reached : (x : Run) → IsReached x → Shown x
+shown_reached x r =
+    let f = follows_all at_first begun shadow_begun r.inputs r.lawful in
+    record {
+      ranges = f.to;
+      reached = are_reached_later at_first f.to reached_first f.later;
+      shadow = subst (Shadow f.to) r.reached f.shadow;
+    }
+
+pub shown_later : (w : Ranges) (x later : Run) → Shadow w x → IsLater x later → Follows w later
+shown_later w x later s l = subst (Follows w) l.reached (follows_all w x s l.inputs l.lawful)
