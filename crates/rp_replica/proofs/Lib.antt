@@ -1,3 +1,4 @@
 pub mod Known
 pub mod Assigning
 pub mod Flushing
+pub mod Carrying

@@ -3,6 +3,7 @@ pub mod Admissions
 pub mod Flushes
 pub mod Applications
 pub mod Events
+pub mod Carried
 pub mod Plans
 pub mod Held
 pub mod Allows

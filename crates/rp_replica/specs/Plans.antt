@@ -21,6 +21,7 @@ use Rattle.rp_replica.specs.Admissions.{with_proposal}
 use Rattle.rp_replica.specs.Flushes.{freed_all, without_all, proposed_all}
 use Rattle.rp_replica.specs.Applications.{recorded, turned}
 use Rattle.rp_replica.specs.Events.{collected}
+use Rattle.rp_replica.specs.Carried.{EachCarries}
 
 -- the replica after a planned flush
 abbrev pub after_flush : Replica → FlushPlan → Replica
@@ -54,6 +55,7 @@ ArePending writes ps = All (λ w. IsSome (proposal_of w.0 ps)) writes
 pub record FlushFits (r : Replica) (f : FlushPlan) : Type 0 where
   pub index : last_index r.log + length f.entries < 2 ^ 64
   pub known : ArePending f.writes (without_all f.refused r.pending)
+  pub carry : EachCarries f.entries
 
 -- a planned application fits a replica
 pub record ApplicationFits (r : Replica) (a : Application) : Type 0 where
@@ -104,6 +106,14 @@ HasRoom room (Admits p) = (1 ≤ room.latches) × (1 ≤ room.pending)
 HasRoom room (Collects taken) = 16 ≤ room.inbox
 HasRoom room (Flushes f) = length f.entries ≤ room.log
 HasRoom room (Applies a) = IsWithin (needed a.payload) room.applied × (items_of a.turn ≤ room.inbox)
+
+-- the plan is one of a collect
+abbrev pub IsCollect : ReplicaPlan → Type 0
+IsCollect (Answers answer) = ⊥
+IsCollect (Admits p) = ⊥
+IsCollect (Collects taken) = Unit {0}
+IsCollect (Flushes f) = ⊥
+IsCollect (Applies a) = ⊥
 
 -- made for this replica, the plan does this
 pub record Makes (r : Replica) (p : ReplicaPlan) (d : Done) : Type 0 where

@@ -6,6 +6,7 @@ ghost use Rattle.rp_replica.specs.Replicas.{leaves};
 ghost use Rattle.rp_replica.specs.Flushes.{command_of, entry_of, flushed, freed_all, listed, proposed_all, refused_with, without_all, write_of};
 ghost use Rattle.rp_replica.specs.Allows.{MayFlush};
 ghost use Rattle.rp_replica.specs.Plans.{Makes, FlushFits, ArePending, after_flush};
+ghost use Rattle.rp_replica.specs.Carried.{Carries, EachCarries};
 
 use crate::events::{Effects, Ended, EventAnswer, Outcomes};
 use crate::plans::{FlushPlan, ReplicaPlan};
@@ -24,7 +25,8 @@ const FIRST_TERM: u64 = 1;
 
 /// A payload as an entry of the log.
 fn entry(alloc: Global, payload: &Payload) -> Result<Entry, NoMemory>
-    ensures { IfOk result (λ e. e ≡ entry_of payload.now) }
+    ensures entry { IfOk result (λ e. e ≡ entry_of payload.now) }
+    ensures carries { IfOk result (λ e. Carries e) }
 {
     let payload = encode(alloc, payload)?;
     Ok(Entry {
@@ -50,7 +52,9 @@ fn command(proposal: &Proposal, max: LeaseIndex) -> Result<Command, NoMemory>
 
 /// Puts lease asks at the end of the entries.
 fn push_asks(alloc: Global, entries: &mut Entries, asks: &[LeaseAsk]) -> Result<(), NoMemory>
-    ensures { OnOk result (entries.new ≡ entries.old ++ map (λ ask. entry_of (payloads.Lease ask)) asks.now) }
+    requires { EachCarries entries.old }
+    ensures carry { OnOk result (EachCarries entries.new) }
+    ensures entries { OnOk result (entries.new ≡ entries.old ++ map (λ ask. entry_of (payloads.Lease ask)) asks.now) }
 {
     for ask in asks {
         let entry = entry(alloc, &Payload::Lease(*ask))?;
@@ -67,7 +71,9 @@ fn push_write(
     id: CmdId,
     max: LeaseIndex,
 ) -> Result<(), NoMemory>
-    ensures { OnOk result (entries.new ≡ entries.old ++ map entry_of (listed (write_of pending.now.list (id, max)))) }
+    requires { EachCarries entries.old }
+    ensures carry { OnOk result (EachCarries entries.new) }
+    ensures entries { OnOk result (entries.new ≡ entries.old ++ map entry_of (listed (write_of pending.now.list (id, max)))) }
 {
     match pending.find(id) {
         None => Ok(()),
@@ -86,7 +92,9 @@ fn push_writes(
     pending: &Pending,
     writes: &[(CmdId, LeaseIndex)],
 ) -> Result<(), NoMemory>
-    ensures { OnOk result (entries.new ≡ entries.old ++ map entry_of (filter_map (write_of pending.now.list) writes.now)) }
+    requires { EachCarries entries.old }
+    ensures carry { OnOk result (EachCarries entries.new) }
+    ensures entries { OnOk result (entries.new ≡ entries.old ++ map entry_of (filter_map (write_of pending.now.list) writes.now)) }
 {
     for write in writes {
         push_write(alloc, entries, pending, write.0, write.1)?;
@@ -120,7 +128,8 @@ fn entries_of(
     leases: &[LeaseAsk],
     writes: &[(CmdId, LeaseIndex)],
 ) -> Result<Entries, NoMemory>
-    ensures { IfOk result (λ e. e ≡ map (λ ask. entry_of (payloads.Lease ask)) leases.now ++ map entry_of (filter_map (write_of pending.now.list) writes.now)) }
+    ensures carry { IfOk result (λ e. EachCarries e) }
+    ensures entries { IfOk result (λ e. e ≡ map (λ ask. entry_of (payloads.Lease ask)) leases.now ++ map entry_of (filter_map (write_of pending.now.list) writes.now)) }
 {
     let mut entries = Entries::new(alloc);
     push_asks(alloc, &mut entries, leases)?;

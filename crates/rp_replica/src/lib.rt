@@ -6,6 +6,7 @@ mod admissions;
 mod applications;
 mod events;
 mod flushes;
+pub mod laws;
 mod plans;
 mod replicas;
 

@@ -1,3 +1,10 @@
+ghost use Rattle.std.specs.Prelude.{◌≡◌, ℕ, ◌≤◌, length};
+ghost use Rattle.rp_replica.specs.declared.plans.ReplicaPlan.TheVariants.{Collects};
+ghost use Rattle.rp_replica.specs.declared.events.ReplicaEvent.TheVariants.{Collect};
+ghost use Rattle.rp_replica.specs.Replicas.{Replica};
+ghost use Rattle.rp_replica.specs.Events.{event};
+ghost use Rattle.rp_replica.specs.Plans.{IsCollect, Makes};
+
 use crate::events::{EventAnswer, Outcomes};
 use rp_base::{CmdId, Items, LeaseIndex, Seq, Tick};
 use rp_pending::Proposal;
@@ -50,4 +57,17 @@ pub enum ReplicaPlan {
     Collects { taken: Items },
     Flushes { flush: FlushPlan },
     Applies { application: Application },
+}
+
+impl ReplicaPlan {
+    /// Hands in what the buffer gave, at most 16 items, before `commit` and once all room is made.
+    /// The plan is a collect's. It takes no memory.
+    pub fn put_taken(&mut self, taken: Items)
+        requires collect { IsCollect self.old }
+        requires few { length taken.list ≤ 16 }
+        ensures plan { self.new ≡ Collects taken }
+        ensures makes { (r : Replica) (ticks : ℕ) (round : ℕ) → Makes r self.new (event r Collect ticks round taken.list) }
+    {
+        *self = ReplicaPlan::Collects { taken };
+    }
 }

@@ -1,7 +1,8 @@
 ghost use Rattle.std.specs.Prelude.{◌≡◌, ◌≤◌, [], ◌∷◌, ◌++◌, OnOk, IfOk};
 ghost use Rattle.rp_replica.specs.Replicas.{Done, committed, leaves, started};
 ghost use Rattle.rp_replica.specs.Events.{event, peeked};
-ghost use Rattle.rp_replica.specs.Plans.{Makes, PlanFits, HasRoom, IsRoomWithin, planned};
+ghost use Rattle.rp_replica.specs.Plans.{IsCollect, Makes, PlanFits, HasRoom, IsRoomWithin, planned};
+ghost use Rattle.rp_replica.specs.declared.events.ReplicaEvent.TheVariants.{Collect};
 ghost use Rattle.rp_replica.specs.Allows.{Allows};
 
 use crate::events::{Effects, EventAnswer, Outcomes, ReplicaEvent};
@@ -114,6 +115,7 @@ impl Replica {
         ensures replica { self.new.replica ≡ self.old.replica }
         ensures room { IsRoomWithin self.old.room self.new.room }
         ensures plan { IfOk result (λ p. Makes self.new.replica p (event self.new.replica happens now round [])) }
+        ensures collect { happens ≡ Collect → IfOk result (λ p. IsCollect p) }
     {
         self.draft(alloc, happens, now, round)
     }
@@ -126,7 +128,8 @@ impl Replica {
         round: u64,
     ) -> Result<ReplicaPlan, NoMemory>
         requires { Allows self.now.replica happens }
-        ensures { IfOk result (λ p. Makes self.now.replica p (event self.now.replica happens now round [])) }
+        ensures plan { IfOk result (λ p. Makes self.now.replica p (event self.now.replica happens now round [])) }
+        ensures collect { happens ≡ Collect → IfOk result (λ p. IsCollect p) }
     {
         match happens {
             ReplicaEvent::Admit { id, request } => self.plan_admission(alloc, id, request),

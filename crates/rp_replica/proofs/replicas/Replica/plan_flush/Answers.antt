@@ -20,5 +20,5 @@ returns c =
     (makes_flush _ c.args.now c.args.round c.in_ok-waiting.waiting c.lease.result c.lease-lease.result c.lai-lai.result c.in_ok-assigned.assigned
     c.as_slice.result.now c.as_slice-2.result.now c.as_slice-3.result.now c.in_ok-entries.entries c.in_ok-outcomes.outcomes
     c.in_ok-waiting.ensures c.lease.ensures c.lease-lease.ensures c.lai-lai.ensures c.in_ok-assigned.ensures
-    c.as_slice.ensures c.as_slice-2.ensures c.as_slice-3.ensures c.in_ok-entries.ensures c.in_ok-outcomes.ensures
+    c.as_slice.ensures c.as_slice-2.ensures c.as_slice-3.ensures c.in_ok-entries.ensures.entries c.in_ok-entries.ensures.carry c.in_ok-outcomes.ensures
     (subst (λ h. MayFlush h.replica) (sym c.self.view_is) (record { assigned = c.requires.assigned; index = c.requires.index })))
