@@ -24,12 +24,13 @@ use Rattle.rp_apply.specs.Applied.{AppliedState}
 use Rattle.rp_replica.specs.declared.events.ReplicaEvent.TheVariants.{Admit}
 use Rattle.rp_replica.specs.Replicas.{Replica, Done}
 use Rattle.rp_replica.specs.Admissions.{unlatched, guarded, proposal, admitted_by, admitted}
-use Rattle.rp_rangesafe.specs.Attempts.{Body, Stage, Refused, Attempt, Attempts, IsPending, with_attempt}
+use Rattle.rp_rangesafe.specs.Attempts.{Body, Stage, Refused, Attempt, Attempts, IsBorn, IsPending, with_attempt}
 use Rattle.rp_rangesafe.specs.Along.{entry}
 use Rattle.rp_rangesafe.specs.World.{World, here, IsEvaluated, MayAdmit, happens}
 use Rattle.rp_rangesafe.specs.World as machine
 use Rattle.rp_rangesafe.specs.Ranges.{Owner, Turned, At, Ranges, first_applied, Turn_away, IsRefused, IsRefusedAt, previous, MayBegin, with_owner, after_step}
 use Rattle.rp_rangesafe.proofs.Numbers.{onward}
+use Rattle.rp_rangesafe.proofs.Tables.{at_attempt}
 use Rattle.rp_refine.specs.Runs.{Outcomes, Run, IsRefusal, MayAsk, left_by}
 use Rattle.rp_refine.proofs.Stands.{Stands, Holds, IsHeld, IsListed, found_holds, stands_add}
 use Rattle.rp_refine.proofs.Ghosts.{one_step, goes_admit}
@@ -116,6 +117,7 @@ module _ (w : Ranges) (x : Run) (s : Shadow w x) (id : CmdId) (request : Request
     later = one_step w (Turn_away id) begins;
     shadow = record {
       opened = s.opened;
+      made_here = s.made_here;
       shows = record {
         base = base;
         tells = record { stands = tells.stands; agrees = agrees_made x.outcome w.owner h.attempt id (outcomes.Refused refusal) Turned tells.agrees (inl (refl, unborn)) };
@@ -183,6 +185,8 @@ module _ (w : Ranges) (x : Run) (s : Shadow w x) (id : CmdId) (request : Request
           later = g.later;
           shadow = record {
             opened = g.opened;
+            made_here = λ q b. subst (λ (v : World). IsBorn (v.attempt q).stage → (v.attempt q).node ≡ 1) (sym g.range)
+                (at_attempt (λ z a. IsBorn a.stage → a.node ≡ 1) h.attempt id attempt (λ _. refl) (λ z _. s.made_here z) q) b;
             shows = subst (λ v. Shows v g.to.owner (left_by x.outcome (Admit id request) (admitted_by x.replica id request (Ok e)))) (sym g.range)
                 (subst (λ o. Shows (happens h (machine.Admit id 1 body)) o (left_by x.outcome (Admit id request) (admitted_by x.replica id request (Ok e)))) (sym same)
                 (record { base = record { start = base.start; live = base.live; barrier = base.barrier; here_is = base.here_is; base = base.base; carried = base.carried; within = base.within; index = base.index; state = base.state; records = base.records }; tells = known }));

@@ -127,7 +127,7 @@ module _ (r : Replica) (f : Attempts) (outcome : Outcomes) (owner : CmdId → Ow
 
     waits : Tells (with_attempt f c.id (staged (f c.id) Waiting)) outcome owner (turned r (turns.WaitsAgain c.id)).latches (turned r (turns.WaitsAgain c.id)).pending
     waits = record {
-      stands = stands_turn waiting_again (λ p. refl) f c.id (staged (f c.id) Waiting) (λ p h. record { made = record { node = h.made.node; seq = h.made.seq; request = h.made.request; batch = h.made.batch; reply = h.made.reply; keys = h.made.keys }; stage = refl })
+      stands = stands_turn waiting_again (λ p. refl) (λ p. refl) f c.id (staged (f c.id) Waiting) (λ p h. record { made = record { node = h.made.node; seq = h.made.seq; request = h.made.request; batch = h.made.batch; reply = h.made.reply; keys = h.made.keys }; stage = refl })
           r.latches r.pending t.stands (subst IsPending (sym stage) tt) refl;
       agrees = agrees_staged outcome owner f c.id (staged (f c.id) Waiting) t.agrees pending_now;
     }
@@ -253,5 +253,5 @@ apply_follows w x s = go (next_payload x.replica) refl where
       }
 
   go : (o : Option Payload) → next_payload x.replica ≡ o → Follows w (left_by x.outcome Apply (applied_where x.replica o))
-  go None e = record { to = w; later = are_later_itself w; shadow = record { opened = s.opened; shows = record { base = s.shows.base; tells = s.shows.tells } } }
-  go (Some p) e = follows w (left_by x.outcome Apply (applied_one x.replica p)) s.opened (one p e)
+  go None e = record { to = w; later = are_later_itself w; shadow = record { opened = s.opened; made_here = s.made_here; shows = record { base = s.shows.base; tells = s.shows.tells } } }
+  go (Some p) e = follows w (left_by x.outcome Apply (applied_one x.replica p)) x s (one p e)

@@ -14,8 +14,6 @@ use Rattle.rp_raftlog.specs.LogState.{LogState, appended}
 use Rattle.rp_raftlog.specs.declared.entries.Entry.{Entry}
 use Rattle.rp_latch.specs.declared.holds.Hold.{Hold}
 use Rattle.rp_latch.specs.Holds.{is_of_other}
-use Rattle.rp_codec.specs.Fits.{FitsPayload}
-use Rattle.rp_codec.proofs.SpellingLaws.{read_as_spelled}
 use Rattle.rp_flush.specs.Assigns.{ids_of, once, assigned_of, numbered, waits_under, waits_under_another}
 use Rattle.rp_pending.specs.declared.proposals.Proposal.{Proposal}
 use Rattle.rp_pending.specs.Proposals.{has_id, proposal_of, without, with_changed, proposed}
@@ -25,7 +23,6 @@ use Rattle.rp_apply.specs.History.{History}
 use Rattle.rp_replica.proofs.Known.{one_id}
 use Rattle.rp_replica.specs.declared.events.ReplicaEvent.TheVariants as events
 use Rattle.rp_replica.specs.Replicas.{Replica}
-use Rattle.rp_replica.specs.Applications.{decoded}
 use Rattle.rp_replica.specs.Flushes.{command_of, write_of, payloads_of, entry_of, freed_all, without_all, proposed_all, refused_with, flushed}
 use Rattle.rp_rangesafe.specs.Attempts.{Body, Stage, Waiting, Proposed, Refused, Attempt, Attempts, IsPending, IsOf, staged, handed_out, with_attempt}
 use Rattle.rp_rangesafe.specs.World.{World, here, Event, Refuse, Commit, Lawful, AllLawful, happens, run}
@@ -34,7 +31,7 @@ use Rattle.rp_rangesafe.specs.Places.{IsLater}
 use Rattle.rp_rangesafe.specs.Ranges.{Owner, Ranges, first_applied}
 use Rattle.rp_rangesafe.proofs.Tables.{at_attempt, at_same, at_other, id_cases}
 use Rattle.rp_rangesafe.proofs.Runs.{later_state}
-use Rattle.rp_refine.specs.Runs.{Outcomes, Run, with_outcome, with_ended, assigning, MayWrite, left_by}
+use Rattle.rp_refine.specs.Runs.{Outcomes, Run, with_outcome, with_ended, assigning, IsReadBack, MayWrite, left_by}
 use Rattle.rp_refine.proofs.Stands.{IsMade, Holds, AllHold, Stands, apart, stands_drop, stands_turn}
 use Rattle.rp_refine.proofs.Ghosts.{ArePlain, IsPlain}
 use Rattle.rp_refine.proofs.Shadows.{Carries, Base, Agrees, Tells, Shows, Shadow, Follows, Turns, follows, agrees_told, agrees_staged, told_pending}
@@ -117,8 +114,8 @@ found_made f id (x ∷ ps) p h e = go (found_made f id ps p h.1) (has_id id x) r
   go ih true t is = here (one_id id x.id t) is
   go ih false t is = ih is
 
-carries_more : (es : List Entry) (ps : List Payload) (p : Payload) → FitsPayload p → Carries es ps → Carries (es ++ entry_of p ∷ []) (ps ++ p ∷ [])
-carries_more [] [] p fits h = (ap decoded (read_as_spelled p fits), tt)
+carries_more : (es : List Entry) (ps : List Payload) (p : Payload) → IsReadBack p → Carries es ps → Carries (es ++ entry_of p ∷ []) (ps ++ p ∷ [])
+carries_more [] [] p fits h = (fits, tt)
 carries_more [] (q ∷ ps) p fits h = absurd h
 carries_more (e ∷ es) [] p fits h = absurd h
 carries_more (e ∷ es) (q ∷ ps) p fits h = (h.0, carries_more es ps p fits h.1)
@@ -143,7 +140,7 @@ base_attempt h node log applied f b = record {
   records = b.records;
 }
 
-base_commit : (h : World) (node : ℕ) (log : LogState) (applied : History) (p : Payload) → Lawful h (Commit p) → FitsPayload p → Base h node log applied
+base_commit : (h : World) (node : ℕ) (log : LogState) (applied : History) (p : Payload) → Lawful h (Commit p) → IsReadBack p → Base h node log applied
     → Base (happens h (Commit p)) node (appended log (entry_of p ∷ [])) applied
 base_commit h node log applied p l fits b =
     let later : IsLater h (happens h (Commit p)) = record { events = Commit p ∷ []; lawful = (l, tt); reached = refl } in
@@ -196,7 +193,7 @@ module _ (node : ℕ) (applied : History) (owner : CmdId → Owner) (ps0 : List 
       (Refuse id) tt g.waits.0 (refuse_one lease log outcome ls ps id (ids ++ more) k d.0 g))
       (λ m q. refuse_all lease log ids more (with_outcome outcome id (outcomes.Refused (NotLeaseHolder lease))) (filter (is_of_other id) ls) (without id ps) m d.1 q)
 
-  commit_one : (log : LogState) (outcome : Outcomes) (ls : List Hold) (ps : List Proposal) (todo : List CmdId) (p : Payload) (k : World) → Lawful k (Commit p) → FitsPayload p
+  commit_one : (log : LogState) (outcome : Outcomes) (ls : List Hold) (ps : List Proposal) (todo : List CmdId) (p : Payload) (k : World) → Lawful k (Commit p) → IsReadBack p
       → Going log outcome ls ps todo k → Going (appended log (entry_of p ∷ [])) outcome ls ps todo (happens k (Commit p))
   commit_one log outcome ls ps todo p k l fits g = record {
     base = base_commit k node log applied p l fits g.base;
@@ -228,7 +225,7 @@ module _ (node : ℕ) (applied : History) (owner : CmdId → Owner) (ps0 : List 
       record {
         base = base_attempt k node log applied (with_attempt k.attempt w.0 a) g.base;
         tells = record {
-          stands = stands_turn (proposed w.1 ticks round) (λ p. refl) k.attempt w.0 a
+          stands = stands_turn (proposed w.1 ticks round) (λ p. refl) (λ p. refl) k.attempt w.0 a
               (λ p h. record { made = record { node = h.made.node; seq = h.made.seq; request = h.made.request; batch = h.made.batch; reply = h.made.reply; keys = h.made.keys }; stage = refl })
               ls ps g.tells.stands (waits_pending (k.attempt w.0).stage g.waits.0) refl;
           agrees = agrees_staged outcome owner k.attempt w.0 a g.tells.agrees (subst (λ o. Agrees o (owner w.0) (Proposed w.1)) (sym told.0) (told.1, tt));
@@ -244,7 +241,7 @@ module _ (node : ℕ) (applied : History) (owner : CmdId → Owner) (ps0 : List 
       (record { seq = m.seq; request = m.request; batch = m.batch; reply = m.reply; max = inl refl }))
 
   write_all : (ws : List (CmdId × ℕ)) (log : LogState) (outcome : Outcomes) (ls : List Hold) (ps : List Proposal) (ticks round : ℕ) (k : World)
-      → Distinct (map (λ w. w.0) ws) → AllByRecursion (λ w. 0 < w.1) ws → AllByRecursion FitsPayload (filter_map (write_of ps0) ws)
+      → Distinct (map (λ w. w.0) ws) → AllByRecursion (λ w. 0 < w.1) ws → AllByRecursion IsReadBack (filter_map (write_of ps0) ws)
       → Going log outcome ls ps (map (λ w. w.0) ws) k
       → Went k (Going (appended log (map entry_of (filter_map (write_of ps0) ws))) outcome ls (proposed_all ws ticks round ps) [])
   write_all [] log outcome ls ps ticks round k d above fits g = went_nowhere (subst (λ l. Going l outcome ls ps [] k) (log_same log) g)
@@ -257,10 +254,10 @@ module _ (node : ℕ) (applied : History) (owner : CmdId → Owner) (ps0 : List 
       Final : World → Type 0
       Final = Going (appended log (map entry_of (filter_map (write_of ps0) (w ∷ ws)))) outcome ls (proposed_all (w ∷ ws) ticks round ps) []
 
-      go : ((log : LogState) (v : World) → Going log outcome ls (with_changed w.0 (proposed w.1 ticks round) ps) (map (λ u. u.0) ws) v → AllByRecursion FitsPayload (filter_map (write_of ps0) ws)
+      go : ((log : LogState) (v : World) → Going log outcome ls (with_changed w.0 (proposed w.1 ticks round) ps) (map (λ u. u.0) ws) v → AllByRecursion IsReadBack (filter_map (write_of ps0) ws)
           → Went v (Going (appended log (map entry_of (filter_map (write_of ps0) ws))) outcome ls (proposed_all ws ticks round (with_changed w.0 (proposed w.1 ticks round) ps)) []))
           → (o : Option Proposal) → proposal_of w.0 ps0 ≡ o
-          → AllByRecursion FitsPayload (cons_option (option_map (λ p. payloads.Write (command_of p w.1)) o) (filter_map (write_of ps0) ws))
+          → AllByRecursion IsReadBack (cons_option (option_map (λ p. payloads.Write (command_of p w.1)) o) (filter_map (write_of ps0) ws))
           → Going log outcome ls (with_changed w.0 (proposed w.1 ticks round) ps) (map (λ u. u.0) ws) (happens k (machine.Flush w.0 w.1))
           → Went (happens k (machine.Flush w.0 w.1)) (Going (appended log (map entry_of (cons_option (option_map (λ p. payloads.Write (command_of p w.1)) o) (filter_map (write_of ps0) ws)))) outcome ls (proposed_all (w ∷ ws) ticks round ps) [])
       go rest None e more q = rest log (happens k (machine.Flush w.0 w.1)) q more
@@ -276,7 +273,7 @@ module _ (node : ℕ) (applied : History) (owner : CmdId → Owner) (ps0 : List 
 
   -- the lease asks, and then the commands
   ask_all : (asks : List LeaseAsk) (ws : List (CmdId × ℕ)) (log : LogState) (outcome : Outcomes) (ls : List Hold) (ps : List Proposal) (ticks round : ℕ) (k : World)
-      → Distinct (map (λ w. w.0) ws) → AllByRecursion (λ w. 0 < w.1) ws → AllByRecursion FitsPayload (map payloads.Lease asks ++ filter_map (write_of ps0) ws)
+      → Distinct (map (λ w. w.0) ws) → AllByRecursion (λ w. 0 < w.1) ws → AllByRecursion IsReadBack (map payloads.Lease asks ++ filter_map (write_of ps0) ws)
       → Going log outcome ls ps (map (λ w. w.0) ws) k
       → Went k (Going (appended log (map entry_of (map payloads.Lease asks ++ filter_map (write_of ps0) ws))) outcome ls (proposed_all ws ticks round ps) [])
   ask_all [] ws log outcome ls ps ticks round k d above fits g = write_all ws log outcome ls ps ticks round k d above fits g
@@ -292,7 +289,7 @@ later_distinct [] ys h = h
 later_distinct (x ∷ xs) ys h = later_distinct xs ys h.1
 
 pub flush_follows : (w : Ranges) (x : Run) → Shadow w x → (ticks round : ℕ) → MayWrite x.replica → Follows w (left_by x.outcome events.Flush (flushed x.replica ticks round))
-flush_follows w x s ticks round fits = follows w (left_by x.outcome events.Flush (flushed x.replica ticks round)) s.opened turns where
+flush_follows w x s ticks round fits = follows w (left_by x.outcome events.Flush (flushed x.replica ticks round)) x s turns where
   turns : Turns (w.range 0) w.owner (left_by x.outcome events.Flush (flushed x.replica ticks round))
   turns =
       let a = assigning x.replica in

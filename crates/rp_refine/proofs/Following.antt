@@ -17,6 +17,7 @@ use Rattle.rp_refine.proofs.Flushing.{flush_follows}
 shadow_begun : Shadow at_first begun
 shadow_begun = record {
   opened = refl;
+  made_here = λ q b. absurd b;
   shows = record {
     base = record {
       start = refl;
@@ -31,7 +32,7 @@ shadow_begun = record {
       records = refl;
     };
     tells = record {
-      stands = record { holds = tt; listed = λ q h. absurd h; latched = λ q h. absurd h };
+      stands = record { holds = tt; distinct = tt; held = refl; listed = λ q h. absurd h; latched = λ q h. absurd h };
       agrees = λ q. (refl, refl);
     };
   };
@@ -44,14 +45,14 @@ follows_event w x s (Admit id request) ticks round taken l = admit_follows w x s
 follows_event w x s Collect ticks round taken l = record {
   to = w;
   later = are_later_itself w;
-  shadow = record { opened = s.opened; shows = record { base = s.shows.base; tells = s.shows.tells } };
+  shadow = record { opened = s.opened; made_here = s.made_here; shows = record { base = s.shows.base; tells = s.shows.tells } };
 }
 follows_event w x s Flush ticks round taken l = flush_follows w x s ticks round l
 follows_event w x s Apply ticks round taken l = apply_follows w x s
 follows_event w x s (Peek key) ticks round taken l = record {
   to = w;
   later = are_later_itself w;
-  shadow = record { opened = s.opened; shows = record { base = s.shows.base; tells = s.shows.tells } };
+  shadow = record { opened = s.opened; made_here = s.made_here; shows = record { base = s.shows.base; tells = s.shows.tells } };
 }
 
 -- events one after the other

@@ -14,13 +14,15 @@ use Rattle.rp_apply.specs.Applied.{AppliedState, records_of}
 use Rattle.rp_apply.specs.History.{History}
 use Rattle.rp_replica.specs.Replicas.{Replica}
 use Rattle.rp_replica.specs.Applications.{payload_of}
-use Rattle.rp_rangesafe.specs.Attempts.{Stage, Unborn, Success, Refused, Attempt, Attempts, IsPending, same_id, with_attempt}
-use Rattle.rp_rangesafe.specs.World.{World, here, Event, AllLawful, run}
+use Rattle.rp_rangesafe.specs.Attempts.{Stage, Unborn, Success, Refused, Attempt, Attempts, IsBorn, IsPending, same_id, with_attempt}
+use Rattle.rp_rangesafe.specs.World.{World, here, Event, AllLawful, happens, run}
+use Rattle.rp_rangesafe.specs.World as machine
 use Rattle.rp_rangesafe.specs.Ranges.{Owner, Nobody, Turned, At, Ranges, first_applied, AreLater, with_owner}
 use Rattle.rp_rangesafe.proofs.Tables.{id_by, same_id_is, other_id, id_cases, at_same, at_other}
+use Rattle.rp_rangesafe.proofs.Growth.{Admits, grown_run, made_before}
 use Rattle.rp_refine.specs.Runs.{Outcomes, Run, with_outcome}
 use Rattle.rp_refine.proofs.Stands.{Stands}
-use Rattle.rp_refine.proofs.Ghosts.{Goes, ArePlain, goes_on}
+use Rattle.rp_refine.proofs.Ghosts.{Goes, IsPlain, ArePlain, goes_on}
 
 -- the entries carry these payloads
 abbrev pub Carries : List Entry → List Payload → Type 0
@@ -62,6 +64,7 @@ pub record Shows (h : World) (owner : CmdId → Owner) (x : Run) : Type 0 where
 
 pub record Shadow (w : Ranges) (x : Run) : Type 0 where
   pub opened : w.opened 0 ≡ true
+  pub made_here : (q : CmdId) → IsBorn ((w.range 0).attempt q).stage → ((w.range 0).attempt q).node ≡ 1
   pub shows : Shows (w.range 0) w.owner x
 
 -- where a run goes, the ranges go
@@ -77,15 +80,42 @@ pub record Turns (h : World) (owner : CmdId → Owner) (y : Run) : Type 0 where
   pub lawful : AllLawful h events
   pub shows : Shows (run h events) owner y
 
-pub follows : (w : Ranges) (y : Run) → w.opened 0 ≡ true → Turns (w.range 0) w.owner y → Follows w y
-follows w y o t =
-    let g = goes_on w t.events t.plain o t.lawful in
+admits_none : (e : Event) (q : CmdId) → IsPlain e → Admits e q → ⊥
+admits_none (machine.Admit id node body) q p a = p
+admits_none (machine.Flush id max) q p a = a
+admits_none (machine.Return id) q p a = a
+admits_none (machine.Refuse id) q p a = a
+admits_none (machine.Commit x) q p a = a
+admits_none (machine.Apply node) q p a = a
+admits_none (machine.Snapshot node to) q p a = a
+admits_none (machine.Remove node) q p a = a
+admits_none (machine.Restart node) q p a = a
+
+-- events that admit nothing leave each attempt at its node
+here_still : (h : World) (es : List Event) → ArePlain es → AllLawful h es → (q : CmdId) → (IsBorn (h.attempt q).stage → (h.attempt q).node ≡ 1)
+    → IsBorn ((run h es).attempt q).stage → ((run h es).attempt q).node ≡ 1
+here_still h [] p l q k b = k b
+here_still h (e ∷ es) p l q k b = here_still (happens h e) es p.1 l.1 q one b where
+  before : IsBorn (h.attempt q).stage ⊎ Admits e q → IsBorn (h.attempt q).stage
+  before (inl born) = born
+  before (inr a) = absurd (admits_none e q p.0 a)
+
+  one : IsBorn ((happens h e).attempt q).stage → ((happens h e).attempt q).node ≡ 1
+  one born =
+      let was = before (made_before h e l.0 q born) in
+      sym ((grown_run h (e ∷ []) (l.0, tt) q).same was).node ∙ k was
+
+pub follows : (w : Ranges) (y x : Run) → Shadow w x → Turns (w.range 0) w.owner y → Follows w y
+follows w y x s t =
+    let g = goes_on w t.events t.plain s.opened t.lawful in
     let same : g.to.owner ≡ w.owner = λ i q. g.owner q i in
     record {
       to = g.to;
       later = g.later;
       shadow = record {
         opened = g.opened;
+        made_here = λ q b. subst (λ (v : World). IsBorn (v.attempt q).stage → (v.attempt q).node ≡ 1) (sym g.range)
+            (here_still (w.range 0) t.events t.plain t.lawful q (s.made_here q)) b;
         shows = subst (λ h. Shows h g.to.owner y) (sym g.range) (subst (λ o. Shows (run (w.range 0) t.events) o y) (sym same) t.shows);
       };
     }

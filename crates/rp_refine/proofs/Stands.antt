@@ -47,9 +47,23 @@ AllHold f ps = AllByRecursion (λ p. Holds p (f p.id)) ps
 abbrev pub IsListed : CmdId → List Proposal → Type 0
 IsListed id ps = IsSome (proposal_of id ps)
 
+-- the latches of a proposal
+abbrev pub hold_of : Proposal → Hold
+hold_of p = record { id = p.id; spans = spans_of p.request }
+
+-- no proposal has the id, and no two have one
+abbrev pub HasNone : CmdId → List Proposal → Type 0
+HasNone id ps = AllByRecursion (λ p. id ≡ p.id → ⊥) ps
+
+abbrev pub AreDistinct : List Proposal → Type 0
+AreDistinct [] = Unit {0}
+AreDistinct (p ∷ ps) = HasNone p.id ps × AreDistinct ps
+
 -- each proposal holds its attempt; each pending attempt is listed, and holds its latches
 pub record Stands (f : Attempts) (ls : List Hold) (ps : List Proposal) : Type 0 where
   pub holds : AllHold f ps
+  pub distinct : AreDistinct ps
+  pub held : ls ≡ map hold_of ps
   pub listed : (q : CmdId) → IsPending (f q).stage → IsListed q ps
   pub latched : (q : CmdId) → IsPending (f q).stage → IsHeld q (spans_of (f q).body.request) ls
 
@@ -109,18 +123,72 @@ all_dropped f id a (p ∷ ps) h = go (has_id id p) refl (all_dropped f id a ps h
   go true e ih = ih
   go false e ih = (subst (Holds p) (sym (at_other f id a p.id (λ s. apart id p.id e (sym s)))) h.0, ih)
 
+none_left : (id other : CmdId) (ps : List Proposal) → HasNone other ps → HasNone other (without id ps)
+none_left id other [] h = tt
+none_left id other (p ∷ ps) h = go (has_id id p) (none_left id other ps h.1) where
+  go : (b : Bool) → HasNone other (without id ps) → HasNone other (cond (not b) (p ∷ without id ps) (without id ps))
+  go true ih = ih
+  go false ih = (h.0, ih)
+
+distinct_left : (id : CmdId) (ps : List Proposal) → AreDistinct ps → AreDistinct (without id ps)
+distinct_left id [] h = tt
+distinct_left id (p ∷ ps) h = go (has_id id p) (distinct_left id ps h.1) where
+  go : (b : Bool) → AreDistinct (without id ps) → AreDistinct (cond (not b) (p ∷ without id ps) (without id ps))
+  go true ih = ih
+  go false ih = (none_left id p.id ps h.0, ih)
+
+same_back : (x y : CmdId) → same_id x y ≡ same_id y x
+same_back x y = go (same_id x y) (same_id y x) refl refl where
+  go : (b c : Bool) → same_id x y ≡ b → same_id y x ≡ c → b ≡ c
+  go true true e f = refl
+  go false false e f = refl
+  go true false e f = absurd (apart y x f (sym (one_id x y e)))
+  go false true e f = absurd (apart x y e (sym (one_id y x f)))
+
+held_left : (id : CmdId) (ps : List Proposal) → filter (is_of_other id) (map hold_of ps) ≡ map hold_of (without id ps)
+held_left id [] = refl
+held_left id (p ∷ ps) =
+    ap (λ b. cond (not b) (hold_of p ∷ filter (is_of_other id) (map hold_of ps)) (filter (is_of_other id) (map hold_of ps))) (same_back p.id id)
+    ∙ go (has_id id p) (held_left id ps) where
+      go : (b : Bool) → filter (is_of_other id) (map hold_of ps) ≡ map hold_of (without id ps)
+          → cond (not b) (hold_of p ∷ filter (is_of_other id) (map hold_of ps)) (filter (is_of_other id) (map hold_of ps)) ≡ map hold_of (cond (not b) (p ∷ without id ps) (without id ps))
+      go true e = e
+      go false e = ap (λ hs. hold_of p ∷ hs) e
+
 -- the attempt has ended: its proposal and its latches are gone
 pub stands_drop : (f : Attempts) (ls : List Hold) (ps : List Proposal) (id : CmdId) (a : Attempt) → Stands f ls ps → (IsPending a.stage → ⊥)
     → Stands (with_attempt f id a) (filter (is_of_other id) ls) (without id ps)
 stands_drop f ls ps id a s ended = record {
   holds = all_dropped f id a ps s.holds;
+  distinct = distinct_left id ps s.distinct;
+  held = ap (filter (is_of_other id)) s.held ∙ held_left id ps;
   listed = at_attempt (λ q x. IsPending x.stage → IsListed q (without id ps)) f id a (λ h. absurd (ended h)) (λ q ne h. known_without q id ps ne ∙ s.listed q h);
   latched = at_attempt (λ q x. IsPending x.stage → IsHeld q (spans_of x.body.request) (filter (is_of_other id) ls)) f id a
       (λ h. absurd (ended h)) (λ q ne h. held_freed id q (spans_of (f q).body.request) ls ne (s.latched q h));
 }
 
--- a change keeps ids
-module _ (g : Proposal → Proposal) (same : (p : Proposal) → (g p).id ≡ p.id) where
+-- a change keeps ids and requests
+module _ (g : Proposal → Proposal) (same : (p : Proposal) → (g p).id ≡ p.id) (asks : (p : Proposal) → (g p).request ≡ p.request) where
+  id_turned : (b : Bool) (p : Proposal) → (cond b (g p) p).id ≡ p.id
+  id_turned true p = same p
+  id_turned false p = refl
+
+  none_turned : (id other : CmdId) (ps : List Proposal) → HasNone other ps → HasNone other (with_changed id g ps)
+  none_turned id other [] h = tt
+  none_turned id other (p ∷ ps) h = ((λ e. h.0 (e ∙ id_turned (has_id id p) p)), none_turned id other ps h.1)
+
+  distinct_turned : (id : CmdId) (ps : List Proposal) → AreDistinct ps → AreDistinct (with_changed id g ps)
+  distinct_turned id [] h = tt
+  distinct_turned id (p ∷ ps) h = (subst (λ z. HasNone z (with_changed id g ps)) (sym (id_turned (has_id id p) p)) (none_turned id p.id ps h.0), distinct_turned id ps h.1)
+
+  hold_turned : (b : Bool) (p : Proposal) → hold_of p ≡ hold_of (cond b (g p) p)
+  hold_turned true p = λ i. record { id = sym (same p) i; spans = spans_of (sym (asks p) i) }
+  hold_turned false p = refl
+
+  held_turned : (id : CmdId) (ps : List Proposal) → map hold_of ps ≡ map hold_of (with_changed id g ps)
+  held_turned id [] = refl
+  held_turned id (p ∷ ps) = ap (λ h. h ∷ map hold_of ps) (hold_turned (has_id id p) p) ∙ ap (λ hs. hold_of (cond (has_id id p) (g p) p) ∷ hs) (held_turned id ps)
+
   some_turned : (q id : CmdId) (p : Proposal) (b : Bool) (r s : Option Proposal) → is_some r ≡ is_some s
       → is_some (cond (has_id q (cond b (g p) p)) (Some (cond b (g p) p)) r) ≡ is_some (cond (has_id q p) (Some p) s)
   some_turned q id p false r s h = either (has_id q p) where
@@ -152,6 +220,8 @@ module _ (g : Proposal → Proposal) (same : (p : Proposal) → (g p).id ≡ p.i
         → Stands (with_attempt f id a) ls (with_changed id g ps)
     stands_turn ls ps s pending body = record {
       holds = all_turned ps s.holds;
+      distinct = distinct_turned id ps s.distinct;
+      held = s.held ∙ held_turned id ps;
       listed = at_attempt (λ q x. IsPending x.stage → IsListed q (with_changed id g ps)) f id a
           (λ h. known_turned id id ps ∙ s.listed id pending) (λ q ne h. known_turned q id ps ∙ s.listed q h);
       latched = at_attempt (λ q x. IsPending x.stage → IsHeld q (spans_of x.body.request) ls) f id a
@@ -184,11 +254,26 @@ known_last (x ∷ ps) p = go (known_last ps p) (has_id p.id x) where
   go ih true = refl
   go ih false = ih
 
+none_added : (other : CmdId) (ps : List Proposal) (p : Proposal) → (other ≡ p.id → ⊥) → HasNone other ps → HasNone other (ps ++ p ∷ [])
+none_added other [] p n h = (n, tt)
+none_added other (x ∷ ps) p n h = (h.0, none_added other ps p n h.1)
+
+distinct_added : (f : Attempts) (ps : List Proposal) (p : Proposal) → (IsPending (f p.id).stage → ⊥) → AllHold f ps → AreDistinct ps → AreDistinct (ps ++ p ∷ [])
+distinct_added f [] p new k h = (tt, tt)
+distinct_added f (x ∷ ps) p new k h =
+    (none_added x.id ps p (λ e. new (subst (λ z. IsPending (f z).stage) e (held_pending x (f x.id) k.0))) h.0, distinct_added f ps p new k.1 h.1)
+
+held_added : (ps : List Proposal) (p : Proposal) → map hold_of ps ++ hold_of p ∷ [] ≡ map hold_of (ps ++ p ∷ [])
+held_added [] p = refl
+held_added (x ∷ ps) p = ap (λ hs. hold_of x ∷ hs) (held_added ps p)
+
 -- a new attempt is pending and holds its latches
 pub stands_add : (f : Attempts) (ls : List Hold) (ps : List Proposal) (p : Proposal) (a : Attempt) → Stands f ls ps → (IsPending (f p.id).stage → ⊥) → Holds p a
     → Stands (with_attempt f p.id a) (ls ++ record { id = p.id; spans = spans_of p.request } ∷ []) (ps ++ p ∷ [])
 stands_add f ls ps p a s new k = record {
   holds = all_added f p a ps new k s.holds;
+  distinct = distinct_added f ps p new s.holds s.distinct;
+  held = ap (λ hs. hs ++ hold_of p ∷ []) s.held ∙ held_added ps p;
   listed = at_attempt (λ q x. IsPending x.stage → IsListed q (ps ++ p ∷ [])) f p.id a (λ h. known_last ps p) (λ q ne h. known_before q ps p (s.listed q h));
   latched = at_attempt (λ q x. IsPending x.stage → IsHeld q (spans_of x.body.request) (ls ++ hold ∷ [])) f p.id a
       (λ h. subst (λ r. IsHeld p.id (spans_of r) (ls ++ hold ∷ [])) k.made.request (held_last hold ls)) (λ q ne h. held_before q (spans_of (f q).body.request) ls (hold ∷ []) (s.latched q h));

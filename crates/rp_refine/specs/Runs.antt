@@ -9,7 +9,6 @@ use Rattle.rp_request.specs.declared.commands.Payload.{Payload}
 use Rattle.rp_request.specs.declared.outcomes.Outcome.{Outcome}
 use Rattle.rp_request.specs.declared.outcomes.Outcome.TheVariants.{Success, Refused, Ambiguous, Pending}
 use Rattle.rp_request.specs.declared.requests.Request.{Request}
-use Rattle.rp_codec.specs.Fits.{FitsPayload}
 use Rattle.rp_flush.specs.Assigns.{assigned_of}
 use Rattle.rp_flush.specs.declared.assigns.Assigned.{Assigned}
 use Rattle.rp_pending.specs.Refreshes.{waiting_of}
@@ -19,7 +18,8 @@ use Rattle.rp_replica.specs.declared.events.EventAnswer.TheVariants as answers
 use Rattle.rp_replica.specs.declared.events.ReplicaEvent.{ReplicaEvent}
 use Rattle.rp_replica.specs.declared.events.ReplicaEvent.TheVariants.{Admit, Collect, Flush, Apply, Peek}
 use Rattle.rp_replica.specs.Replicas.{Replica, Done, started}
-use Rattle.rp_replica.specs.Flushes.{payloads_of}
+use Rattle.rp_replica.specs.Applications.{payload_of}
+use Rattle.rp_replica.specs.Flushes.{entry_of, payloads_of}
 use Rattle.rp_replica.specs.Events.{event}
 use Rattle.rp_rangesafe.specs.Attempts.{same_id}
 use Rattle.rp_rangesafe.specs.Ranges.{first_applied, previous}
@@ -93,9 +93,13 @@ pub record MayAsk (x : Run) (id : CmdId) (request : Request) : Type 0 where
 abbrev pub assigning : Replica → Assigned
 assigning r = assigned_of r.inbox (waiting_of r.pending) r.applied.state.lease.seq (max r.assigned r.applied.state.lai)
 
--- the payloads that a flush writes hold numbers of their widths, as the types of the code say
+-- a payload is read back from its entry: its numbers have their widths, as the types of the code say
+abbrev pub IsReadBack : Payload → Type 0
+IsReadBack p = payload_of (Some (entry_of p)) ≡ Some p
+
+-- each payload that a flush writes is
 abbrev pub MayWrite : Replica → Type 0
-MayWrite r = AllByRecursion FitsPayload (payloads_of r.pending (assigning r))
+MayWrite r = AllByRecursion IsReadBack (payloads_of r.pending (assigning r))
 
 -- which events are lawful
 abbrev pub LawfulEvent : Run → ReplicaEvent → List Item → Type 0
