@@ -165,7 +165,7 @@ tells_applied r f outcome owner (payloads.Write c) t =
     command (recorded r (payloads.Write c)) f outcome owner (record { stands = t.stands; agrees = t.agrees }) c (command_verdict r.applied.state c) r.applied.state.lease (is_own_command r c) refl
 
 -- the entry behind those applied
-entry_behind : (log : LogState) (i : ℕ) → log.base ≡ 0 → entry_at log (i + 1) ≡ slice_get log.entries i
+pub entry_behind : (log : LogState) (i : ℕ) → log.base ≡ 0 → entry_at log (i + 1) ≡ slice_get log.entries i
 entry_behind log i e =
     ap (λ b. cond (nat_lt b (i + 1)) (slice_get log.entries (i + 1 - b - 1)) None) e
     ∙ ap (λ b. cond b (slice_get log.entries (i + 1 - 0 - 1)) None) test

@@ -6,3 +6,4 @@ pub mod Applying
 pub mod Settled
 pub mod Flushing
 pub mod Following
+pub mod Telling
