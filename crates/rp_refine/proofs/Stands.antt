@@ -2,7 +2,7 @@
 use Rattle.std.proofs.Common.{◌≡◌, ℕ, ◌==◌, ◌&&◌, eqb, Bool, true, false, cond, not, ◌⊎◌, inl, inr, List, [], ◌∷◌, ◌++◌, map, Option, None, Some, is_some, refl, sym, ap, subst, ◌∙◌, eqb-true, ⊎_elim}
 use Rattle.std.proofs.lemmas.Bool.{eqb-false, and_cases}
 use Rattle.std.specs.Prelude.{IsSome, Ok}
-use Rattle.std.specs.List.{AllByRecursion, filter, find}
+use Rattle.std.specs.List.{AllByRecursion, filter, find, IsDistinct}
 use Rattle.rp_base.specs.declared.ids.CmdId.{CmdId}
 use Rattle.rp_base.specs.declared.spans.Spans.{Spans}
 use Rattle.rp_request.specs.Covers.{spans_of, HasKeys}
@@ -15,6 +15,7 @@ use Rattle.rp_pending.specs.declared.proposals.Stage.TheVariants as stages
 use Rattle.rp_pending.specs.Proposals.{has_id, proposal_of, without, with_changed}
 use Rattle.rp_replica.proofs.Known.{one_id, known_without}
 use Rattle.rp_rangesafe.specs.Attempts.{Body, Stage, Waiting, Proposed, Attempt, Attempts, IsPending, staged, with_attempt}
+use Rattle.rp_refine.specs.Laws.{hold_of, HaveDistinctIds}
 use Rattle.rp_rangesafe.proofs.Tables.{at_attempt, at_same, at_other}
 
 -- a proposal as the machine has its stage
@@ -46,10 +47,6 @@ AllHold f ps = AllByRecursion (λ p. Holds p (f p.id)) ps
 
 abbrev pub IsListed : CmdId → List Proposal → Type 0
 IsListed id ps = IsSome (proposal_of id ps)
-
--- the latches of a proposal
-abbrev pub hold_of : Proposal → Hold
-hold_of p = record { id = p.id; spans = spans_of p.request }
 
 -- no proposal has the id, and no two have one
 abbrev pub HasNone : CmdId → List Proposal → Type 0
@@ -284,3 +281,15 @@ stands_add f ls ps p a s new k = record {
 -- no attempt changes
 pub stands_same : (f g : Attempts) (ls : List Hold) (ps : List Proposal) → ((q : CmdId) → f q ≡ g q) → Stands f ls ps → Stands g ls ps
 stands_same f g ls ps e s = subst (λ h. Stands h ls ps) (λ i q. e q i) s
+
+none_same : (id : CmdId) (ps : List Proposal) → HasNone id ps → AllByRecursion (λ y. same_id id y ≡ false) (map (λ p. p.id) ps)
+none_same id [] h = tt
+none_same id (p ∷ ps) h = (go (same_id id p.id) refl, none_same id ps h.1) where
+  go : (b : Bool) → same_id id p.id ≡ b → same_id id p.id ≡ false
+  go false e = e
+  go true e = absurd (h.0 (one_id id p.id e))
+
+pub have_distinct : (ps : List Proposal) → AreDistinct ps → HaveDistinctIds ps
+unfolding IsDistinct
+have_distinct [] h = tt
+have_distinct (p ∷ ps) h = (none_same p.id ps h.0, have_distinct ps h.1)

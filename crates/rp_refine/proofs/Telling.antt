@@ -54,8 +54,8 @@ use Rattle.rp_rangesafe.proofs.Rights.{begin_with}
 use Rattle.rp_rangesafe.proofs.Runs.{place_stays}
 use Rattle.rp_rangesafe.proofs.Whole.{owner_onto}
 use Rattle.rp_refine.specs.Runs.{Outcomes, Run, IsRefusal}
-use Rattle.rp_refine.specs.Laws.{IsReached, IsLater, payload, payloads, records, items, state_after, IsPlace, IsLawfulPlace, IsTheOnePlace, HasNever}
-use Rattle.rp_refine.proofs.Stands.{Stands, Holds, IsListed, AreDistinct, hold_of, found_holds, held_pending}
+use Rattle.rp_refine.specs.Laws.{IsReached, IsLater, payload, payloads, records, items, state_after, IsPlace, IsLawfulPlace, IsTheOnePlace, HasNever, hold_of, HaveDistinctIds}
+use Rattle.rp_refine.proofs.Stands.{found_holds, held_pending, have_distinct}
 use Rattle.rp_refine.proofs.Shadows as shadows
 use Rattle.rp_refine.proofs.Shadows.{Base, Agrees, Tells, Shadow, Follows, told_pending}
 use Rattle.rp_refine.proofs.Applying.{carried_at, entry_behind}
@@ -276,8 +276,8 @@ module _ (x : Run) (r : IsReached x) where
   pub latches_are_held : x.replica.latches ≡ map hold_of x.replica.pending
   latches_are_held = sh.shadow.shows.tells.stands.held
 
-  pub ids_are_distinct : AreDistinct x.replica.pending
-  ids_are_distinct = sh.shadow.shows.tells.stands.distinct
+  pub ids_are_distinct : HaveDistinctIds x.replica.pending
+  ids_are_distinct = have_distinct x.replica.pending sh.shadow.shows.tells.stands.distinct
 
   -- the next entry may be applied
   pub next_may_apply : MayApplyNext x.replica (entry_at x.replica.log (x.replica.applied.index + 1))

@@ -1,5 +1,6 @@
 -- What the laws say of a run of one replica.
-use Rattle.std.specs.Prelude.{◌≡◌, ℕ, ◌+◌, ◌<◌, ◌≤◌, List, length, filter_map, take, Option, Some}
+use Rattle.std.specs.Prelude.{◌≡◌, ℕ, ◌+◌, ◌<◌, ◌≤◌, List, length, filter_map, map, take, Option, Some}
+use Rattle.std.specs.List.{IsDistinct}
 use Rattle.rp_base.specs.declared.ids.CmdId.{CmdId}
 use Rattle.rp_request.specs.declared.commands.Command.{Command}
 use Rattle.rp_request.specs.declared.commands.Payload.{Payload}
@@ -11,6 +12,7 @@ use Rattle.rp_raftlog.specs.declared.entries.Entry.{Entry}
 use Rattle.rp_latch.specs.declared.holds.Hold.{Hold}
 use Rattle.rp_request.specs.Covers.{spans_of}
 use Rattle.rp_eval.specs.Evaluations.{Does}
+use Rattle.rp_flush.specs.Assigns.{same_id}
 use Rattle.rp_pending.specs.declared.proposals.Proposal.{Proposal}
 use Rattle.rp_apply.specs.Applied.{AppliedState}
 use Rattle.rp_replica.specs.Applications.{payload_of}
@@ -79,3 +81,11 @@ pub record IsTheOnePlace (log : List Payload) (id : CmdId) (reply : Reply) : Typ
 -- the attempt has no place, whatever comes
 abbrev pub HasNever : Run → CmdId → Type 0
 HasNever x id = (later : Run) (k : ℕ) (c : Command) → IsLater x later → IsPlace (payloads later) id k c → ⊥
+
+-- the latches of a proposal
+abbrev pub hold_of : Proposal → Hold
+hold_of p = record { id = p.id; spans = spans_of p.request }
+
+-- no two proposals have one id
+abbrev pub HaveDistinctIds : List Proposal → Type 0
+HaveDistinctIds ps = IsDistinct same_id (map (λ p. p.id) ps)
