@@ -66,13 +66,13 @@ apart_back p r h key t = go (p key) refl where
   go true e = let no = h key e in absurd cc
 
 -- what the guards let through
-record Passed (r : Replica) (request : Request) (e : Evaluated) : Type 0 where
-  holder : r.applied.state.lease.holder ≡ r.node
-  bounded : in_bounds r.applied.state.desc request ≡ true
-  granted : answer r.latches (spans_of request) ≡ Ok tt
-  evaluation : evaluated r.applied.state.table r.applied.state.desc request ≡ Ok e
+pub record Passed (r : Replica) (request : Request) (e : Evaluated) : Type 0 where
+  pub holder : r.applied.state.lease.holder ≡ r.node
+  pub bounded : in_bounds r.applied.state.desc request ≡ true
+  pub granted : answer r.latches (spans_of request) ≡ Ok tt
+  pub evaluation : evaluated r.applied.state.table r.applied.state.desc request ≡ Ok e
 
-passed : (r : Replica) (request : Request) (e : Evaluated) → guarded r request ≡ Ok e → Passed r request e
+pub passed : (r : Replica) (request : Request) (e : Evaluated) → guarded r request ≡ Ok e → Passed r request e
 passed r request e h = go (r.applied.state.lease.holder == r.node) refl (in_bounds r.applied.state.desc request) refl (answer r.latches (spans_of request)) refl h where
   go : (t : Bool) → (r.applied.state.lease.holder == r.node) ≡ t → (b : Bool) → in_bounds r.applied.state.desc request ≡ b
       → (l : Result (Unit {0}) Held) → answer r.latches (spans_of request) ≡ l

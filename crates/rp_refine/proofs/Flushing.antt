@@ -23,6 +23,7 @@ use Rattle.rp_apply.specs.History.{History}
 use Rattle.rp_replica.proofs.Known.{one_id}
 use Rattle.rp_replica.specs.declared.events.ReplicaEvent.TheVariants as events
 use Rattle.rp_replica.specs.Replicas.{Replica}
+use Rattle.rp_replica.specs.Applications.{payload_of}
 use Rattle.rp_replica.specs.Flushes.{command_of, write_of, payloads_of, entry_of, freed_all, without_all, proposed_all, refused_with, flushed}
 use Rattle.rp_rangesafe.specs.Attempts.{Body, Stage, Waiting, Proposed, Refused, Attempt, Attempts, IsPending, IsOf, staged, handed_out, with_attempt}
 use Rattle.rp_rangesafe.specs.World.{World, here, Event, Refuse, Commit, Lawful, AllLawful, happens, run}
@@ -31,11 +32,19 @@ use Rattle.rp_rangesafe.specs.Places.{IsLater}
 use Rattle.rp_rangesafe.specs.Ranges.{Owner, Ranges, first_applied}
 use Rattle.rp_rangesafe.proofs.Tables.{at_attempt, at_same, at_other, id_cases}
 use Rattle.rp_rangesafe.proofs.Runs.{later_state}
-use Rattle.rp_refine.specs.Runs.{Outcomes, Run, with_outcome, with_ended, assigning, IsReadBack, MayWrite, left_by}
+use Rattle.rp_refine.specs.Runs.{Outcomes, Run, with_outcome, with_ended, assigning, left_by}
 use Rattle.rp_refine.proofs.Stands.{IsMade, Holds, AllHold, Stands, apart, stands_drop, stands_turn}
 use Rattle.rp_refine.proofs.Ghosts.{ArePlain, IsPlain}
 use Rattle.rp_refine.proofs.Shadows.{Carries, Base, Agrees, Tells, Shows, Shadow, Follows, Turns, follows, agrees_told, agrees_staged, told_pending}
 use Rattle.rp_refine.proofs.Settled.{Distinct, all_weaker, numbers_ids, numbers_positive, all_wait, all_distinct}
+
+-- a payload is read back from its entry
+abbrev pub IsReadBack : Payload → Type 0
+IsReadBack p = payload_of (Some (entry_of p)) ≡ Some p
+
+-- each payload that a flush writes is
+abbrev pub MayWrite : Replica → Type 0
+MayWrite r = AllByRecursion IsReadBack (payloads_of r.pending (assigning r))
 
 -- events that admit nothing lead to a range of which this holds
 record Went (h : World) (Q : World → Type 0) : Type 0 where

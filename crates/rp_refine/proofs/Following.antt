@@ -11,6 +11,7 @@ use Rattle.rp_refine.proofs.Ghosts.{reached_first, are_later_itself, are_later_f
 use Rattle.rp_refine.proofs.Shadows.{Shadow, Follows}
 use Rattle.rp_refine.proofs.Admitting.{admit_follows}
 use Rattle.rp_refine.proofs.Applying.{apply_follows}
+use Rattle.rp_refine.proofs.Fitted.{Fitted, fitted_begun, fitted_event, fitted_all, fit_writes}
 use Rattle.rp_refine.proofs.Flushing.{flush_follows}
 
 -- at first
@@ -39,28 +40,28 @@ shadow_begun = record {
 }
 
 -- one event
-follows_event : (w : Ranges) (x : Run) → Shadow w x → (e : ReplicaEvent) (ticks round : ℕ) (taken : List Item) → LawfulEvent x e taken
+follows_event : (w : Ranges) (x : Run) → Shadow w x → Fitted x.replica → (e : ReplicaEvent) (ticks round : ℕ) (taken : List Item) → LawfulEvent x e taken
     → Follows w (left_by x.outcome e (event x.replica e ticks round taken))
-follows_event w x s (Admit id request) ticks round taken l = admit_follows w x s id request l
-follows_event w x s Collect ticks round taken l = record {
+follows_event w x s fit (Admit id request) ticks round taken l = admit_follows w x s id request l
+follows_event w x s fit Collect ticks round taken l = record {
   to = w;
   later = are_later_itself w;
   shadow = record { opened = s.opened; made_here = s.made_here; shows = record { base = s.shows.base; tells = s.shows.tells } };
 }
-follows_event w x s Flush ticks round taken l = flush_follows w x s ticks round l
-follows_event w x s Apply ticks round taken l = apply_follows w x s
-follows_event w x s (Peek key) ticks round taken l = record {
+follows_event w x s fit Flush ticks round taken l = flush_follows w x s ticks round (fit_writes x.replica fit l)
+follows_event w x s fit Apply ticks round taken l = apply_follows w x s
+follows_event w x s fit (Peek key) ticks round taken l = record {
   to = w;
   later = are_later_itself w;
   shadow = record { opened = s.opened; made_here = s.made_here; shows = record { base = s.shows.base; tells = s.shows.tells } };
 }
 
 -- events one after the other
-pub follows_all : (w : Ranges) (x : Run) → Shadow w x → (is : List Input) → AllLawful x is → Follows w (play x is)
-follows_all w x s [] l = record { to = w; later = are_later_itself w; shadow = s }
-follows_all w x s (i ∷ is) l =
-    let f = follows_event w x s i.event i.ticks i.round i.taken l.0 in
-    let g = follows_all f.to (next x i) f.shadow is l.1 in
+pub follows_all : (w : Ranges) (x : Run) → Shadow w x → Fitted x.replica → (is : List Input) → AllLawful x is → Follows w (play x is)
+follows_all w x s fit [] l = record { to = w; later = are_later_itself w; shadow = s }
+follows_all w x s fit (i ∷ is) l =
+    let f = follows_event w x s fit i.event i.ticks i.round i.taken l.0 in
+    let g = follows_all f.to (next x i) f.shadow (fitted_event x fit i.event i.ticks i.round i.taken l.0) is l.1 in
     record { to = g.to; later = are_later_further w f.to g.to f.later g.later; shadow = g.shadow }
 
 -- the ranges that show a run
@@ -68,15 +69,17 @@ pub record Shown (x : Run) : Type 0 where
   pub ranges : Ranges
   pub reached : AreReached ranges
   pub shadow : Shadow ranges x
+  pub fitted : Fitted x.replica
 
 pub shown_reached : (x : Run) → IsReached x → Shown x
 shown_reached x r =
-    let f = follows_all at_first begun shadow_begun r.inputs r.lawful in
+    let f = follows_all at_first begun shadow_begun fitted_begun r.inputs r.lawful in
     record {
       ranges = f.to;
       reached = are_reached_later at_first f.to reached_first f.later;
       shadow = subst (Shadow f.to) r.reached f.shadow;
+      fitted = subst (λ (y : Run). Fitted y.replica) r.reached (fitted_all begun fitted_begun r.inputs r.lawful);
     }
 
-pub shown_later : (w : Ranges) (x later : Run) → Shadow w x → IsLater x later → Follows w later
-shown_later w x later s l = subst (Follows w) l.reached (follows_all w x s l.inputs l.lawful)
+pub shown_later : (w : Ranges) (x later : Run) → Shadow w x → Fitted x.replica → IsLater x later → Follows w later
+shown_later w x later s fit l = subst (Follows w) l.reached (follows_all w x s fit l.inputs l.lawful)

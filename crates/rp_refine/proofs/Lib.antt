@@ -5,5 +5,7 @@ pub mod Admitting
 pub mod Applying
 pub mod Settled
 pub mod Flushing
+pub mod Fitting
+pub mod Fitted
 pub mod Following
 pub mod Telling

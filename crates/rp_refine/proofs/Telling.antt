@@ -213,7 +213,7 @@ module _ (x : Run) (r : IsReached x) where
 
   pub refused_has_never : (id : CmdId) → IsRefusal (x.outcome id) → HasNever x id
   refused_has_never id refused later k c l p =
-      let f = shown_later sh.ranges x later sh.shadow l in
+      let f = shown_later sh.ranges x later sh.shadow sh.fitted l in
       refused_nowhere sh.ranges sh.reached id (refused_machine id refused) f.to 0 k c f.later (shown_place later f.to f.shadow id k c p)
 
   -- an attempt with an applied place was told so
@@ -334,7 +334,7 @@ module _ (x later : Run) (r : IsReached x) (l : IsLater x later) where
   now = shown_reached x r
 
   abbrev then : Follows now.ranges later
-  then = shown_later now.ranges x later now.shadow l
+  then = shown_later now.ranges x later now.shadow now.fitted l
 
   ranges_go_on : machine.IsLater (now.ranges.range 0) (then.to.range 0)
   ranges_go_on = (range_goes_on now.ranges now.reached then.to then.later 0 now.shadow.opened).1

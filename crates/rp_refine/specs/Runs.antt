@@ -1,14 +1,15 @@
 -- A run of one replica whose whole log is committed: events one after the other, and what each attempt was told
 -- (this project).
-use Rattle.std.specs.Prelude.{◌≡◌, ℕ, ◌≤◌, ◌<◌, max, if◌then◌else◌, ◌⊎◌, List, [], ◌∷◌, length, Option, None, Some}
+use Rattle.std.specs.Prelude.{◌≡◌, ℕ, ◌≤◌, ◌<◌, ◌-◌, ◌^◌, max, if◌then◌else◌, ◌⊎◌, List, [], ◌∷◌, length, Option, None, Some}
 use Rattle.std.specs.List.{AllByRecursion}
 use Rattle.rp_base.specs.declared.ids.CmdId.{CmdId}
 use Rattle.rp_base.specs.declared.items.Item.{Item}
+use Rattle.rp_base.specs.declared.items.Item.TheVariants.{Write, Lease}
 use Rattle.rp_request.specs.Covers.{HasKeys}
-use Rattle.rp_request.specs.declared.commands.Payload.{Payload}
 use Rattle.rp_request.specs.declared.outcomes.Outcome.{Outcome}
 use Rattle.rp_request.specs.declared.outcomes.Outcome.TheVariants.{Success, Refused, Ambiguous, Pending}
 use Rattle.rp_request.specs.declared.requests.Request.{Request}
+use Rattle.rp_codec.specs.Fits.{FitsId, FitsRequest, FitsAsk}
 use Rattle.rp_flush.specs.Assigns.{assigned_of}
 use Rattle.rp_flush.specs.declared.assigns.Assigned.{Assigned}
 use Rattle.rp_pending.specs.Refreshes.{waiting_of}
@@ -18,8 +19,7 @@ use Rattle.rp_replica.specs.declared.events.EventAnswer.TheVariants as answers
 use Rattle.rp_replica.specs.declared.events.ReplicaEvent.{ReplicaEvent}
 use Rattle.rp_replica.specs.declared.events.ReplicaEvent.TheVariants.{Admit, Collect, Flush, Apply, Peek}
 use Rattle.rp_replica.specs.Replicas.{Replica, Done, started}
-use Rattle.rp_replica.specs.Applications.{payload_of}
-use Rattle.rp_replica.specs.Flushes.{entry_of, payloads_of}
+use Rattle.rp_replica.specs.Allows.{MayFlush}
 use Rattle.rp_replica.specs.Events.{event}
 use Rattle.rp_rangesafe.specs.Attempts.{same_id}
 use Rattle.rp_rangesafe.specs.Ranges.{first_applied, previous}
@@ -88,25 +88,25 @@ pub record MayAsk (x : Run) (id : CmdId) (request : Request) : Type 0 where
   pub new : x.outcome id ≡ None
   pub turn : (id.attempt ≡ 1) ⊎ ((1 < id.attempt) × IsRefusal (x.outcome (previous id)))
   pub keys : HasKeys request
+  pub fits_id : FitsId id
+  pub fits : FitsRequest request
 
 -- what a flush assigns here
 abbrev pub assigning : Replica → Assigned
 assigning r = assigned_of r.inbox (waiting_of r.pending) r.applied.state.lease.seq (max r.assigned r.applied.state.lai)
 
--- a payload is read back from its entry: its numbers have their widths, as the types of the code say
-abbrev pub IsReadBack : Payload → Type 0
-IsReadBack p = payload_of (Some (entry_of p)) ≡ Some p
+-- the numbers of an item have their widths
+abbrev pub FitsItem : Item → Type 0
+FitsItem (Write id) = Unit {0}
+FitsItem (Lease ask) = FitsAsk ask
 
--- each payload that a flush writes is
-abbrev pub MayWrite : Replica → Type 0
-MayWrite r = AllByRecursion IsReadBack (payloads_of r.pending (assigning r))
-
--- which events are lawful
+-- which events are lawful: what is handed in has numbers of their widths, as the types of the code say, and the numbers of a
+-- flush and the lease sequence stay below their ends
 abbrev pub LawfulEvent : Run → ReplicaEvent → List Item → Type 0
 LawfulEvent x (Admit id request) taken = MayAsk x id request
-LawfulEvent x Collect taken = length taken ≤ 16
-LawfulEvent x Flush taken = MayWrite x.replica
-LawfulEvent x Apply taken = Unit {0}
+LawfulEvent x Collect taken = (length taken ≤ 16) × AllByRecursion FitsItem taken
+LawfulEvent x Flush taken = MayFlush x.replica
+LawfulEvent x Apply taken = x.replica.applied.state.lease.seq < 2 ^ 64 - 1
 LawfulEvent x (Peek key) taken = Unit {0}
 
 abbrev pub Lawful : Run → Input → Type 0
