@@ -1,11 +1,11 @@
 -- Each run of one replica is shown by ranges that are reached.
-use Rattle.std.proofs.Common.{◌≡◌, ℕ, List, [], ◌∷◌, None, refl, sym, ap, subst, ◌∙◌, arith}
+use Rattle.std.proofs.Common.{◌≡◌, ℕ, List, [], ◌∷◌, ◌++◌, None, refl, sym, ap, subst, ◌∙◌, arith}
 use Rattle.rp_base.specs.declared.items.Item.{Item}
 use Rattle.rp_replica.specs.declared.events.ReplicaEvent.{ReplicaEvent}
 use Rattle.rp_replica.specs.declared.events.ReplicaEvent.TheVariants.{Admit, Collect, Flush, Apply, Peek}
 use Rattle.rp_replica.specs.Events.{event}
 use Rattle.rp_rangesafe.specs.Ranges.{Ranges, at_first, AreReached, AreLater}
-use Rattle.rp_refine.specs.Runs.{Input, Run, begun, left_by, next, LawfulEvent, AllLawful, play}
+use Rattle.rp_refine.specs.Runs.{Input, Run, begun, left_by, next, LawfulEvent, Lawful, AllLawful, play}
 use Rattle.rp_refine.specs.Laws.{IsReached, IsLater}
 use Rattle.rp_refine.proofs.Ghosts.{reached_first, are_later_itself, are_later_further, are_reached_later}
 use Rattle.rp_refine.proofs.Shadows.{Shadow, Follows}
@@ -83,3 +83,32 @@ shown_reached x r =
 
 pub shown_later : (w : Ranges) (x later : Run) → Shadow w x → Fitted x.replica → IsLater x later → Follows w later
 shown_later w x later s fit l = subst (Follows w) l.reached (follows_all w x s fit l.inputs l.lawful)
+
+-- lawful events lead on
+play_further : (x : Run) (is : List Input) (i : Input) → play x (is ++ i ∷ []) ≡ next (play x is) i
+play_further x [] i = refl
+play_further x (j ∷ is) i = play_further (next x j) is i
+
+lawful_further : (x : Run) (is : List Input) (i : Input) → AllLawful x is → Lawful (play x is) i → AllLawful x (is ++ i ∷ [])
+lawful_further x [] i h l = (l, tt)
+lawful_further x (j ∷ is) i h l = (h.0, lawful_further (next x j) is i h.1 l)
+
+pub reached_begun : IsReached begun
+reached_begun = record { inputs = []; lawful = tt; reached = refl }
+
+pub reached_next : (x : Run) (i : Input) → IsReached x → Lawful x i → IsReached (next x i)
+reached_next x i r l = record {
+  inputs = r.inputs ++ i ∷ [];
+  lawful = lawful_further begun r.inputs i r.lawful (subst (λ y. Lawful y i) (sym r.reached) l);
+  reached = play_further begun r.inputs i ∙ ap (λ y. next y i) r.reached;
+}
+
+pub later_itself : (x : Run) → IsLater x x
+later_itself x = record { inputs = []; lawful = tt; reached = refl }
+
+pub later_next : (x y : Run) (i : Input) → IsLater x y → Lawful y i → IsLater x (next y i)
+later_next x y i k l = record {
+  inputs = k.inputs ++ i ∷ [];
+  lawful = lawful_further x k.inputs i k.lawful (subst (λ z. Lawful z i) (sym k.reached) l);
+  reached = play_further x k.inputs i ∙ ap (λ z. next z i) k.reached;
+}

@@ -18,7 +18,7 @@ ghost use Rattle.rp_replica.specs.Carried.{AllCarry};
 ghost use Rattle.rp_replica.specs.Allows.{MayApplyNext};
 ghost use Rattle.rp_rangesafe.specs.Places.{shown};
 ghost use Rattle.rp_rangesafe.specs.Ranges.{first_applied};
-ghost use Rattle.rp_refine.specs.Runs.{Run, IsRefusal};
+ghost use Rattle.rp_refine.specs.Runs.{Input, Run, begun, next, Lawful, IsRefusal};
 ghost use Rattle.rp_refine.specs.Laws.{IsReached, IsLater, payloads, records, items, state_after, IsPlace, IsLawfulPlace, IsTheOnePlace, HasNever, HaveDistinctIds, hold_of};
 
 /// Each entry of the log carries a payload, so that it is decoded and none is left out.
@@ -92,4 +92,12 @@ pub fn pending_attempts_are_listed_once()
     ensures listed { (x : Run) → IsReached x → (id : CmdId) → (x.outcome id ≡ Some outcomes.Pending) ↔ IsSome (proposal_of id x.replica.pending) }
     ensures once { (x : Run) → IsReached x → HaveDistinctIds x.replica.pending }
     ensures latches { (x : Run) → IsReached x → x.replica.latches ≡ map hold_of x.replica.pending }
+{}
+
+/// The start is a run as it can be, and a lawful event leads from each such run to another, which is later.
+pub fn lawful_events_lead_on()
+    ensures begun { IsReached begun }
+    ensures next { (x : Run) (i : Input) → IsReached x → Lawful x i → IsReached (next x i) }
+    ensures itself { (x : Run) → IsLater x x }
+    ensures later { (x : Run) (y : Run) (i : Input) → IsLater x y → Lawful y i → IsLater x (next y i) }
 {}
