@@ -9,3 +9,4 @@ pub mod Fitting
 pub mod Fitted
 pub mod Following
 pub mod Telling
+pub mod Worked
