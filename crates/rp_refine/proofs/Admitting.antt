@@ -1,6 +1,5 @@
 -- An admission, as the range machine has it.
-use Rattle.std.proofs.Common.{◌≡◌, ℕ, ◌<◌, ◌≤◌, ◌==◌, ◌||◌, Bool, true, false, cond, ◌⊎◌, inl, inr, List, [], ◌∷◌, Option, None, Some, Result, Ok, Err, is_some, IsTrue, IsFalse, refl, sym, ap, subst, ◌∙◌, arith, eqb-true}
-use Rattle.std.specs.Prelude.{IsSome}
+use Rattle.std.proofs.Common.{◌≡◌, ℕ, ◌<◌, ◌==◌, ◌||◌, Bool, true, false, cond, ◌⊎◌, inl, inr, List, [], ◌∷◌, Option, None, Some, Result, Ok, Err, is_some, IsFalse, refl, sym, ap, subst, ◌∙◌, arith, eqb-true}
 use Rattle.std.specs.List.{find, list_any}
 use Rattle.rp_base.specs.Spans.{span_list}
 use Rattle.rp_base.specs.declared.ids.CmdId.{CmdId}
@@ -22,17 +21,17 @@ use Rattle.rp_pending.specs.declared.proposals.Proposal.{Proposal}
 use Rattle.rp_pending.specs.Proposals.{proposal_of}
 use Rattle.rp_apply.specs.Applied.{AppliedState}
 use Rattle.rp_replica.specs.declared.events.ReplicaEvent.TheVariants.{Admit}
-use Rattle.rp_replica.specs.Replicas.{Replica, Done}
+use Rattle.rp_replica.specs.Replicas.{Replica}
 use Rattle.rp_replica.specs.Admissions.{unlatched, guarded, proposal, admitted_by, admitted}
-use Rattle.rp_rangesafe.specs.Attempts.{Body, Stage, Refused, Attempt, Attempts, IsBorn, IsPending, with_attempt}
+use Rattle.rp_rangesafe.specs.Attempts.{Body, Attempt, IsBorn, IsPending, with_attempt}
 use Rattle.rp_rangesafe.specs.Along.{entry}
 use Rattle.rp_rangesafe.specs.World.{World, here, IsEvaluated, MayAdmit, happens}
 use Rattle.rp_rangesafe.specs.World as machine
-use Rattle.rp_rangesafe.specs.Ranges.{Owner, Turned, At, Ranges, first_applied, Turn_away, IsRefused, IsRefusedAt, previous, MayBegin, with_owner, after_step}
+use Rattle.rp_rangesafe.specs.Ranges.{Owner, Turned, At, Ranges, Turn_away, IsRefused, IsRefusedAt, previous, MayBegin, with_owner, after_step}
 use Rattle.rp_rangesafe.proofs.Numbers.{onward}
 use Rattle.rp_rangesafe.proofs.Tables.{at_attempt}
-use Rattle.rp_refine.specs.Runs.{Outcomes, Run, IsRefusal, MayAsk, left_by}
-use Rattle.rp_refine.proofs.Stands.{Stands, Holds, IsHeld, IsListed, found_holds, stands_add}
+use Rattle.rp_refine.specs.Runs.{Run, IsRefusal, MayAsk, left_by}
+use Rattle.rp_refine.proofs.Stands.{Holds, IsHeld, found_holds, stands_add}
 use Rattle.rp_refine.proofs.Ghosts.{one_step, goes_admit}
 use Rattle.rp_refine.proofs.Shadows.{Base, Agrees, Tells, Shows, Shadow, Follows, agrees_made, agrees_new}
 

@@ -1,27 +1,24 @@
 -- The application of the next entry, as the range machine has it.
-use Rattle.std.proofs.Common.{◌≡◌, ℕ, zero, suc, ◌+◌, ◌-◌, ◌<◌, ◌≤◌, ◌==◌, nat_lt, Bool, true, false, cond, ◌⊎◌, inl, inr, List, [], ◌∷◌, ◌++◌, length, take, get_or, Option, None, Some, Result, Ok, Err, is_some, slice_get, refl, sym, ap, subst, ◌∙◌, arith, eqb-true}
+use Rattle.std.proofs.Common.{◌≡◌, ℕ, zero, suc, ◌+◌, ◌-◌, ◌<◌, ◌≤◌, ◌==◌, nat_lt, Bool, true, false, cond, ◌⊎◌, inl, inr, List, [], ◌∷◌, ◌++◌, length, take, Option, None, Some, slice_get, refl, sym, ap, subst, ◌∙◌, arith, eqb-true}
 use Rattle.std.proofs.Math.Seq.{take-suc}
 use Rattle.std.proofs.lemmas.Bool.Decides.{nat_tests}
 use Rattle.std.proofs.lemmas.Bool.{eqb-false}
 use Rattle.std.proofs.lemmas.Option.{slice_get_within, get_or_from_slice_get}
 use Rattle.rp_base.specs.declared.ids.CmdId.{CmdId}
-use Rattle.rp_base.specs.declared.items.Item.{Item}
 use Rattle.rp_base.specs.declared.leases.Lease as leases
 use Rattle.rp_request.specs.declared.commands.Command.{Command}
 use Rattle.rp_request.specs.declared.commands.Payload.{Payload}
 use Rattle.rp_request.specs.declared.commands.Payload.TheVariants as payloads
-use Rattle.rp_request.specs.declared.items.Record as kept
 use Rattle.rp_request.specs.declared.outcomes.Outcome.{Outcome}
 use Rattle.rp_request.specs.declared.outcomes.Outcome.TheVariants as outcomes
 use Rattle.rp_request.specs.declared.outcomes.Refusal.TheVariants.{NotLeaseHolder}
 use Rattle.rp_raftlog.specs.LogState.{LogState, entry_at}
 use Rattle.rp_raftlog.specs.declared.entries.Entry.{Entry}
-use Rattle.rp_latch.specs.declared.holds.Hold.{Hold}
 use Rattle.rp_pending.specs.declared.proposals.Proposal.{Proposal}
 use Rattle.rp_pending.specs.declared.proposals.Stage as places
 use Rattle.rp_pending.specs.declared.proposals.Stage.TheVariants as stages
 use Rattle.rp_pending.specs.Proposals.{proposal_of, waiting_again}
-use Rattle.rp_apply.specs.Applied.{AppliedState, command_verdict, verdict, after, after_all, record_of, records_of}
+use Rattle.rp_apply.specs.Applied.{command_verdict, after, after_all, record_of, records_of}
 use Rattle.rp_apply.specs.declared.verdicts.Verdict.{Verdict}
 use Rattle.rp_apply.specs.declared.verdicts.Verdict.TheVariants.{Took, OldLease, OldIndex, LeaseMoved}
 use Rattle.rp_apply.specs.declared.verdicts.Verdict.TheVariants as verdicts
@@ -31,19 +28,19 @@ use Rattle.rp_apply.proofs.Numbers.{records_further}
 use Rattle.rp_replica.specs.declared.events.ReplicaEvent.TheVariants.{Apply}
 use Rattle.rp_replica.specs.declared.plans.Turn.{Turn}
 use Rattle.rp_replica.specs.declared.plans.Turn.TheVariants as turns
-use Rattle.rp_replica.specs.Replicas.{Replica, Done}
+use Rattle.rp_replica.specs.Replicas.{Replica}
 use Rattle.rp_replica.specs.Applications.{is_proposed_under, is_own, is_own_command, turn, told, turned, turn_of, recorded, applied_one, payload_of, next_payload, applied_where, applied}
 use Rattle.rp_rangesafe.specs.Attempts.{Stage, Unborn, Waiting, Proposed, Success, Refused, Overtaken, Removed, Restarted, Attempt, Attempts, IsPending, staged, with_attempt, at_node}
 use Rattle.rp_rangesafe.specs.Along.{entry, state}
 use Rattle.rp_rangesafe.specs.World.{World, here, happens, by_verdict, after_entry, with_node}
 use Rattle.rp_rangesafe.specs.World as machine
 use Rattle.rp_rangesafe.specs.Ranges.{Owner, At, Ranges, first_applied}
-use Rattle.rp_rangesafe.proofs.Tables.{at_attempt, at_same, at_other, at_nodes, id_cases, node_same}
+use Rattle.rp_rangesafe.proofs.Tables.{at_same, at_other, at_nodes, id_cases, node_same}
 use Rattle.rp_rangesafe.proofs.Folds.{state_is}
 use Rattle.rp_refine.specs.Runs.{Outcomes, Run, with_ended, left_by}
-use Rattle.rp_refine.proofs.Stands.{HasStage, Stands, Holds, IsListed, found_holds, stands_drop, stands_turn, stands_same}
+use Rattle.rp_refine.proofs.Stands.{HasStage, found_holds, stands_drop, stands_turn}
 use Rattle.rp_refine.proofs.Ghosts.{are_later_itself}
-use Rattle.rp_refine.proofs.Shadows.{Carries, Base, Agrees, Tells, Shows, Shadow, Follows, Turns, follows, agrees_told, agrees_staged, told_pending}
+use Rattle.rp_refine.proofs.Shadows.{Carries, Base, Agrees, Tells, Shadow, Follows, Turns, follows, agrees_told, agrees_staged, told_pending}
 
 -- an attempt that is not pending stays
 ended_stays : (c : Command) (v : Verdict) (s : Stage) → (IsPending s → ⊥) → machine.told c v s ≡ s
@@ -114,7 +111,7 @@ module _ (r : Replica) (f : Attempts) (outcome : Outcomes) (owner : CmdId → Ow
   module _ (c : Command) (node : (f c.id).node ≡ 1) (stage : (f c.id).stage ≡ Proposed c.max) where
     ends : (g : Stage) (o : Outcome) → (IsPending g → ⊥) → Agrees (Some o) (owner c.id) g
         → Tells (with_attempt f c.id (staged (f c.id) g)) (with_ended outcome (record { id = c.id; outcome = o } ∷ [])) owner
-            (turned r (turns.Ends c.id)).latches (turned r (turns.Ends c.id)).pending
+        (turned r (turns.Ends c.id)).latches (turned r (turns.Ends c.id)).pending
     ends g o ne k = record {
       stands = stands_drop f r.latches r.pending c.id (staged (f c.id) g) t.stands ne;
       agrees = agrees_told outcome owner f c.id o (staged (f c.id) g) t.agrees k;
@@ -136,24 +133,24 @@ module _ (r : Replica) (f : Attempts) (outcome : Outcomes) (owner : CmdId → Ow
     by : (v : Verdict) (lease : leases.Lease) → Tells (with_attempt f c.id (attempt c v)) (with_ended outcome (told lease c v)) owner (turned r (turn c v)).latches (turned r (turn c v)).pending
     by v lease = subst (λ a. Tells (with_attempt f c.id a) (with_ended outcome (told lease c v)) owner (turned r (turn c v)).latches (turned r (turn c v)).pending)
         (sym (is_told c v node stage)) (go v) where
-      here : owner c.id ≡ At 0
-      here = made_here c v node stage
+          here : owner c.id ≡ At 0
+          here = made_here c v node stage
 
-      same : (v : Verdict) → by_verdict c v ≡ Proposed c.max → Tells (with_attempt f c.id (staged (f c.id) (by_verdict c v))) outcome owner r.latches r.pending
-      same v e = subst (λ g. Tells g outcome owner r.latches r.pending)
-          (λ i q. with_itself f c.id (staged (f c.id) (by_verdict c v)) (ap (staged (f c.id)) (e ∙ sym stage)) q i) t
+          same : (v : Verdict) → by_verdict c v ≡ Proposed c.max → Tells (with_attempt f c.id (staged (f c.id) (by_verdict c v))) outcome owner r.latches r.pending
+          same v e = subst (λ g. Tells g outcome owner r.latches r.pending)
+              (λ i q. with_itself f c.id (staged (f c.id) (by_verdict c v)) (ap (staged (f c.id)) (e ∙ sym stage)) q i) t
 
-      go : (v : Verdict) → Tells (with_attempt f c.id (staged (f c.id) (by_verdict c v))) (with_ended outcome (told lease c v)) owner (turned r (turn c v)).latches (turned r (turn c v)).pending
-      go Took = ends (Success c.reply) (outcomes.Success c.reply) (λ h. h) (here, refl)
-      go (OldLease now) = ends Refused (outcomes.Refused (NotLeaseHolder lease)) (λ h. h) (inr (here, refl))
-      go (OldIndex lai) = waits
-      go LeaseMoved = same LeaseMoved refl
-      go verdicts.Nothing = same verdicts.Nothing refl
+          go : (v : Verdict) → Tells (with_attempt f c.id (staged (f c.id) (by_verdict c v))) (with_ended outcome (told lease c v)) owner (turned r (turn c v)).latches (turned r (turn c v)).pending
+          go Took = ends (Success c.reply) (outcomes.Success c.reply) (λ h. h) (here, refl)
+          go (OldLease now) = ends Refused (outcomes.Refused (NotLeaseHolder lease)) (λ h. h) (inr (here, refl))
+          go (OldIndex lai) = waits
+          go LeaseMoved = same LeaseMoved refl
+          go verdicts.Nothing = same verdicts.Nothing refl
 
   -- an entry that is a command
   command : (c : Command) (v : Verdict) (lease : leases.Lease) (b : Bool) → is_own c.max (proposal_of c.id r.pending) ≡ b
       → Tells (with_attempt f c.id (attempt c v)) (with_ended outcome (cond b (told lease c v) [])) owner
-          (turned r (cond b (turn c v) turns.Stays)).latches (turned r (cond b (turn c v) turns.Stays)).pending
+      (turned r (cond b (turn c v) turns.Stays)).latches (turned r (cond b (turn c v) turns.Stays)).pending
   command c v lease true e = let k = own c v e in by c k.0 k.1 v lease
   command c v lease false e = tells_same c v (other c v e)
 
@@ -204,7 +201,7 @@ module _ (h : World) (node : ℕ) (log : LogState) (before : History) (b : Base 
   records_after : before.records.list ++ record_of before.state p ∷ [] ≡ records_of first_applied (take (with_node h.index 1 (suc (h.index 1)) 1) h.log)
   records_after =
       let so_far : after_all first_applied (take (h.index 1) h.log) ≡ before.state =
-          state_is first_applied h.log (h.index 1) (let l = within in omega arith) ∙ ap (λ s. state s (entry h.log) (h.index 1)) (sym b.start) ∙ b.state in
+      state_is first_applied h.log (h.index 1) (let l = within in omega arith) ∙ ap (λ s. state s (entry h.log) (h.index 1)) (sym b.start) ∙ b.state in
       ap (λ rs. rs ++ record_of before.state p ∷ []) b.records
       ∙ ap (λ s. records_of first_applied (take (h.index 1) h.log) ++ record_of s p ∷ []) (sym so_far)
       ∙ sym (records_further first_applied (take (h.index 1) h.log) (p ∷ []))
@@ -238,8 +235,8 @@ apply_follows w x s = go (next_payload x.replica) refl where
   one p e =
       let b = s.shows.base in
       let same : after_entry 1 (here (w.range 0) 1) (entry (w.range 0).log ((w.range 0).index 1)) (w.range 0).attempt ≡ after_entry 1 x.replica.applied.state p (w.range 0).attempt =
-          ap (λ t. after_entry 1 t (entry (w.range 0).log ((w.range 0).index 1)) (w.range 0).attempt) b.state
-          ∙ ap (λ q. after_entry 1 x.replica.applied.state q (w.range 0).attempt) (is_entry (w.range 0) x.replica.node x.replica.log x.replica.applied b p e) in
+      ap (λ t. after_entry 1 t (entry (w.range 0).log ((w.range 0).index 1)) (w.range 0).attempt) b.state
+      ∙ ap (λ q. after_entry 1 x.replica.applied.state q (w.range 0).attempt) (is_entry (w.range 0) x.replica.node x.replica.log x.replica.applied b p e) in
       record {
         events = machine.Apply 1 ∷ [];
         plain = (tt, tt);

@@ -1,5 +1,5 @@
 -- In a run all numbers have their widths, so each payload that a flush writes is read back.
-use Rattle.std.proofs.Common.{◌≡◌, ℕ, zero, suc, ◌+◌, ◌-◌, ◌<◌, ◌≤◌, ◌^◌, ◌==◌, max, Bool, true, false, cond, not, List, [], ◌∷◌, ◌++◌, length, map, Option, None, Some, Result, Ok, Err, slice_get, refl, sym, ap, subst, ◌∙◌, arith}
+use Rattle.std.proofs.Common.{◌≡◌, ℕ, zero, suc, ◌+◌, ◌-◌, ◌<◌, ◌≤◌, ◌^◌, ◌==◌, max, Bool, true, false, cond, not, List, [], ◌∷◌, ◌++◌, length, map, Option, None, Some, Result, Ok, Err, slice_get, refl, sym, subst, ◌∙◌, arith}
 use Rattle.std.specs.Prelude.{filter_map}
 use Rattle.std.specs.List.{AllByRecursion, filter, cons_option}
 use Rattle.std.specs.Option.{option_map}
@@ -16,12 +16,10 @@ use Rattle.rp_request.specs.declared.commands.Payload.{Payload}
 use Rattle.rp_request.specs.declared.commands.Payload.TheVariants as payloads
 use Rattle.rp_request.specs.declared.outcomes.Refusal.{Refusal}
 use Rattle.rp_request.specs.declared.requests.Request.{Request}
-use Rattle.rp_raftlog.specs.LogState.{LogState, entry_at}
 use Rattle.rp_raftlog.specs.declared.entries.Entry.{Entry}
-use Rattle.rp_codec.specs.Fits.{FitsId, FitsRequest, FitsReply, FitsBatch, FitsAsk, FitsPayload}
-use Rattle.rp_eval.specs.Evaluations.{evaluated}
+use Rattle.rp_codec.specs.Fits.{FitsId, FitsRequest, FitsReply, FitsBatch, FitsPayload}
 use Rattle.rp_eval.specs.declared.evaluations.Evaluated.{Evaluated}
-use Rattle.rp_flush.specs.Assigns.{asks_of, ids_of, ask_of, id_of, once, numbered, waits_under, same_id}
+use Rattle.rp_flush.specs.Assigns.{asks_of, ids_of, once, numbered, waits_under, same_id}
 use Rattle.rp_pending.specs.declared.proposals.Proposal.{Proposal}
 use Rattle.rp_pending.specs.Proposals.{has_id, proposal_of, with_changed, without, proposed, waiting_again}
 use Rattle.rp_pending.specs.Refreshes.{waiting_of}
@@ -37,11 +35,11 @@ use Rattle.rp_replica.specs.declared.plans.Turn.TheVariants.{Stays, Ends, WaitsA
 use Rattle.rp_replica.specs.Allows.{MayFlush}
 use Rattle.rp_replica.specs.Replicas.{Replica}
 use Rattle.rp_replica.specs.Admissions.{guarded, admitted_by}
-use Rattle.rp_replica.specs.Applications.{payload_of, next_payload, recorded, turn_of, turned, applied_one, applied_where}
+use Rattle.rp_replica.specs.Applications.{payload_of, next_payload, recorded, turn_of, turned, applied_where}
 use Rattle.rp_replica.specs.Flushes.{command_of, write_of, payloads_of, entry_of, without_all, proposed_all, flushed}
 use Rattle.rp_replica.specs.Events.{event}
-use Rattle.rp_refine.specs.Runs.{Input, Run, begun, FitsItem, MayAsk, assigning, LawfulEvent, AllLawful, next, play}
-use Rattle.rp_refine.proofs.Admitting.{Passed, passed}
+use Rattle.rp_refine.specs.Runs.{Input, Run, begun, FitsItem, assigning, LawfulEvent, AllLawful, next, play}
+use Rattle.rp_refine.proofs.Admitting.{passed}
 use Rattle.rp_refine.proofs.Fitting.{FitsTable, fits_after, fits_evaluated}
 use Rattle.rp_refine.proofs.Flushing.{IsReadBack, MayWrite}
 

@@ -1,27 +1,26 @@
 -- All that is written fits its bytes, where what is handed in does.
-use Rattle.std.proofs.Common.{◌≡◌, ℕ, zero, suc, ◌+◌, ◌-◌, ◌<◌, ◌≤◌, ◌^◌, ◌==◌, nat_lt, max, Bool, true, false, cond, not, ◌⊎◌, inl, inr, List, [], ◌∷◌, ◌++◌, length, map, Option, None, Some, Result, Ok, Err, is_some, unwrap_or, Less, Equal, Greater, refl, sym, ap, subst, ◌∙◌, arith}
+use Rattle.std.proofs.Common.{◌≡◌, ℕ, zero, suc, ◌+◌, ◌-◌, ◌<◌, ◌≤◌, ◌^◌, ◌==◌, nat_lt, Bool, true, false, cond, List, [], ◌∷◌, Option, None, Some, Result, Ok, Err, is_some, unwrap_or, Less, Equal, Greater, refl, sym, subst, ◌∙◌, arith}
 use Rattle.std.proofs.lemmas.Bool.Decides.{nat_tests}
-use Rattle.std.specs.Prelude.{filter_map, ◌||◌, IfOk, nat_eq}
-use Rattle.std.specs.List.{AllByRecursion, filter, list_any, cons_option}
-use Rattle.std.specs.Option.{option_map, option_eq}
+use Rattle.std.specs.Prelude.{◌||◌, IfOk, nat_eq}
+use Rattle.std.specs.List.{AllByRecursion, list_any}
+use Rattle.std.specs.Option.{option_eq}
 use Rattle.std.specs.Ordering.{nat_cmp, eq_by_cmp, is_eq}
 use Rattle.std.specs.declared.cmp.Ordering.{Ordering}
 use Rattle.std.specs.FinMap.{get, insert, remove, keys, retain_keys, contains_key-keys, nat_cmp-IsAntisymmetric}
 use Rattle.rp_base.specs.Keys.{IsKey, end_of}
-use Rattle.rp_base.specs.Splits.{right_part, parts_of, split_of}
+use Rattle.rp_base.specs.Splits.{right_part, parts_of}
 use Rattle.rp_base.specs.declared.ranges.Desc.{Desc}
-use Rattle.rp_base.specs.declared.ranges.SplitFault.{SplitFault}
 use Rattle.rp_base.specs.declared.ranges.SplitFault.TheVariants as faults
 use Rattle.rp_request.specs.declared.commands.Op.{Op}
 use Rattle.rp_request.specs.declared.commands.Op.TheVariants.{Set, Remove}
 use Rattle.rp_request.specs.declared.requests.Request.{Request}
 use Rattle.rp_request.specs.declared.requests.Request.TheVariants.{Put, Add, CPut, Del, Wipe, Move, Split}
-use Rattle.rp_request.specs.Table.{Table, greatest, value_at, part, is_between, below, count_in}
+use Rattle.rp_request.specs.Table.{Table, greatest, value_at, part, is_between, count_in}
 use Rattle.rp_request.specs.Effect.{Effect, effect, split, pass_on, writes}
 use Rattle.rp_request.specs.declared.outcomes.Refusal.{Refusal}
 use Rattle.rp_request.specs.declared.outcomes.Reply.TheVariants.{Now}
 use Rattle.rp_request.proofs.Tables.{get_kept, get_inserted, get_removed}
-use Rattle.rp_eval.specs.Batches.{write, write_all, after_batch, removes, moves, batch_of}
+use Rattle.rp_eval.specs.Batches.{write_all, after_batch, removes, moves, batch_of}
 use Rattle.rp_eval.specs.Evaluations.{with_batch, evaluated}
 use Rattle.rp_eval.proofs.Few.{few_writes}
 use Rattle.rp_eval.specs.declared.evaluations.Evaluated.{Evaluated}
@@ -125,7 +124,7 @@ module _ (t : Table) (d : Desc) (h : FitsTable t) where
 
   passes : (from to by : ℕ) → IsKey from → IsKey to → (b : Bool)
       → FitsLeft (cond b (Set from (value_at t from) ∷ []) (Set from (value_at t from - by) ∷ Set to (value_at t to + by) ∷ []))
-          (cond b (writes (insert t from (value_at t from)) d (Now (value_at t from))) (pass_on t d from to by))
+      (cond b (writes (insert t from (value_at t from)) d (Now (value_at t from))) (pass_on t d from to by))
   passes from to by k l true = (fits_value t from h, ((k, fits_value t from h), tt))
   passes from to by k l false = by_test (FitsLeft (Set from (value_at t from - by) ∷ Set to (value_at t to + by) ∷ [])) (nat_lt greatest (value_at t to + by)) _ _
       (λ e. tt) (λ e. (lesser from by, ((k, lesser from by), ((l, small (value_at t to + by) e), tt))))

@@ -1,5 +1,5 @@
 -- A flush, as the range machine has it: refusals, then the lease asks, then each command under its lease index.
-use Rattle.std.proofs.Common.{◌≡◌, ℕ, zero, suc, ◌+◌, ◌<◌, ◌≤◌, max, Bool, true, false, cond, ◌⊎◌, inl, inr, List, [], ◌∷◌, ◌++◌, length, map, take, Option, None, Some, Ok, refl, sym, ap, subst, ◌∙◌, arith, length-append}
+use Rattle.std.proofs.Common.{◌≡◌, ℕ, zero, suc, ◌<◌, ◌≤◌, max, Bool, true, false, cond, ◌⊎◌, inl, inr, List, [], ◌∷◌, ◌++◌, length, map, take, Option, None, Some, refl, sym, ap, subst, ◌∙◌, arith, length-append}
 use Rattle.std.specs.Prelude.{filter_map}
 use Rattle.std.specs.List.{AllByRecursion, filter, cons_option}
 use Rattle.std.specs.Option.{option_map}
@@ -14,11 +14,11 @@ use Rattle.rp_raftlog.specs.LogState.{LogState, appended}
 use Rattle.rp_raftlog.specs.declared.entries.Entry.{Entry}
 use Rattle.rp_latch.specs.declared.holds.Hold.{Hold}
 use Rattle.rp_latch.specs.Holds.{is_of_other}
-use Rattle.rp_flush.specs.Assigns.{ids_of, once, assigned_of, numbered, waits_under, waits_under_another}
+use Rattle.rp_flush.specs.Assigns.{ids_of, once, waits_under}
 use Rattle.rp_pending.specs.declared.proposals.Proposal.{Proposal}
 use Rattle.rp_pending.specs.Proposals.{has_id, proposal_of, without, with_changed, proposed}
 use Rattle.rp_pending.specs.Refreshes.{waiting_of}
-use Rattle.rp_apply.specs.Applied.{AppliedState, records_of}
+use Rattle.rp_apply.specs.Applied.{records_of}
 use Rattle.rp_apply.specs.History.{History}
 use Rattle.rp_replica.proofs.Known.{one_id}
 use Rattle.rp_replica.specs.declared.events.ReplicaEvent.TheVariants as events
@@ -30,13 +30,13 @@ use Rattle.rp_rangesafe.specs.World.{World, here, Event, Refuse, Commit, Lawful,
 use Rattle.rp_rangesafe.specs.World as machine
 use Rattle.rp_rangesafe.specs.Places.{IsLater}
 use Rattle.rp_rangesafe.specs.Ranges.{Owner, Ranges, first_applied}
-use Rattle.rp_rangesafe.proofs.Tables.{at_attempt, at_same, at_other, id_cases}
+use Rattle.rp_rangesafe.proofs.Tables.{at_same, at_other, id_cases}
 use Rattle.rp_rangesafe.proofs.Runs.{later_state}
 use Rattle.rp_refine.specs.Runs.{Outcomes, Run, with_outcome, with_ended, assigning, left_by}
-use Rattle.rp_refine.proofs.Stands.{IsMade, Holds, AllHold, Stands, apart, stands_drop, stands_turn}
+use Rattle.rp_refine.proofs.Stands.{IsMade, AllHold, stands_drop, stands_turn}
 use Rattle.rp_refine.proofs.Ghosts.{ArePlain, IsPlain}
-use Rattle.rp_refine.proofs.Shadows.{Carries, Base, Agrees, Tells, Shows, Shadow, Follows, Turns, follows, agrees_told, agrees_staged, told_pending}
-use Rattle.rp_refine.proofs.Settled.{Distinct, all_weaker, numbers_ids, numbers_positive, all_wait, all_distinct}
+use Rattle.rp_refine.proofs.Shadows.{Carries, Base, Agrees, Tells, Shadow, Follows, Turns, follows, agrees_told, agrees_staged, told_pending}
+use Rattle.rp_refine.proofs.Settled.{Distinct, numbers_ids, numbers_positive, all_wait, all_distinct}
 
 -- a payload is read back from its entry
 abbrev pub IsReadBack : Payload → Type 0
@@ -311,8 +311,8 @@ flush_follows w x s ticks round fits = follows w (left_by x.outcome events.Flush
       let waits = subst (λ l. AllWait (w.range 0).attempt (a.refused ++ l)) same (all_wait (w.range 0).attempt x.replica.pending t.stands.holds seq x.replica.inbox) in
       let begin : Going x.replica.node x.replica.applied w.owner x.replica.pending x.replica.log x.outcome x.replica.latches x.replica.pending (a.refused ++ map (λ v. v.0) a.writes) (w.range 0) = record { base = s.shows.base; tells = t; made = made_all (w.range 0).attempt x.replica.pending t.stands.holds; waits = waits } in
       let went = went_on (refuse_all x.replica.node x.replica.applied w.owner x.replica.pending x.replica.applied.state.lease x.replica.log a.refused (map (λ v. v.0) a.writes) x.outcome x.replica.latches x.replica.pending (w.range 0) distinct begin)
-          (λ m q. ask_all x.replica.node x.replica.applied w.owner x.replica.pending a.leases a.writes x.replica.log (with_ended x.outcome (map (refused_with x.replica.applied.state.lease) a.refused))
-          (freed_all a.refused x.replica.latches) (without_all a.refused x.replica.pending) ticks round m (later_distinct a.refused (map (λ v. v.0) a.writes) distinct) (numbers_positive last under) fits q) in
+      (λ m q. ask_all x.replica.node x.replica.applied w.owner x.replica.pending a.leases a.writes x.replica.log (with_ended x.outcome (map (refused_with x.replica.applied.state.lease) a.refused))
+      (freed_all a.refused x.replica.latches) (without_all a.refused x.replica.pending) ticks round m (later_distinct a.refused (map (λ v. v.0) a.writes) distinct) (numbers_positive last under) fits q) in
       record {
         events = went.events;
         plain = went.plain;

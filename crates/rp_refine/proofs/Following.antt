@@ -1,10 +1,10 @@
 -- Each run of one replica is shown by ranges that are reached.
-use Rattle.std.proofs.Common.{◌≡◌, ℕ, List, [], ◌∷◌, ◌++◌, None, refl, sym, ap, subst, ◌∙◌, arith}
+use Rattle.std.proofs.Common.{◌≡◌, ℕ, List, [], ◌∷◌, ◌++◌, refl, sym, ap, subst, ◌∙◌, arith}
 use Rattle.rp_base.specs.declared.items.Item.{Item}
 use Rattle.rp_replica.specs.declared.events.ReplicaEvent.{ReplicaEvent}
 use Rattle.rp_replica.specs.declared.events.ReplicaEvent.TheVariants.{Admit, Collect, Flush, Apply, Peek}
 use Rattle.rp_replica.specs.Events.{event}
-use Rattle.rp_rangesafe.specs.Ranges.{Ranges, at_first, AreReached, AreLater}
+use Rattle.rp_rangesafe.specs.Ranges.{Ranges, at_first, AreReached}
 use Rattle.rp_refine.specs.Runs.{Input, Run, begun, left_by, next, LawfulEvent, Lawful, AllLawful, play}
 use Rattle.rp_refine.specs.Laws.{IsReached, IsLater}
 use Rattle.rp_refine.proofs.Ghosts.{reached_first, are_later_itself, are_later_further, are_reached_later}

@@ -1,5 +1,5 @@
 -- What a flush assigns: ids that are all distinct, and of waiting attempts.
-use Rattle.std.proofs.Common.{◌≡◌, ℕ, ◌+◌, ◌<◌, ◌==◌, Bool, true, false, cond, not, List, [], ◌∷◌, ◌++◌, map, Option, None, Some, is_some, refl, sym, ap, subst, ◌∙◌, arith}
+use Rattle.std.proofs.Common.{◌≡◌, ℕ, ◌+◌, ◌<◌, ◌==◌, Bool, true, false, cond, not, List, [], ◌∷◌, ◌++◌, map, Option, None, Some, is_some, refl, ap, subst, arith}
 use Rattle.std.specs.Option.{option_map, option_map_or}
 use Rattle.std.specs.List.{AllByRecursion, filter, find, cons_option}
 use Rattle.rp_base.specs.declared.ids.CmdId.{CmdId}
@@ -10,10 +10,10 @@ use Rattle.rp_pending.specs.declared.proposals.Proposal.{Proposal}
 use Rattle.rp_pending.specs.declared.proposals.Stage as places
 use Rattle.rp_pending.specs.declared.proposals.Stage.TheVariants as stages
 use Rattle.rp_pending.specs.Proposals.{is_proposed}
-use Rattle.rp_pending.specs.Refreshes.{waits, waiting_of}
+use Rattle.rp_pending.specs.Refreshes.{waiting_of}
 use Rattle.rp_replica.proofs.Known.{one_id}
 use Rattle.rp_rangesafe.specs.Attempts.{Waiting, Attempts}
-use Rattle.rp_refine.proofs.Stands.{AllHold, HasStage, Holds, apart}
+use Rattle.rp_refine.proofs.Stands.{AllHold, HasStage, apart}
 
 -- no id stands twice
 abbrev pub Distinct : List CmdId → Type 0
@@ -60,9 +60,10 @@ not_true false e = refl
 
 distinct_once : (xs : List CmdId) → Distinct (once xs)
 distinct_once [] = tt
-distinct_once (x ∷ xs) =
-    (all_weaker (λ y. not (same_id x y) ≡ true) (λ y. x ≡ y → ⊥) (λ y e. apart x y (not_true (same_id x y) e)) (filter (λ y. not (same_id x y)) (once xs)) (all_pass (λ y. not (same_id x y)) (once xs)),
-    distinct_filtered (λ y. not (same_id x y)) (once xs) (distinct_once xs))
+distinct_once (x ∷ xs) = (
+  all_weaker (λ y. not (same_id x y) ≡ true) (λ y. x ≡ y → ⊥) (λ y e. apart x y (not_true (same_id x y) e)) (filter (λ y. not (same_id x y)) (once xs)) (all_pass (λ y. not (same_id x y)) (once xs)),
+  distinct_filtered (λ y. not (same_id x y)) (once xs) (distinct_once xs),
+)
 
 distinct_both : (xs ys : List CmdId) → Distinct xs → Distinct ys → AllByRecursion (λ x. AllByRecursion (λ y. x ≡ y → ⊥) ys) xs → Distinct (xs ++ ys)
 distinct_both [] ys h k l = k

@@ -1,28 +1,26 @@
 -- The range machine shows a run of one replica.
-use Rattle.std.proofs.Common.{◌≡◌, ℕ, ◌+◌, ◌<◌, ◌≤◌, nat_lt, Bool, true, false, cond, ◌⊎◌, inl, inr, List, [], ◌∷◌, ◌++◌, length, take, Option, None, Some, slice_get, refl, sym, ap, subst, ◌∙◌, arith}
+use Rattle.std.proofs.Common.{◌≡◌, ℕ, ◌≤◌, true, ◌⊎◌, inl, inr, List, [], ◌∷◌, length, take, Option, None, Some, refl, sym, subst, ◌∙◌}
 use Rattle.std.proofs.lemmas.Bool.{cond_both}
 use Rattle.rp_base.specs.declared.ids.CmdId.{CmdId}
 use Rattle.rp_request.specs.declared.commands.Payload.{Payload}
-use Rattle.rp_request.specs.declared.commands.Payload.TheVariants.{Nothing}
 use Rattle.rp_request.specs.declared.outcomes.Outcome.{Outcome}
 use Rattle.rp_request.specs.declared.outcomes.Outcome.TheVariants as outcomes
 use Rattle.rp_raftlog.specs.LogState.{LogState}
 use Rattle.rp_raftlog.specs.declared.entries.Entry.{Entry}
 use Rattle.rp_latch.specs.declared.holds.Hold.{Hold}
 use Rattle.rp_pending.specs.declared.proposals.Proposal.{Proposal}
-use Rattle.rp_apply.specs.Applied.{AppliedState, records_of}
+use Rattle.rp_apply.specs.Applied.{records_of}
 use Rattle.rp_apply.specs.History.{History}
-use Rattle.rp_replica.specs.Replicas.{Replica}
 use Rattle.rp_replica.specs.Applications.{payload_of}
 use Rattle.rp_rangesafe.specs.Attempts.{Stage, Unborn, Success, Refused, Attempt, Attempts, IsBorn, IsPending, same_id, with_attempt}
 use Rattle.rp_rangesafe.specs.World.{World, here, Event, AllLawful, happens, run}
 use Rattle.rp_rangesafe.specs.World as machine
 use Rattle.rp_rangesafe.specs.Ranges.{Owner, Nobody, Turned, At, Ranges, first_applied, AreLater, with_owner}
-use Rattle.rp_rangesafe.proofs.Tables.{id_by, same_id_is, other_id, id_cases, at_same, at_other}
+use Rattle.rp_rangesafe.proofs.Tables.{same_id_is, other_id, id_cases, at_same, at_other}
 use Rattle.rp_rangesafe.proofs.Growth.{Admits, grown_run, made_before}
 use Rattle.rp_refine.specs.Runs.{Outcomes, Run, with_outcome}
 use Rattle.rp_refine.proofs.Stands.{Stands}
-use Rattle.rp_refine.proofs.Ghosts.{Goes, IsPlain, ArePlain, goes_on}
+use Rattle.rp_refine.proofs.Ghosts.{IsPlain, ArePlain, goes_on}
 
 -- the entries carry these payloads
 abbrev pub Carries : List Entry → List Payload → Type 0

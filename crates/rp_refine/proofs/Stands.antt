@@ -1,8 +1,8 @@
 -- The attempts of the range machine beside the latches and pending proposals of a replica.
-use Rattle.std.proofs.Common.{◌≡◌, ℕ, ◌==◌, ◌&&◌, eqb, Bool, true, false, cond, not, ◌⊎◌, inl, inr, List, [], ◌∷◌, ◌++◌, map, Option, None, Some, is_some, refl, sym, ap, subst, ◌∙◌, eqb-true, ⊎_elim}
+use Rattle.std.proofs.Common.{◌≡◌, ℕ, ◌&&◌, eqb, Bool, true, false, cond, not, ◌⊎◌, inl, inr, List, [], ◌∷◌, ◌++◌, map, Option, None, Some, is_some, refl, sym, ap, subst, ◌∙◌, ⊎_elim}
 use Rattle.std.proofs.lemmas.Bool.{eqb-false, and_cases}
-use Rattle.std.specs.Prelude.{IsSome, Ok}
-use Rattle.std.specs.List.{AllByRecursion, filter, find, IsDistinct}
+use Rattle.std.specs.Prelude.{IsSome}
+use Rattle.std.specs.List.{AllByRecursion, filter, IsDistinct}
 use Rattle.rp_base.specs.declared.ids.CmdId.{CmdId}
 use Rattle.rp_base.specs.declared.spans.Spans.{Spans}
 use Rattle.rp_request.specs.Covers.{spans_of, HasKeys}
@@ -14,7 +14,7 @@ use Rattle.rp_pending.specs.declared.proposals.Stage as places
 use Rattle.rp_pending.specs.declared.proposals.Stage.TheVariants as stages
 use Rattle.rp_pending.specs.Proposals.{has_id, proposal_of, without, with_changed}
 use Rattle.rp_replica.proofs.Known.{one_id, known_without}
-use Rattle.rp_rangesafe.specs.Attempts.{Body, Stage, Waiting, Proposed, Attempt, Attempts, IsPending, staged, with_attempt}
+use Rattle.rp_rangesafe.specs.Attempts.{Body, Stage, Waiting, Proposed, Attempt, Attempts, IsPending, with_attempt}
 use Rattle.rp_refine.specs.Laws.{hold_of, HaveDistinctIds}
 use Rattle.rp_rangesafe.proofs.Tables.{at_attempt, at_same, at_other}
 

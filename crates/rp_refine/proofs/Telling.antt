@@ -1,5 +1,5 @@
 -- What the laws of the range machine say of a run of one replica.
-use Rattle.std.proofs.Common.{true, ◌≡◌, ℕ, zero, suc, ◌+◌, ◌<◌, ◌≤◌, ◌⊎◌, inl, inr, List, [], ◌∷◌, ◌++◌, length, map, take, Option, None, Some, Ok, Err, Result, is_some, slice_get, refl, sym, ap, subst, ◌∙◌, arith}
+use Rattle.std.proofs.Common.{true, ◌≡◌, ℕ, suc, ◌+◌, ◌<◌, ◌≤◌, ◌⊎◌, inl, inr, List, [], ◌∷◌, length, map, take, Option, None, Some, Ok, Err, Result, is_some, slice_get, refl, sym, ap, subst, ◌∙◌, arith}
 use Rattle.std.specs.Prelude.{filter_map, IsSome, IsOk}
 use Rattle.std.specs.List.{AllByRecursion, cons_option}
 use Rattle.std.proofs.lemmas.List.Elements.{All-from_recursion}
@@ -12,7 +12,6 @@ use Rattle.rp_base.specs.Splits.{split_of}
 use Rattle.rp_request.specs.declared.commands.Command.{Command}
 use Rattle.rp_request.specs.declared.commands.Payload.{Payload}
 use Rattle.rp_request.specs.declared.commands.Payload.TheVariants as payload_kinds
-use Rattle.rp_request.specs.declared.items.Place.{Place}
 use Rattle.rp_request.specs.declared.items.Record.TheVariants as kept
 use Rattle.rp_request.specs.declared.outcomes.Outcome.{Outcome}
 use Rattle.rp_request.specs.declared.outcomes.Outcome.TheVariants as outcomes
@@ -25,27 +24,25 @@ use Rattle.rp_request.specs.Places.{IsOnce, places_of}
 use Rattle.rp_request.specs.Records.{applied}
 use Rattle.rp_request.specs.Starts.{first_state}
 use Rattle.rp_request.specs.Table.{Table}
-use Rattle.rp_request.specs.Effect.{effect, split}
+use Rattle.rp_request.specs.Effect.{split}
 use Rattle.rp_request.proofs.Once.{places_further}
-use Rattle.rp_eval.specs.Batches.{batch_of}
 use Rattle.rp_eval.specs.Evaluations.{Does, evaluated, with_batch}
 use Rattle.rp_eval.specs.declared.evaluations.Evaluated.{Evaluated}
 use Rattle.rp_raftlog.specs.LogState.{entry_at}
 use Rattle.rp_raftlog.specs.declared.entries.Entry.{Entry}
 use Rattle.rp_pending.specs.declared.proposals.Proposal.{Proposal}
 use Rattle.rp_pending.specs.Proposals.{proposal_of}
-use Rattle.rp_apply.specs.Applied.{AppliedState, verdict, command_verdict, item, after_all, records_of}
-use Rattle.rp_apply.specs.declared.verdicts.Verdict.TheVariants.{Took}
+use Rattle.rp_apply.specs.Applied.{AppliedState, command_verdict, item, after_all, records_of}
 use Rattle.rp_apply.specs.Rooms.{Fits, MaySplit}
 use Rattle.rp_replica.specs.Applications.{payload_of}
 use Rattle.rp_replica.specs.Carried.{Carries, AllCarry}
 use Rattle.rp_replica.specs.Allows.{MayApplyNext}
 use Rattle.rp_rangesafe.specs.Attempts.{Stage, Unborn, Waiting, Proposed, Success, Refused, Overtaken, Removed, Restarted, Attempt, IsBorn, IsPending, IsEnded, IsUntaken}
 use Rattle.rp_rangesafe.specs.Along.{entry, state, Takes}
-use Rattle.rp_rangesafe.specs.World.{World, IsEvaluated, here, state_at}
+use Rattle.rp_rangesafe.specs.World.{World, IsEvaluated, state_at}
 use Rattle.rp_rangesafe.specs.Places as machine
 use Rattle.rp_rangesafe.specs.Places.{shown, items_to, body_of}
-use Rattle.rp_rangesafe.specs.Ranges.{Owner, Nobody, Turned, At, Ranges, first_applied, IsRefused, IsRefusedAt, AreReached, AreLater, lists}
+use Rattle.rp_rangesafe.specs.Ranges.{Owner, Turned, At, Ranges, first_applied, IsRefused, IsRefusedAt}
 use Rattle.rp_rangesafe.proofs.Folds.{state_of_entries}
 use Rattle.rp_rangesafe.proofs.Joint.{range_reached, range_goes_on, one_place_of_all, refused_nowhere, place_recorded}
 use Rattle.rp_rangesafe.proofs.Once.{placed_born, once_in_each}
@@ -53,7 +50,7 @@ use Rattle.rp_rangesafe.proofs.OneRange.{dead_by_stage, lawful_place, effect_at_
 use Rattle.rp_rangesafe.proofs.Rights.{begin_with}
 use Rattle.rp_rangesafe.proofs.Runs.{place_stays}
 use Rattle.rp_rangesafe.proofs.Whole.{owner_onto}
-use Rattle.rp_refine.specs.Runs.{Outcomes, Run, IsRefusal}
+use Rattle.rp_refine.specs.Runs.{Run, IsRefusal}
 use Rattle.rp_refine.specs.Laws.{IsReached, IsLater, payload, payloads, records, items, state_after, IsPlace, IsLawfulPlace, IsTheOnePlace, HasNever, hold_of, HaveDistinctIds}
 use Rattle.rp_refine.proofs.Stands.{found_holds, held_pending, have_distinct}
 use Rattle.rp_refine.proofs.Shadows as shadows
@@ -145,7 +142,7 @@ module _ (x : Run) (r : IsReached x) where
       let rest = begin_with h (h.index 1) (length h.log) base.within (omega arith) in
       let all : places_of client seq (items_to h (length h.log)) ≤ 1 = once_in_each sh.ranges sh.reached 0 client seq in
       let sum : places_of client seq (items_to h (length h.log)) ≡ places_of client seq (items_to h (h.index 1)) + places_of client seq rest.0 =
-          ap (places_of client seq) rest.1 ∙ places_further client seq (items_to h (h.index 1)) rest.0 in
+      ap (places_of client seq) rest.1 ∙ places_further client seq (items_to h (h.index 1)) rest.0 in
       subst (λ l. places_of client seq l ≤ 1) items_are (omega (arith, all, sum))
 
   pub once_in_log : IsOnce (applied (records_of first_applied (payloads x)))
@@ -181,7 +178,7 @@ module _ (x : Run) (r : IsReached x) where
   place_is_recorded id k c p =
       let q = shown_place x sh.ranges sh.shadow id k c p in
       let e : records_of h.start h.log ≡ records_of first_applied (payloads x) =
-          ap (λ b. records_of b h.log) base.start ∙ ap (records_of first_applied) (shown_log x sh.ranges sh.shadow) in
+      ap (λ b. records_of b h.log) base.start ∙ ap (records_of first_applied) (shown_log x sh.ranges sh.shadow) in
       ap (λ l. slice_get l k) (sym e) ∙ place_recorded h id k c q ∙ ap (λ (t : AppliedState). Some (kept.Took (item t.desc c))) (shown_state x sh.ranges sh.shadow k)
 
   agrees_with : (id : CmdId) (o : Option Outcome) → x.outcome id ≡ o → Agrees o (sh.ranges.owner id) (h.attempt id).stage

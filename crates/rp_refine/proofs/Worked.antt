@@ -1,7 +1,7 @@
 -- A worked run, lawful and computed: the laws do not speak of runs in which nothing happens.
-use Rattle.std.proofs.Common.{◌≡◌, ℕ, inl, List, [], ◌∷◌, None, Some, Ok, refl, sym, ap, subst, ◌∙◌, arith}
+use Rattle.std.proofs.Common.{◌≡◌, inl, List, [], ◌∷◌, None, Some, refl, sym, ap, subst, ◌∙◌, arith}
 use Rattle.std.specs.Ordering.{nat_cmp}
-use Rattle.std.specs.FinMap.{empty, get, get-empty}
+use Rattle.std.specs.FinMap.{get, get-empty}
 use Rattle.rp_base.specs.Keys.{IsKey, key_of, key_number}
 use Rattle.rp_base.specs.declared.ids.CmdId.{CmdId}
 use Rattle.rp_base.specs.declared.items.Item.TheVariants as kinds
@@ -73,6 +73,7 @@ told = ap (λ o. (left_by proposed.outcome Apply (applied_where proposed.replica
 
 lawful : AllLawful begun asked
 unfolding with_outcome
-lawful =
-    (record { new = refl; turn = inl refl; keys = omega arith; fits_id = (omega arith, omega arith, omega arith); fits = (key_is, omega arith) },
-    ((omega arith, (tt, tt)), (record { assigned = omega arith; index = omega arith }, tt)))
+lawful = (
+  record { new = refl; turn = inl refl; keys = omega arith; fits_id = (omega arith, omega arith, omega arith); fits = (key_is, omega arith) },
+  ((omega arith, (tt, tt)), (record { assigned = omega arith; index = omega arith }, tt)),
+)
