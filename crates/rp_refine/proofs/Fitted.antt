@@ -124,21 +124,21 @@ fits_found id (x ∷ ps) p h e = go (fits_found id ps p h.1) (has_id id x) e whe
   go ih false is = ih is
 
 -- no more commands than the inbox has items
-fewer_filtered : {X : Type 0} (t : X → Bool) (xs : List X) → length (filter t xs) ≤ length xs
+pub fewer_filtered : {X : Type 0} (t : X → Bool) (xs : List X) → length (filter t xs) ≤ length xs
 fewer_filtered t [] = omega arith
 fewer_filtered t (x ∷ xs) = go (t x) (fewer_filtered t xs) where
   go : (b : Bool) → length (filter t xs) ≤ length xs → length (cond b (x ∷ filter t xs) (filter t xs)) ≤ suc (length xs)
   go true l = omega (arith, l)
   go false l = omega (arith, l)
 
-fewer_once : (ids : List CmdId) → length (once ids) ≤ length ids
+pub fewer_once : (ids : List CmdId) → length (once ids) ≤ length ids
 fewer_once [] = omega arith
 fewer_once (id ∷ ids) =
     let a = fewer_filtered (λ other. not (same_id id other)) (once ids) in
     let b = fewer_once ids in
     omega (arith, a, b)
 
-fewer_ids : (inbox : List Item) → length (ids_of inbox) ≤ length inbox
+pub fewer_ids : (inbox : List Item) → length (ids_of inbox) ≤ length inbox
 fewer_ids [] = omega arith
 fewer_ids (kinds.Write id ∷ inbox) = let l = fewer_ids inbox in omega (arith, l)
 fewer_ids (kinds.Lease ask ∷ inbox) = let l = fewer_ids inbox in omega (arith, l)
@@ -225,7 +225,7 @@ seq_leased s ask = go (ask.prev == s.lease.seq) (ask.holder == s.lease.holder) w
   go true false = omega arith
   go false c = omega arith
 
-seq_after : (s : AppliedState) (p : Payload) → (after s p).lease.seq ≤ s.lease.seq + 1
+pub seq_after : (s : AppliedState) (p : Payload) → (after s p).lease.seq ≤ s.lease.seq + 1
 seq_after s payloads.Nothing = omega arith
 seq_after s (payloads.Write c) = seq_written s c (command_verdict s c)
 seq_after s (payloads.Lease ask) = seq_leased s ask

@@ -7,6 +7,7 @@ pub mod Settled
 pub mod Flushing
 pub mod Fitting
 pub mod Fitted
+pub mod Counting
 pub mod Following
 pub mod Telling
 pub mod Worked

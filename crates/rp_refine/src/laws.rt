@@ -1,6 +1,6 @@
 //! Laws of a run of one replica whose whole log is committed, for every list of lawful events. No program calls these
 //! functions.
-ghost use Rattle.std.specs.Prelude.{◌≡◌, ℕ, ◌+◌, ◌<◌, ◌≤◌, ◌↔◌, Some, length, map, take, slice_get, IsSome};
+ghost use Rattle.std.specs.Prelude.{◌≡◌, ℕ, ◌+◌, ◌*◌, max, ◌<◌, ◌≤◌, ◌↔◌, Some, length, map, take, slice_get, IsSome};
 ghost use Rattle.rp_base.specs.declared.ids.CmdId.{CmdId};
 ghost use Rattle.rp_request.specs.declared.commands.Command.{Command};
 ghost use Rattle.rp_request.specs.declared.items.Record.TheVariants as kept;
@@ -11,7 +11,7 @@ ghost use Rattle.rp_request.specs.Items.{fold};
 ghost use Rattle.rp_request.specs.Places.{IsOnce};
 ghost use Rattle.rp_request.specs.Records.{applied};
 ghost use Rattle.rp_request.specs.Starts.{first_state};
-ghost use Rattle.rp_raftlog.specs.LogState.{entry_at};
+ghost use Rattle.rp_raftlog.specs.LogState.{entry_at, last_index};
 ghost use Rattle.rp_pending.specs.Proposals.{proposal_of};
 ghost use Rattle.rp_apply.specs.Applied.{item, after_all, records_of};
 ghost use Rattle.rp_replica.specs.Carried.{AllCarry};
@@ -100,4 +100,12 @@ pub fn lawful_events_lead_on()
     ensures next { (x : Run) (i : Input) → IsReached x → Lawful x i → IsReached (next x i) }
     ensures itself { (x : Run) → IsLater x x }
     ensures later { (x : Run) (y : Run) (i : Input) → IsLater x y → Lawful y i → IsLater x (next y i) }
+{}
+
+/// The numbers stay as small as the events are few: an event brings at most 16 items, and each lease index, entry and
+/// lease comes of one. So an event's demands on numbers hold for as long as 16 times the events are below 2^64 - 1.
+pub fn numbers_stay_small()
+    ensures indexes { (x : Run) (r : IsReached x) → max x.replica.assigned x.replica.applied.state.lai + length x.replica.inbox ≤ 16 * length r.inputs }
+    ensures entries { (x : Run) (r : IsReached x) → last_index x.replica.log + length x.replica.inbox ≤ 16 * length r.inputs }
+    ensures leases { (x : Run) → IsReached x → x.replica.applied.state.lease.seq ≤ x.replica.applied.index + 1 }
 {}
