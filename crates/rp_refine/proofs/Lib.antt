@@ -10,4 +10,5 @@ pub mod Fitted
 pub mod Counting
 pub mod Following
 pub mod Telling
+pub mod Allowing
 pub mod Worked

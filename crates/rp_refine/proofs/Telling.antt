@@ -105,6 +105,9 @@ module _ (x : Run) (r : IsReached x) where
   machine_reached : machine.IsReached h
   machine_reached = range_reached sh.ranges sh.reached 0
 
+  pub base_is : x.replica.log.base ≡ 0
+  base_is = base.base
+
   pub all_carry : AllCarry x.replica
   all_carry = All-from_recursion Carries x.replica.log.entries (each_carried x.replica.log.entries h.log base.carried)
 

@@ -1,6 +1,6 @@
 //! Laws of a run of one replica whose whole log is committed, for every list of lawful events. No program calls these
 //! functions.
-ghost use Rattle.std.specs.Prelude.{◌≡◌, ℕ, ◌+◌, ◌*◌, max, ◌<◌, ◌≤◌, ◌↔◌, Some, length, map, take, slice_get, IsSome};
+ghost use Rattle.std.specs.Prelude.{◌≡◌, ℕ, ◌+◌, ◌-◌, ◌*◌, ◌^◌, max, ◌<◌, ◌≤◌, ◌↔◌, Some, length, map, take, slice_get, IsSome};
 ghost use Rattle.rp_base.specs.declared.ids.CmdId.{CmdId};
 ghost use Rattle.rp_request.specs.declared.commands.Command.{Command};
 ghost use Rattle.rp_request.specs.declared.items.Record.TheVariants as kept;
@@ -15,7 +15,7 @@ ghost use Rattle.rp_raftlog.specs.LogState.{entry_at, last_index};
 ghost use Rattle.rp_pending.specs.Proposals.{proposal_of};
 ghost use Rattle.rp_apply.specs.Applied.{item, after_all, records_of};
 ghost use Rattle.rp_replica.specs.Carried.{AllCarry};
-ghost use Rattle.rp_replica.specs.Allows.{MayApplyNext};
+ghost use Rattle.rp_replica.specs.Allows.{Allows, MayApplyNext, MayFlush};
 ghost use Rattle.rp_rangesafe.specs.Places.{shown};
 ghost use Rattle.rp_rangesafe.specs.Ranges.{first_applied};
 ghost use Rattle.rp_refine.specs.Runs.{Input, Run, begun, next, Lawful, IsRefusal};
@@ -108,4 +108,12 @@ pub fn numbers_stay_small()
     ensures indexes { (x : Run) (r : IsReached x) → max x.replica.assigned x.replica.applied.state.lai + length x.replica.inbox ≤ 16 * length r.inputs }
     ensures entries { (x : Run) (r : IsReached x) → last_index x.replica.log + length x.replica.inbox ≤ 16 * length r.inputs }
     ensures leases { (x : Run) → IsReached x → x.replica.applied.state.lease.seq ≤ x.replica.applied.index + 1 }
+{}
+
+/// What the code demands of an event holds of each lawful one, and a flush and an application are lawful, for as long as 16
+/// times the events so far, plus 2, are below 2^64.
+pub fn lawful_events_are_allowed()
+    ensures allowed { (x : Run) (r : IsReached x) → 16 * length r.inputs + 2 < 2 ^ 64 → (i : Input) → Lawful x i → Allows x.replica i.event }
+    ensures flush { (x : Run) (r : IsReached x) → 16 * length r.inputs + 2 < 2 ^ 64 → MayFlush x.replica }
+    ensures apply { (x : Run) (r : IsReached x) → 16 * length r.inputs + 2 < 2 ^ 64 → x.replica.applied.state.lease.seq < 2 ^ 64 - 1 }
 {}
