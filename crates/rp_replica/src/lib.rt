@@ -9,6 +9,8 @@ mod flushes;
 pub mod laws;
 mod plans;
 mod replicas;
+#[cfg(test)]
+mod tests;
 
 pub use events::{Effects, Ended, EventAnswer, Outcomes, ReplicaEvent};
 pub use plans::{Application, FlushPlan, ReplicaPlan, Turn};
