@@ -41,7 +41,7 @@ use Rattle.rp_apply.specs.declared.verdicts.Verdict.{Verdict}
 use Rattle.rp_apply.specs.declared.verdicts.Verdict.TheVariants as verdicts
 use Rattle.rp_raftlog.specs.LogState.{entry_at}
 use Rattle.rp_raftlog.specs.declared.entries.Entry.{Entry}
-use Rattle.rp_report.specs.Shown.{IsShownDesc, IsShownRefusal, IsShownOutcome, IsShownAnswer, IsShownRange, IndexesFit, IsShownView}
+use Rattle.rp_report.specs.Shown.{IsShownDesc, IsShownRefusal, IsShownOutcome, IsShownAnswer, IsShownRange, IsShownView}
 use Rattle.rp_replica.specs.Admissions.{admitted_by, guarded, unlatched}
 use Rattle.rp_replica.specs.Applications.{applied_one, applied_where, is_own_command, payload_of, recorded, told_of, turned, turn_of}
 use Rattle.rp_replica.specs.Applications as replica
@@ -261,10 +261,7 @@ all_answers [] h = All-nil IsShownAnswer
 all_answers (e ∷ es) h = All-cons IsShownAnswer (answer_of e) (map answer_of es) h.0 (all_answers es h.1)
 
 pub is_shown : (w : World) (n most : ℕ) → IsSound w n most → most ≤ 65536 → IsShowing w → IsShownView (view_of w)
-is_shown w n most s small h =
-    let r = s.replica in
-    record {
-      replies = all_answers w.outcomes h.outcomes;
-      ranges = All-cons IsShownRange (range_view w.replica) [] (first_shown w.replica.applied.state.desc h.desc) (All-nil IsShownRange);
-      indexes = All-cons IndexesFit (range_view w.replica) [] (omega (arith, h.first, h.records, r.index, r.base, r.written, small)) (All-nil IndexesFit);
-    }
+is_shown w n most s small h = record {
+  replies = all_answers w.outcomes h.outcomes;
+  ranges = All-cons IsShownRange (range_view w.replica) [] (first_shown w.replica.applied.state.desc h.desc) (All-nil IsShownRange);
+}
