@@ -52,7 +52,9 @@ pub writes_fit : (r : Replica) (waiting : List Waiting) (lease : leases.Lease) (
     → AllByRecursion FitsPayload (map payloads.Lease asks) → AllByRecursion FitsPayload (filter_map (write_of r.pending) writes) → WritesFit r
 writes_fit r waiting lease lai a asks writes w l i e ls ws fa fw =
     let is : a ≡ assigning r =
-      e ∙ ap (λ ws. assigned_of r.inbox ws lease.seq (max r.assigned lai)) w ∙ ap (λ l. assigned_of r.inbox (waiting_of r.pending) l.seq (max r.assigned lai)) l
-      ∙ ap (λ n. assigned_of r.inbox (waiting_of r.pending) r.applied.state.lease.seq (max r.assigned n)) i in
-    record { each = subst (λ b. AllByRecursion FitsPayload (payloads_of r.pending b)) is
-    (both_fit _ _ (subst (λ l. AllByRecursion FitsPayload (map payloads.Lease l)) ls fa) (subst (λ l. AllByRecursion FitsPayload (filter_map (write_of r.pending) l)) ws fw)) }
+    e ∙ ap (λ ws. assigned_of r.inbox ws lease.seq (max r.assigned lai)) w ∙ ap (λ l. assigned_of r.inbox (waiting_of r.pending) l.seq (max r.assigned lai)) l
+    ∙ ap (λ n. assigned_of r.inbox (waiting_of r.pending) r.applied.state.lease.seq (max r.assigned n)) i in
+    record {
+      each = subst (λ b. AllByRecursion FitsPayload (payloads_of r.pending b)) is
+          (both_fit _ _ (subst (λ l. AllByRecursion FitsPayload (map payloads.Lease l)) ls fa) (subst (λ l. AllByRecursion FitsPayload (filter_map (write_of r.pending) l)) ws fw));
+    }
