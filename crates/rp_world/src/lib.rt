@@ -8,8 +8,6 @@ pub mod laws;
 mod notes;
 mod plays;
 mod runs;
-#[cfg(test)]
-mod tests;
 mod views;
 mod worlds;
 
