@@ -1,7 +1,6 @@
 //! The lines of a script: every form of line is read, or refused at its word.
 #![tactic(auto)]
 
-mod built;
 mod faults;
 mod forms;
 mod keywords;
@@ -17,7 +16,6 @@ mod sources;
 mod tests;
 mod words;
 
-pub use built::Forms;
 pub use faults::{LineFault, LineKind, ScriptFault, ScriptStop};
 pub use lines::{NumberedLine, ScriptLine};
 pub use scripts::Script;

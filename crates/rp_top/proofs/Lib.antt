@@ -1,5 +1,9 @@
+pub mod NextWord
+pub mod ReadsLines
 pub mod ReadsSource
-pub mod Playable
-pub mod RunProof
-pub mod Runs
+pub mod Sent
+pub mod Rows
+pub mod Plays
+pub mod ShownView
 pub mod HeadlineProof
+pub mod RunProof

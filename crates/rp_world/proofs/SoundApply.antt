@@ -1,7 +1,7 @@
 -- An application keeps a replica sound.
-use Rattle.std.proofs.Common.{◌≡◌, ◌≤◌, ◌<◌, ◌+◌, ◌-◌, ◌==◌, ℕ, suc, Bool, true, false, cond, not, nat_lt, List, [], ◌∷◌, ◌++◌, length, map, Option, None, Some, refl, sym, ap, subst, ◌∙◌, arith, length-append}
-use Rattle.std.specs.Prelude.{slice_get, IsFalse, ◌^◌}
-use Rattle.std.specs.List.{AllByRecursion, filter}
+use Rattle.std.proofs.Common.{◌≡◌, ◌≤◌, ◌+◌, ◌-◌, ℕ, Bool, true, false, cond, nat_lt, List, [], ◌∷◌, length, Option, None, Some, refl, ◌∙◌, arith, length-append}
+use Rattle.std.specs.Prelude.{slice_get, IsFalse}
+use Rattle.std.specs.List.{AllByRecursion}
 use Rattle.rp_base.specs.declared.ranges.Desc.{Desc}
 use Rattle.rp_base.specs.declared.items.Item.TheVariants as items
 use Rattle.rp_request.specs.Covers.{is_split}
@@ -16,8 +16,8 @@ use Rattle.rp_apply.specs.Rooms.{MaySplit}
 use Rattle.rp_apply.specs.declared.verdicts.Verdict.{Verdict}
 use Rattle.rp_apply.specs.declared.verdicts.Verdict.TheVariants as verdicts
 use Rattle.rp_pending.specs.Proposals.{waiting_again}
-use Rattle.rp_replica.specs.Allows.{MayApply, MayApplyNext, MayApplyThis}
-use Rattle.rp_replica.specs.Applications.{applied_one, payload_of, recorded, turned, turn_of}
+use Rattle.rp_replica.specs.Allows.{MayApply, MayApplyNext}
+use Rattle.rp_replica.specs.Applications.{applied_one, recorded, turned, turn_of}
 use Rattle.rp_replica.specs.Replicas.{Replica}
 use Rattle.rp_replica.specs.declared.plans.Turn.{Turn}
 use Rattle.rp_replica.specs.declared.plans.Turn.TheVariants as turns
@@ -42,31 +42,55 @@ written_seq s c verdicts.Nothing = refl
 recorded_sound : (r : Replica) (sent : List ℕ) (k most : ℕ) (c : Command) → IsSoundReplica r sent k most → r.applied.index + 1 ≤ last_index r.log → c.max ≤ r.assigned
     → IsSoundReplica (recorded r (payloads.Write c)) sent k most
 recorded_sound r sent k most c h next max = record {
-  pending = h.pending; entries = h.entries; base = h.base; index = next;
+  pending = h.pending;
+  entries = h.entries;
+  base = h.base;
+  index = next;
   lai = written_lai r.applied.state c (command_verdict r.applied.state c) r.assigned h.lai max;
   seq = written_seq r.applied.state c (command_verdict r.applied.state c) ∙ h.seq;
-  inbox = h.inbox; given = h.given; written = h.written;
+  inbox = h.inbox;
+  given = h.given;
+  written = h.written;
 }
 
 pub more_sound : (r : Replica) (sent : List ℕ) (k most : ℕ) → IsSoundReplica r sent k most → IsSoundReplica r sent k (most + 1)
 more_sound r sent k most h = record {
-  pending = h.pending; entries = h.entries; base = h.base; index = h.index; lai = h.lai; seq = h.seq; inbox = h.inbox;
-  given = omega (arith, h.given); written = omega (arith, h.written);
+  pending = h.pending;
+  entries = h.entries;
+  base = h.base;
+  index = h.index;
+  lai = h.lai;
+  seq = h.seq;
+  inbox = h.inbox;
+  given = omega (arith, h.given);
+  written = omega (arith, h.written);
 }
 
 turned_sound : (r : Replica) (sent : List ℕ) (k most : ℕ) (t : Turn) → IsSoundReplica r sent k most → IsSoundReplica (turned r t) sent k (most + 1)
 turned_sound r sent k most turns.Stays h = more_sound r sent k most h
 turned_sound r sent k most (turns.Ends id) h = record {
-  pending = all_filter (IsSent sent) _ r.pending h.pending; entries = h.entries; base = h.base; index = h.index; lai = h.lai; seq = h.seq; inbox = h.inbox;
-  given = omega (arith, h.given); written = omega (arith, h.written);
+  pending = all_filter (IsSent sent) _ r.pending h.pending;
+  entries = h.entries;
+  base = h.base;
+  index = h.index;
+  lai = h.lai;
+  seq = h.seq;
+  inbox = h.inbox;
+  given = omega (arith, h.given);
+  written = omega (arith, h.written);
 }
 turned_sound r sent k most (turns.WaitsAgain id) h =
     let long = length-append r.inbox (items.Write id ∷ []) in
     record {
       pending = changed_sent sent id waiting_again (λ p q. record { count = q.count; plain = q.plain }) r.pending h.pending;
-      entries = h.entries; base = h.base; index = h.index; lai = h.lai; seq = h.seq;
+      entries = h.entries;
+      base = h.base;
+      index = h.index;
+      lai = h.lai;
+      seq = h.seq;
       inbox = all_snoc IsWrite r.inbox (items.Write id) h.inbox tt;
-      given = omega (arith, h.given, long); written = omega (arith, h.written, long);
+      given = omega (arith, h.given, long);
+      written = omega (arith, h.written, long);
     }
 
 pub apply_sound : (r : Replica) (sent : List ℕ) (k most : ℕ) (c : Command) → IsSoundReplica r sent k most → r.applied.index + 1 ≤ last_index r.log → c.max ≤ r.assigned

@@ -1,8 +1,8 @@
 -- A flush keeps a replica sound.
-use Rattle.std.proofs.Common.{◌≡◌, ◌≤◌, ◌<◌, ◌+◌, ◌-◌, ◌==◌, ℕ, suc, max, Bool, true, false, cond, not, List, [], ◌∷◌, ◌++◌, length, map, Option, None, Some, refl, sym, ap, subst, ◌∙◌, arith, length-append}
-use Rattle.std.proofs.Math.Nat.{le-max_left, le-max_right, max-eq_left}
+use Rattle.std.proofs.Common.{◌≡◌, ◌≤◌, ◌+◌, ℕ, max, Bool, true, false, cond, not, List, [], ◌∷◌, ◌++◌, length, map, Option, None, Some, refl, sym, ap, subst, arith, length-append}
+use Rattle.std.proofs.Math.Nat.{max-eq_left}
 use Rattle.std.specs.Prelude.{filter_map, IsFalse}
-use Rattle.std.specs.List.{AllByRecursion, filter, find, cons_option}
+use Rattle.std.specs.List.{AllByRecursion, filter, cons_option}
 use Rattle.std.specs.Option.{option_map}
 use Rattle.rp_base.specs.declared.ids.CmdId.{CmdId}
 use Rattle.rp_base.specs.declared.items.Item.{Item}
@@ -11,8 +11,8 @@ use Rattle.rp_request.specs.Covers.{is_split}
 use Rattle.rp_request.specs.declared.commands.Payload.{Payload}
 use Rattle.rp_request.specs.declared.commands.Payload.TheVariants as payloads
 use Rattle.rp_codec.specs.Fits.{FitsPayload}
-use Rattle.rp_flush.specs.Assigns.{same_id, asks_of, ids_of, once, numbered, waits_under, assigned_of}
-use Rattle.rp_pending.specs.Proposals.{has_id, proposal_of, without, with_changed, proposed}
+use Rattle.rp_flush.specs.Assigns.{same_id, asks_of, ids_of, once, numbered, waits_under}
+use Rattle.rp_pending.specs.Proposals.{has_id, proposal_of, with_changed, proposed}
 use Rattle.rp_pending.specs.Refreshes.{waiting_of}
 use Rattle.rp_pending.specs.declared.proposals.Proposal.{Proposal}
 use Rattle.rp_raftlog.specs.declared.entries.Entry.{Entry}
@@ -107,7 +107,7 @@ flush_sound r sent k most ticks round h fit =
     let all = length-append r.log.entries (map entry_of (payloads_of r.pending (assigning r))) in
     let asks = no_asks r.inbox h.inbox in
     let is : payloads_of r.pending (assigning r) ≡ filter_map (write_of r.pending) (assigning r).writes =
-      ap (λ l. map payloads.Lease l ++ filter_map (write_of r.pending) (assigning r).writes) asks in
+    ap (λ l. map payloads.Lease l ++ filter_map (write_of r.pending) (assigning r).writes) asks in
     record {
       pending = proposed_sent sent (assigning r).writes ticks round _ (without_sent sent (assigning r).refused r.pending h.pending);
       entries = all_append (IsGiven (assigning r).last) r.log.entries _

@@ -1,9 +1,9 @@
 -- Lines that are built keep a node sound, and a sound node may play them.
-use Rattle.std.proofs.Common.{◌≡◌, ◌≢◌, ◌≤◌, ◌<◌, ◌+◌, ◌-◌, ◌==◌, ℕ, zero, suc, max, Bool, true, false, cond, not, nat_lt, List, [], ◌∷◌, ◌++◌, length, drop, map, replicate, get_or, set, Option, None, Some, Result, Ok, Err, refl, sym, ap, subst, ◌∙◌, arith, length-append, eqb-true}
+use Rattle.std.proofs.Common.{◌≡◌, ◌≢◌, ◌≤◌, ◌<◌, ◌+◌, ◌-◌, ◌==◌, ℕ, zero, suc, max, Bool, true, false, cond, nat_lt, List, [], ◌∷◌, ◌++◌, length, drop, replicate, get_or, set, Option, None, Some, Result, Ok, Err, refl, sym, ap, subst, ◌∙◌, arith, length-append, eqb-true}
 use Rattle.std.specs.Prelude.{IsFalse, ◌^◌}
-use Rattle.std.specs.List.{AllByRecursion, find}
+use Rattle.std.specs.List.{AllByRecursion}
 use Rattle.std.proofs.Math.Nat.{max-eq_left}
-use Rattle.std.proofs.lemmas.List.{drop_more, get_or-replicate, length-replicate, get_or-set_other, get_or-set_same, length-set}
+use Rattle.std.proofs.lemmas.List.{drop_more, length-replicate, get_or-set_other, get_or-set_same, length-set}
 use Rattle.std.proofs.lemmas.Bool.Decides.{nat_tests}
 use Rattle.rp_base.specs.declared.ids.CmdId.{CmdId}
 use Rattle.rp_base.specs.declared.items.Item.TheVariants as items
@@ -32,7 +32,7 @@ use Rattle.rp_world.specs.Allows.{MayPlay, MaySend}
 use Rattle.rp_world.specs.Builds.{unbuilt_request, unbuilt_word}
 use Rattle.rp_world.specs.Notes.{absent_text, full_text}
 use Rattle.rp_world.specs.Sound.{IsPlayable}
-use Rattle.rp_world.specs.Playing.{applied, asked, collected, flushed, happens, has_replica, noted, peeked, placed, played, played_all, sent, told, where_present}
+use Rattle.rp_world.specs.Playing.{applied, asked, collected, flushed, happens, has_replica, noted, peeked, played, played_all, told}
 use Rattle.rp_world.specs.Sound.{IsSent, IsGiven, IsWrite, IsSoundReplica, IsSound, FlushFits}
 use Rattle.rp_replica.specs.Writes.{WritesFit}
 use Rattle.rp_world.specs.Worlds.{World, started, with_note, with_outcome, took, next_command, counted}
@@ -52,9 +52,13 @@ starts_sound = record {
   waiting = tt;
   replica = record { pending = tt; entries = tt; base = refl; index = omega arith; lai = omega arith; seq = refl; inbox = tt; given = omega arith; written = omega arith };
 }
+
 grown_sound : (w : World) (n most : ℕ) → IsSound w n most → IsSound w (n + 1) (most + 1)
 grown_sound w n most h = record {
-  clients = h.clients; counts = λ i. (let c = h.counts i in omega (arith, c)); waiting = h.waiting; replica = more_sound w.replica w.sent _ most h.replica;
+  clients = h.clients;
+  counts = λ i. (let c = h.counts i in omega (arith, c));
+  waiting = h.waiting;
+  replica = more_sound w.replica w.sent _ most h.replica;
 }
 
 noted_sound : (w : World) (n most line : ℕ) (text : List ℕ) → IsSound w n most → IsSound (with_note w line text) n most
@@ -63,7 +67,14 @@ noted_sound w n most line text h = record { clients = h.clients; counts = h.coun
 resent : (r : Replica) (old new : List ℕ) (k most : ℕ) → ((j : ℕ) → get_or old j 0 ≤ get_or new j 0) → IsSoundReplica r old k most → IsSoundReplica r new k most
 resent r old new k most grows h = record {
   pending = all_weaker (IsSent old) (IsSent new) (λ p q. (let g = grows (p.id.client - 1) in record { count = omega (arith, g, q.count); plain = q.plain })) r.pending h.pending;
-  entries = h.entries; base = h.base; index = h.index; lai = h.lai; seq = h.seq; inbox = h.inbox; given = h.given; written = h.written;
+  entries = h.entries;
+  base = h.base;
+  index = h.index;
+  lai = h.lai;
+  seq = h.seq;
+  inbox = h.inbox;
+  given = h.given;
+  written = h.written;
 }
 
 set_at : (xs : List ℕ) (c v j : ℕ) → c < length xs → (b : Bool) → (j == c) ≡ b → get_or (set xs c v) j 0 ≡ cond b v (get_or xs j 0)
@@ -100,10 +111,19 @@ placed_by w n most line id true h =
     let r = h.replica in
     let long = length-append w.waiting (items.Write id ∷ []) in
     record {
-      clients = h.clients; counts = h.counts; waiting = all_snoc IsWrite w.waiting (items.Write id) h.waiting tt;
+      clients = h.clients;
+      counts = h.counts;
+      waiting = all_snoc IsWrite w.waiting (items.Write id) h.waiting tt;
       replica = record {
-        pending = r.pending; entries = r.entries; base = r.base; index = r.index; lai = r.lai; seq = r.seq; inbox = r.inbox;
-        given = omega (arith, r.given, long); written = omega (arith, r.written, long);
+        pending = r.pending;
+        entries = r.entries;
+        base = r.base;
+        index = r.index;
+        lai = r.lai;
+        seq = r.seq;
+        inbox = r.inbox;
+        given = omega (arith, r.given, long);
+        written = omega (arith, r.written, long);
       };
     }
 placed_by w n most line id false h = record { clients = h.clients; counts = h.counts; waiting = h.waiting; replica = more_sound w.replica w.sent _ most h.replica }
@@ -114,10 +134,19 @@ told_sound : (w : World) (n most line : ℕ) (id : CmdId) (request : Request) (g
 told_sound w n most line id request (Ok e) h named plain =
     let r = h.replica in
     placed_by (with_outcome (took w (admitted_by w.replica id request (Ok e))) id outcomes.Pending) n most line id (nat_lt (length w.waiting) 16) (record {
-      clients = h.clients; counts = h.counts; waiting = h.waiting;
+      clients = h.clients;
+      counts = h.counts;
+      waiting = h.waiting;
       replica = record {
         pending = all_snoc (IsSent w.sent) w.replica.pending (proposal id request e w.replica.applied.state.lease.seq) r.pending (record { count = named; plain = plain });
-        entries = r.entries; base = r.base; index = r.index; lai = r.lai; seq = r.seq; inbox = r.inbox; given = r.given; written = r.written;
+        entries = r.entries;
+        base = r.base;
+        index = r.index;
+        lai = r.lai;
+        seq = r.seq;
+        inbox = r.inbox;
+        given = r.given;
+        written = r.written;
       };
     })
 told_sound w n most line id request (Err refusal) h named plain =
@@ -140,11 +169,19 @@ collected_sound w n most h =
     let r = h.replica in
     let long = length-append w.replica.inbox w.waiting in
     record {
-      clients = h.clients; counts = h.counts; waiting = tt;
+      clients = h.clients;
+      counts = h.counts;
+      waiting = tt;
       replica = record {
-        pending = r.pending; entries = r.entries; base = r.base; index = r.index; lai = r.lai; seq = r.seq;
+        pending = r.pending;
+        entries = r.entries;
+        base = r.base;
+        index = r.index;
+        lai = r.lai;
+        seq = r.seq;
         inbox = all_append IsWrite w.replica.inbox w.waiting r.inbox h.waiting;
-        given = omega (arith, r.given, long); written = omega (arith, r.written, long);
+        given = omega (arith, r.given, long);
+        written = omega (arith, r.written, long);
       };
     }
 
@@ -160,7 +197,9 @@ applied_at w n most line (Some e) h known =
     let g = (known e refl).0 in
     subst (λ p. IsSound (noted (took w (applied_where w.replica p)) line (applied_where w.replica p).answer) n (most + 1)) (sym g.carries)
     (record {
-      clients = h.clients; counts = h.counts; waiting = h.waiting;
+      clients = h.clients;
+      counts = h.counts;
+      waiting = h.waiting;
       replica = apply_sound w.replica w.sent (length w.waiting) most g.command h.replica (known e refl).1 g.given;
     })
 

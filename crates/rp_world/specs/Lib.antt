@@ -5,4 +5,4 @@ pub mod Views
 pub mod Allows
 pub mod Builds
 pub mod Sound
-pub mod Shown
+pub mod Shows

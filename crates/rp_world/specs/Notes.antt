@@ -1,6 +1,5 @@
 -- What lines of a script have to tell (this project's notes).
 use Rattle.std.specs.Prelude.{ℕ, List, ◌++◌, Option, codes}
-use Rattle.rp_base.specs.Keys.{key_text}
 use Rattle.rp_report.specs.Words.{spaced, spaced_key, value_text}
 
 -- as many items wait as may wait

@@ -1,5 +1,5 @@
 -- What the node shows.
-use Rattle.std.specs.Prelude.{ℕ, List, [], ◌∷◌, map}
+use Rattle.std.specs.Prelude.{ℕ, [], ◌∷◌, map}
 use Rattle.std.specs.FinMap.{entries}
 use Rattle.rp_base.specs.declared.ids.CmdId.{CmdId}
 use Rattle.rp_request.specs.declared.notes.Answer.{Answer}

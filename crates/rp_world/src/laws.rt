@@ -5,6 +5,9 @@ ghost use Rattle.rp_script.specs.declared.lines.ScriptLine.{ScriptLine};
 ghost use Rattle.rp_world.specs.Allows.{MayPlay};
 ghost use Rattle.rp_world.specs.Builds.{unbuilt_word};
 ghost use Rattle.rp_world.specs.Playing.{played};
+ghost use Rattle.rp_report.specs.Shown.{IsShownView};
+ghost use Rattle.rp_world.specs.Shows.{IsShowing};
+ghost use Rattle.rp_world.specs.Views.{view_of};
 ghost use Rattle.rp_world.specs.Sound.{IsSound, FlushFits};
 ghost use Rattle.rp_world.specs.Worlds.{World, started};
 
@@ -28,4 +31,20 @@ pub fn a_sound_node_may_play()
 /// And it can be shown.
 pub fn a_sound_node_can_be_shown()
     ensures { (w : World) (n : ℕ) (most : ℕ) → IsSound w n most → most ≤ 65536 → w.replica.applied.index < 2 ^ 64 - 1 }
+{}
+
+/// At the start what a node shows can be written.
+#[tactic(auto, using(crate::proofs::Showing::starts_showing))]
+pub fn a_node_starts_showing()
+    ensures { IsShowing started }
+{}
+
+/// A line leaves it so.
+pub fn a_line_keeps_what_is_shown()
+    ensures { (w : World) (n : ℕ) (most : ℕ) (line : ℕ) (l : ScriptLine) → IsSound w n most → IsShowing w → IsShowing (played w line l) }
+{}
+
+/// What a sound node shows can be written.
+pub fn what_is_shown_can_be_written()
+    ensures { (w : World) (n : ℕ) (most : ℕ) → IsSound w n most → most ≤ 65536 → IsShowing w → IsShownView (view_of w) }
 {}

@@ -8,6 +8,8 @@ pub mod laws;
 mod notes;
 mod plays;
 mod runs;
+#[cfg(test)]
+mod tests;
 mod views;
 mod worlds;
 

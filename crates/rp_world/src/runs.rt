@@ -1,7 +1,8 @@
 ghost use Rattle.std.specs.Prelude.{◌≡◌, ◌-◌, ◌≤◌, ◌<◌, ◌^◌, true, length, IfOk};
 ghost use Rattle.std.specs.List.{AllByRecursion};
+ghost use Rattle.rp_report.specs.Shown.{IsShownView};
+ghost use Rattle.rp_world.specs.Views.{view_of};
 ghost use Rattle.rp_world.specs.Playing.{played_all};
-ghost use Rattle.rp_world.specs.Shown.{IsShownWorld};
 ghost use Rattle.rp_world.specs.Sound.{IsPlayable, IsSound};
 ghost use Rattle.rp_world.specs.Worlds.{started};
 
@@ -45,8 +46,8 @@ pub fn play_lines(alloc: Global, lines: &[NumberedLine]) -> Result<World, NoMemo
     requires playable { AllByRecursion IsPlayable lines.now }
     ensures played { IfOk result (λ w. w ≡ played_all started lines.now) }
     ensures small { IfOk result (λ w. w.replica.applied.index < 2 ^ 64 - 1) }
+    ensures shown { IfOk result (λ w. IsShownView (view_of w)) }
     ensures sound { IfOk result (λ w. IsSound w (length lines.now) (length lines.now)) }
-    ensures shown { IfOk result IsShownWorld }
 {
     let mut world = World::start(alloc);
     for line in lines {
