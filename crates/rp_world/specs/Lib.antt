@@ -1,8 +1,0 @@
-pub mod Notes
-pub mod Worlds
-pub mod Playing
-pub mod Views
-pub mod Allows
-pub mod Builds
-pub mod Sound
-pub mod Shows
