@@ -5,3 +5,5 @@ pub mod WordCount
 pub mod ReadsLines
 pub mod Refusals
 pub mod Rules
+pub mod NotBuilt
+pub mod Taken

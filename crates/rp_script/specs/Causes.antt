@@ -1,5 +1,5 @@
 -- Where each kind of refusal comes.
-use Rattle.std.specs.Prelude.{◌≡◌, ℕ, zero, suc, ◌+◌, List, [], ◌∷◌, length, take, Option, Some, None, Result, Err, IsOk, IsErr, IfErr, IsSome, IsNone, IsTrue, IsFalse, ◌⊎◌, ◌≢◌}
+use Rattle.std.specs.Prelude.{◌≡◌, ℕ, zero, suc, ◌+◌, List, [], ◌∷◌, length, take, Option, Some, None, Result, Ok, Err, IsOk, IsErr, IfErr, IsSome, IsNone, IsTrue, IsFalse, ◌⊎◌, ◌≢◌}
 use Rattle.rp_base.specs.Numbers.{u64_of}
 use Rattle.rp_base.specs.Keys.{key_of}
 use Rattle.rp_base.specs.declared.NumberFault.{NumberFault}
@@ -7,10 +7,15 @@ use Rattle.rp_base.specs.declared.NumberFault.TheVariants as numbers
 use Rattle.rp_script.specs.Keywords.{request_word_of, is_barred_in_race}
 use Rattle.rp_script.specs.Readers.{Reader, bad, bound_in}
 use Rattle.rp_script.specs.Forms.{cluster, form}
-use Rattle.rp_script.specs.Seen.{Seen, placed}
+use Rattle.rp_script.specs.Seen.{Seen, placed, judged}
+use Rattle.rp_script.specs.Built.{unbuilt_in}
+use Rattle.rp_script.specs.Meaning.{judged_in}
+use Rattle.rp_script.specs.declared.built.Forms.{Forms}
 use Rattle.rp_script.specs.declared.faults.BadWord.{BadWord}
 use Rattle.rp_script.specs.declared.faults.LineKind.{LineKind}
 use Rattle.rp_script.specs.declared.faults.LineKind.TheVariants as kinds
+use Rattle.rp_script.specs.declared.faults.ScriptFault.{ScriptFault}
+use Rattle.rp_script.specs.declared.faults.ScriptFault.TheVariants.{Refused}
 use Rattle.rp_script.specs.declared.keywords.Keyword.{Keyword}
 use Rattle.rp_script.specs.declared.keywords.Keyword.TheVariants as keywords
 use Rattle.rp_script.specs.declared.keywords.RequestWord.TheVariants as requests
@@ -78,3 +83,18 @@ RulesRefuse = (s : Seen) (k : Keyword) (words : List (List ℕ)) (kind : LineKin
 abbrev pub RefusalsHaveCauses : Type 0
 RefusalsHaveCauses = (s : Seen) (k : Keyword) (words : List (List ℕ))
     → IfErr (placed s k words) (λ e. ((e.word ≡ 1) × IsRule s k e.kind) ⊎ Refuses 2 (reader_by s.nodes s.commands k) words e)
+
+-- the rules of the script take the line, and these forms do not have it, from this word on
+abbrev pub IsUnbuilt : Forms → ℕ → Result (Option ScriptLine) ScriptFault → Type 0
+IsUnbuilt forms word (Ok (Some line)) = unbuilt_in forms line ≡ Some word
+IsUnbuilt forms word r = ⊥
+
+-- what the line answers that is not built from this word on
+abbrev pub not_built : Seen → ℕ → Result (Option ScriptLine) ScriptFault
+not_built s word = Err (Refused (s.lines + 1) word kinds.NotBuilt)
+
+-- a line is refused as not built where the rules take it and its form is not built, and nowhere else
+abbrev pub NotBuiltExactly : Type 0
+NotBuiltExactly = (forms : Forms) (s : Seen) (line : List ℕ) (word : ℕ)
+    → (IsUnbuilt forms word (judged s line) → judged_in forms s line ≡ not_built s word)
+    × (judged_in forms s line ≡ not_built s word → IsUnbuilt forms word (judged s line))

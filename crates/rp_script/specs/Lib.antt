@@ -2,6 +2,7 @@ pub mod Words
 pub mod Keywords
 pub mod Readers
 pub mod Requests
+pub mod Built
 pub mod Bounds
 pub mod Forms
 pub mod Seen

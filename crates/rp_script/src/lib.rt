@@ -1,6 +1,7 @@
 //! The lines of a script: every form of line is read, or refused at its word.
 #![tactic(auto)]
 
+mod built;
 mod faults;
 mod forms;
 mod keywords;
@@ -16,6 +17,7 @@ mod sources;
 mod tests;
 mod words;
 
+pub use built::Forms;
 pub use faults::{LineFault, LineKind, ScriptFault, ScriptStop};
 pub use lines::{NumberedLine, ScriptLine};
 pub use scripts::Script;

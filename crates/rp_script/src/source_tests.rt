@@ -1,5 +1,5 @@
 use crate::{
-    LineKind, NumberedLine, ScriptFault, ScriptLine, ScriptReader, ScriptStop, read_lines,
+    Forms, LineKind, NumberedLine, ScriptFault, ScriptLine, ScriptReader, ScriptStop, read_lines,
 };
 use rp_base::{Key, NodeId, RangeId, Seq, Which};
 use rp_request::Request;
@@ -17,7 +17,7 @@ fn stops(read: &Result<Seq<NumberedLine>, ScriptStop>, fault: ScriptFault) -> bo
 /// Whether a script that is no race's is refused at this line and word.
 fn refused(alloc: Global, source: &[u8], line: u32, word: u32, kind: LineKind) -> bool {
     stops(
-        &read_lines(alloc, false, source),
+        &read_lines(alloc, Forms::All, false, source),
         ScriptFault::Refused { line, word, kind },
     )
 }
@@ -25,7 +25,7 @@ fn refused(alloc: Global, source: &[u8], line: u32, word: u32, kind: LineKind) -
 /// Whether a script that is no race's passes a limit.
 fn limited(alloc: Global, source: &[u8], which: Which, count: u64) -> bool {
     stops(
-        &read_lines(alloc, false, source),
+        &read_lines(alloc, Forms::All, false, source),
         ScriptFault::Limit { which, count },
     )
 }
@@ -131,14 +131,22 @@ fn ends(rt: HostRuntime) {
 
 #[test]
 fn races(rt: HostRuntime) {
-    let read = read_lines(rt.alloc(), true, b"cluster 1\ntick 1 1\n");
+    let read = read_lines(rt.alloc(), Forms::All, true, b"cluster 1\ntick 1 1\n");
     let fault = ScriptFault::Refused {
         line: 2,
         word: 1,
         kind: LineKind::NotInRace,
     };
     assert!(rt; stops(&read, fault));
-    assert!(rt; read_lines(rt.alloc(), true, b"cluster 1\ntransfer 1 0 1\nend\n").is_ok());
+    assert!(rt;
+        read_lines(
+            rt.alloc(),
+            Forms::All,
+            true,
+            b"cluster 1\ntransfer 1 0 1\nend\n"
+        )
+        .is_ok()
+    );
 }
 
 #[test]
@@ -146,7 +154,7 @@ fn pieces_that_cut_lines(rt: HostRuntime) -> Result<(), Fail> {
     let node = NodeId::new(1).ok_or("1")?;
     let range = RangeId::new(0).ok_or("0")?;
     let key = Key::read(b"a").map_err(|_| "a")?;
-    let reader = ScriptReader::new(rt.alloc(), false)
+    let reader = ScriptReader::new(rt.alloc(), false, Forms::All)
         .feed(b"# one put\n\nclus")
         .map_err(|_| "first")?
         .feed(b"ter 1\nsend 1 0 1 put a 5\n")
@@ -182,7 +190,7 @@ fn limits(rt: HostRuntime) -> Result<(), Fail> {
 
 /// A race of so many commands, and then this line.
 fn race_of(alloc: Global, commands: u32, line: &[u8]) -> Result<Seq<NumberedLine>, ScriptStop> {
-    let mut reader = ScriptReader::new(alloc, true).feed(b"cluster 1\n")?;
+    let mut reader = ScriptReader::new(alloc, true, Forms::All).feed(b"cluster 1\n")?;
     for _ in 0..commands {
         reader = reader.feed(b"send 1 0 1 del a\n")?;
     }
@@ -198,4 +206,52 @@ fn commands_of_a_race(rt: HostRuntime) {
     assert!(rt; race_of(rt.alloc(), 4096, b"end").is_ok());
     assert!(rt; stops(&race_of(rt.alloc(), 4096, b"send"), fault));
     assert!(rt; stops(&race_of(rt.alloc(), 4096, b"send \t"), fault));
+}
+
+/// Whether a script of one node is refused at this line and word.
+fn refused_by_one(alloc: Global, source: &[u8], line: u32, word: u32, kind: LineKind) -> bool {
+    stops(
+        &read_lines(alloc, Forms::OneNode, false, source),
+        ScriptFault::Refused { line, word, kind },
+    )
+}
+
+#[test]
+fn forms_that_are_not_built(rt: HostRuntime) {
+    let alloc = rt.alloc();
+    assert!(rt; refused_by_one(alloc, b"cluster 2\n", 1, 2, LineKind::NotBuilt));
+    assert!(rt; refused(alloc, b"cluster 2\n", 2, 0, LineKind::NoEnd));
+    let split = b"cluster 1\nsend 1 0 1 split m\nend\n";
+    assert!(rt; refused_by_one(alloc, split, 2, 5, LineKind::NotBuilt));
+    let admitted = b"cluster 1\nadmit 1 0 1 split m\nend\n";
+    assert!(rt; refused_by_one(alloc, admitted, 2, 5, LineKind::NotBuilt));
+    let put = b"cluster 1\nadmit 1 0 1 put a 1\nend\n";
+    assert!(rt; refused_by_one(alloc, put, 2, 1, LineKind::NotBuilt));
+    let later = b"cluster 1\nask 1 0\n\ncluster 1\n";
+    assert!(rt; refused_by_one(alloc, later, 2, 1, LineKind::NotBuilt));
+    assert!(rt; refused(alloc, later, 4, 1, LineKind::SecondCluster));
+}
+
+#[test]
+fn rules_before_forms(rt: HostRuntime) {
+    let alloc = rt.alloc();
+    assert!(rt; refused_by_one(alloc, b"cluster 6\n", 1, 2, LineKind::OutOfRange));
+    assert!(rt; refused_by_one(alloc, b"cluster 2 x\n", 1, 3, LineKind::ExtraWord));
+    assert!(rt; refused_by_one(alloc, b"cluster 1\nask 2 0\n", 2, 2, LineKind::OutOfRange));
+    assert!(rt;
+        refused_by_one(
+            alloc,
+            b"cluster 1\nend\nask 1 0\n",
+            3,
+            1,
+            LineKind::AfterEnd
+        )
+    );
+    assert!(rt; refused_by_one(alloc, b"cluster 1", 2, 0, LineKind::NoEnd));
+}
+
+#[test]
+fn forms_of_one_node(rt: HostRuntime) {
+    let played = b"cluster 1\nsend 1 0 1 put a 1\nflush 1 0\napply 1 0\npeek 1 0 a\nend\n";
+    assert!(rt; read_lines(rt.alloc(), Forms::OneNode, false, played).is_ok());
 }

@@ -1,19 +1,25 @@
-ghost use Rattle.std.specs.Prelude.{◌≡◌, ◌+◌, ◌≤◌, ◌<◌, length, IfOk, OnOk};
+ghost use Rattle.std.specs.Prelude.{◌≡◌, ◌+◌, ◌≤◌, ◌<◌, length, IfOk, IfSome, OnOk};
 ghost use Rattle.rp_script.specs.Gives.{Gives};
-ghost use Rattle.rp_script.specs.Meaning.{meaning};
+ghost use Rattle.rp_script.specs.Bounds.{IsBounded, IsTaken};
+ghost use Rattle.rp_script.specs.Built.{unbuilt_in};
+ghost use Rattle.std.specs.List.{AllByRecursion};
+ghost use Rattle.rp_script.specs.Meaning.{judged_in, meaning};
 ghost use Rattle.rp_script.specs.Reading.{unread, line_ended, fed, fed_all, closed, finished, weight};
 
+use crate::built::Forms;
 use crate::faults::{LineKind, ScriptFault, ScriptStop};
-use crate::lines::NumberedLine;
+use crate::lines::{NumberedLine, ScriptLine};
 use crate::scripts::Script;
 use rp_base::{Seq, Which};
 use std::alloc::Global;
 use std::marker::Model;
 
-/// A script that is being read, piece after piece. Contracts see what must be known of the lines
-/// that ended, the bytes of the line that has begun, and what the lines said.
+/// A script that is being read, piece after piece. Contracts see the forms of line that are built,
+/// what must be known of the lines that ended, the bytes of the line that has begun, and what the
+/// lines said.
 #[derive(Drop)]
 pub struct ScriptReader {
+    forms: Forms,
     script: Script,
     line: Vec<u8>,
     taken: Vec<NumberedLine>,
@@ -21,15 +27,18 @@ pub struct ScriptReader {
 
 impl Model for ScriptReader {
     ghost use Rattle.std.specs.Prelude.{◌+◌, ◌*◌, ◌≤◌, length};
+    ghost use Rattle.std.specs.List.{AllByRecursion};
+    ghost use Rattle.rp_script.specs.Bounds.{IsTaken};
     ghost use Rattle.rp_script.specs.Reading.{Reading};
 
     ghost Value = { Reading };
 
-    ghost view = { λ r. record { seen = r.script; line = r.line.items; taken = r.taken.items } };
+    ghost view = { λ r. record { forms = r.forms; seen = r.script; line = r.line.items; taken = r.taken.items } };
 
     ghost invariant = { λ r. (length r.line.items ≤ 256)
         × (r.script.lines * 257 + length r.line.items ≤ 16842752)
-        × (length r.taken.items ≤ r.script.lines) };
+        × (length r.taken.items ≤ r.script.lines)
+        × AllByRecursion (IsTaken r.forms) r.taken.items };
 }
 
 /// A limit is passed by this count.
@@ -55,26 +64,51 @@ fn cut_off(line: u32, kind: LineKind) -> ScriptStop
 }
 
 impl ScriptReader {
-    /// Nothing was read. A race takes fewer forms of line. It takes no memory.
-    pub fn new(alloc: Global, race: bool) -> ScriptReader
-        ensures { result ≡ unread race }
+    /// Nothing was read. A race takes fewer forms of line, and a line of a form that is not built is
+    /// refused. It takes no memory.
+    pub fn new(alloc: Global, race: bool, forms: Forms) -> ScriptReader
+        ensures { result ≡ unread forms race }
     {
         ScriptReader {
+            forms,
             script: Script::new(race),
             line: Vec::new(alloc),
             taken: Vec::new(alloc),
         }
     }
 
+    /// What the line that has begun says. Its own limit or refusal comes before that its form is not
+    /// built.
+    fn judge(&self) -> Result<Option<ScriptLine>, ScriptFault>
+        ensures line { result ≡ judged_in self.now.forms self.now.seen self.now.line }
+        ensures bounded { IfOk result (λ o. IfSome o IsBounded) }
+        ensures built { IfOk result (λ o. IfSome o (λ l. unbuilt_in self.now.forms l ≡ None)) }
+    {
+        let said = self.script.judge(&self.line)?;
+        let Some(line) = said else {
+            return Ok(None);
+        };
+        match self.forms.unbuilt_in(&line) {
+            None => Ok(Some(line)),
+            Some(word) => Err(ScriptFault::Refused {
+                line: self.script.lines() + 1,
+                word,
+                kind: LineKind::NotBuilt,
+            }),
+        }
+    }
+
     /// Ends the line that has begun.
+    #[tactic(auto, using(crate::proofs::Taken::taken_more))]
     fn end_line(&mut self) -> Result<(), ScriptStop>
         requires { self.old.seen.lines < 65536 }
         ensures gives { Gives (λ _. self.new) result (line_ended self.old) }
         ensures further { OnOk result (weight self.old + 1 ≤ weight self.new) }
+        ensures forms { self.new.forms ≡ self.old.forms }
         ensures ends { weight self.new ≤ 16842752 }
     {
         let number = self.script.lines() + 1;
-        let said = self.script.judge(&self.line)?;
+        let said = self.judge()?;
         self.script.keep(&said);
         self.line.clear();
         if let Some(line) = said {
@@ -87,6 +121,7 @@ impl ScriptReader {
     fn feed_byte(&mut self, byte: u8) -> Result<(), ScriptStop>
         ensures gives { Gives (λ _. self.new) result (fed self.old byte) }
         ensures further { OnOk result (weight self.old + 1 ≤ weight self.new) }
+        ensures forms { self.new.forms ≡ self.old.forms }
         ensures ends { weight self.new ≤ 16842752 }
     {
         if self.script.lines() == 65536 {
@@ -106,6 +141,7 @@ impl ScriptReader {
     fn feed_all(&mut self, piece: &[u8]) -> Result<(), ScriptStop>
         ensures gives { Gives (λ _. self.new) result (fed_all self.old piece.now) }
         ensures further { OnOk result (weight self.old + length piece.now ≤ weight self.new) }
+        ensures forms { self.new.forms ≡ self.old.forms }
         ensures ends { weight self.new ≤ 16842752 }
     {
         let _ = &self.line;
@@ -120,6 +156,7 @@ impl ScriptReader {
     pub fn feed(mut self, piece: &[u8]) -> Result<ScriptReader, ScriptStop>
         ensures gives { Gives (λ reader. reader) result (fed_all self piece.now) }
         ensures further { IfOk result (λ reader. weight self + length piece.now ≤ weight reader) }
+        ensures forms { IfOk result (λ reader. reader.forms ≡ self.forms) }
         ensures ends { IfOk result (λ reader. weight reader ≤ 16842752) }
     {
         self.feed_all(piece)?;
@@ -130,6 +167,7 @@ impl ScriptReader {
     pub fn finish(mut self) -> Result<Seq<NumberedLine>, ScriptStop>
         ensures gives { Gives (λ lines. lines) result (finished self self.line) }
         ensures few { IfOk result (λ lines. length lines ≤ 65536) }
+        ensures taken { IfOk result (λ lines. AllByRecursion (IsTaken self.forms) lines) }
     {
         if !self.line.is_empty() {
             self.end_line()?;
@@ -141,8 +179,10 @@ impl ScriptReader {
     fn close(self) -> Result<Seq<NumberedLine>, ScriptStop>
         ensures gives { Gives (λ lines. lines) result (closed self) }
         ensures few { IfOk result (λ lines. length lines ≤ 65536) }
+        ensures taken { IfOk result (λ lines. AllByRecursion (IsTaken self.forms) lines) }
     {
         let ScriptReader {
+            forms: _,
             script,
             line: _,
             taken,
@@ -154,12 +194,19 @@ impl ScriptReader {
     }
 }
 
-/// Reads a script that is at hand whole: its lines that are not skipped, or what ends it.
-pub fn read_lines(alloc: Global, race: bool, source: &[u8]) -> Result<Seq<NumberedLine>, ScriptStop>
-    ensures meaning { Gives (λ lines. lines) result (meaning race source.now) }
+/// Reads a script that is at hand whole, where these forms of line are built: its lines that are not
+/// skipped, or what ends it.
+pub fn read_lines(
+    alloc: Global,
+    forms: Forms,
+    race: bool,
+    source: &[u8],
+) -> Result<Seq<NumberedLine>, ScriptStop>
+    ensures meaning { Gives (λ lines. lines) result (meaning forms race source.now) }
     ensures few { IfOk result (λ lines. length lines ≤ 65536) }
+    ensures taken { IfOk result (λ lines. AllByRecursion (IsTaken forms) lines) }
 {
-    let reader = match ScriptReader::new(alloc, race).feed(source) {
+    let reader = match ScriptReader::new(alloc, race, forms).feed(source) {
         Ok(reader) => reader,
         Err(stop) => return Err(stop),
     };

@@ -1,9 +1,5 @@
-pub mod NextWord
-pub mod ReadsLines
 pub mod ReadsSource
-pub mod Sent
-pub mod Rows
-pub mod Plays
-pub mod ShownView
-pub mod HeadlineProof
+pub mod Playable
 pub mod RunProof
+pub mod Runs
+pub mod HeadlineProof

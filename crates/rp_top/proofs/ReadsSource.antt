@@ -1,20 +1,17 @@
 -- A script read from a source piece after piece.
-use Rattle.std.proofs.Common.{◌≡◌, ℕ, List, [], ◌∷◌, ◌++◌, Option, Some, None, Result, Ok, Err, refl, ap, ◌∙◌, sym, subst, append_assoc}
+use Rattle.std.proofs.Common.{◌≡◌, ℕ, false, List, [], ◌++◌, Option, Some, None, Result, Ok, Err, refl, ap, ◌∙◌, sym, subst, append_assoc}
 use Rattle.rp_outside.specs.Devices.{Comes, IsAtEnd, IsAll}
 use Rattle.rp_outside.proofs.Told.{comes_more}
-use Rattle.rp_top.specs.Script.{◌>>=◌, meaning}
-use Rattle.rp_top.specs.Reading.{Reading, unread, fed, fed_all, finished}
+use Rattle.rp_script.specs.Meaning.{◌>>=◌}
+use Rattle.rp_script.specs.Reading.{Reading, unread, fed_all, finished}
+use Rattle.rp_script.specs.declared.built.Forms.TheVariants.{OneNode}
+use Rattle.rp_script.specs.declared.faults.ScriptFault.{ScriptFault}
+use Rattle.rp_script.specs.declared.lines.NumberedLine.{NumberedLine}
+use Rattle.rp_script.proofs.ReadsLines.{append-nil, reads_meaning, reads_pieces}
+use Rattle.rp_top.specs.Scripts.{script_of}
 use Rattle.rp_top.specs.Gives.{Stops, Gives, Reads, HasCome}
-use Rattle.rp_top.specs.declared.script.faults.Fault.{Fault}
-use Rattle.rp_top.specs.declared.script.lines.Group.{Group}
-use Rattle.rp_top.specs.declared.script.stops.Stop.{Stop}
-use Rattle.rp_top.specs.declared.script.stops.Stop.TheVariants as stops
-use Rattle.rp_top.proofs.ReadsLines.{same_bind, bind_assoc, append-nil, reads_meaning}
-
-fed_all-append : (r : Reading) (xs ys : List ℕ) → fed_all r (xs ++ ys) ≡ (fed_all r xs >>= λ s. fed_all s ys)
-fed_all-append r [] ys = refl
-fed_all-append r (x ∷ xs) ys =
-    same_bind (fed r x) _ _ (λ s. fed_all-append s xs ys) ∙ sym (bind_assoc (fed r x) (λ s. fed_all s xs) (λ s. fed_all s ys))
+use Rattle.rp_top.specs.declared.stops.Stop.{Stop}
+use Rattle.rp_top.specs.declared.stops.Stop.TheVariants as stops
 
 -- a fault of the source says nothing of the script
 pub any_script : (a : Option (List ℕ)) → (x : List ℕ) × IsAll a x × Unit {0}
@@ -25,37 +22,37 @@ pub came_further : (a b c : Option (List ℕ)) (r s : Reading) (piece : List ℕ
 came_further a b c r s piece h came leads = record {
   bytes = h.bytes ++ piece;
   comes = comes_more a b c h.bytes piece h.comes came;
-  leads = fed_all-append unread h.bytes piece ∙ ap (λ v. v >>= λ t. fed_all t piece) h.leads ∙ leads;
+  leads = reads_pieces (unread OneNode false) h.bytes piece ∙ ap (λ v. v >>= λ t. fed_all t piece) h.leads ∙ leads;
 }
 
-stopped : (bytes piece rest : List ℕ) (r : Reading) (fault : Fault) → fed_all unread bytes ≡ Ok r → fed_all r piece ≡ Err fault
-    → meaning ((bytes ++ piece) ++ rest) ≡ Err fault
+stopped : (bytes piece rest : List ℕ) (r : Reading) (fault : ScriptFault) → fed_all (unread OneNode false) bytes ≡ Ok r → fed_all r piece ≡ Err fault
+    → script_of ((bytes ++ piece) ++ rest) ≡ Err fault
 stopped bytes piece rest r fault leads stops =
-    sym (reads_meaning ((bytes ++ piece) ++ rest))
-    ∙ ap (λ v. v >>= λ s. finished s s.line) (fed_all-append unread (bytes ++ piece) rest
-    ∙ ap (λ v. v >>= λ t. fed_all t rest) (fed_all-append unread bytes piece ∙ ap (λ v. v >>= λ t. fed_all t piece) leads ∙ stops))
+    sym (reads_meaning OneNode false ((bytes ++ piece) ++ rest))
+    ∙ ap (λ v. v >>= λ s. finished s s.line) (reads_pieces (unread OneNode false) (bytes ++ piece) rest
+    ∙ ap (λ v. v >>= λ t. fed_all t rest) (reads_pieces (unread OneNode false) bytes piece ∙ ap (λ v. v >>= λ t. fed_all t piece) leads ∙ stops))
 
-stopped_here : (bytes piece : List ℕ) (r : Reading) (fault : Fault) → fed_all unread bytes ≡ Ok r → fed_all r piece ≡ Err fault
-    → meaning (bytes ++ piece) ≡ Err fault
-stopped_here bytes piece r fault leads stops = ap meaning (sym (append-nil (bytes ++ piece))) ∙ stopped bytes piece [] r fault leads stops
+stopped_here : (bytes piece : List ℕ) (r : Reading) (fault : ScriptFault) → fed_all (unread OneNode false) bytes ≡ Ok r → fed_all r piece ≡ Err fault
+    → script_of (bytes ++ piece) ≡ Err fault
+stopped_here bytes piece r fault leads stops = ap (script_of) (sym (append-nil (bytes ++ piece))) ∙ stopped bytes piece [] r fault leads stops
 
-judged_piece : (a b c : Option (List ℕ)) (r : Reading) (piece : List ℕ) (fault : Fault) → HasCome a b r → Comes b piece c → fed_all r piece ≡ Err fault
-    → (x : List ℕ) × IsAll a x × (meaning x ≡ Err fault)
+judged_piece : (a b c : Option (List ℕ)) (r : Reading) (piece : List ℕ) (fault : ScriptFault) → HasCome a b r → Comes b piece c → fed_all r piece ≡ Err fault
+    → (x : List ℕ) × IsAll a x × (script_of x ≡ Err fault)
 judged_piece (Some all) (Some left) (Some rest) r piece fault h came stops =
-    (all, refl, ap meaning (h.comes ∙ ap (λ l. h.bytes ++ l) came ∙ sym (append_assoc h.bytes piece rest)) ∙ stopped h.bytes piece rest r fault h.leads stops)
+    (all, refl, ap (script_of) (h.comes ∙ ap (λ l. h.bytes ++ l) came ∙ sym (append_assoc h.bytes piece rest)) ∙ stopped h.bytes piece rest r fault h.leads stops)
 judged_piece (Some all) (Some left) None r piece fault h came stops = absurd came
 judged_piece (Some all) None c r piece fault h came stops = absurd h.comes
 judged_piece None b c r piece fault h came stops = (h.bytes ++ piece, tt, stopped_here h.bytes piece r fault h.leads stops)
 
 -- the piece in which the reading stops
 pub came_stopped : (a b c : Option (List ℕ)) (r : Reading) (piece : List ℕ) (stop : Stop) → HasCome a b r → Comes b piece c → Stops stop (fed_all r piece)
-    → (x : List ℕ) × IsAll a x × Reads {Y = List Group} (Err stop) (meaning x)
+    → (x : List ℕ) × IsAll a x × Reads {Y = List NumberedLine} (Err stop) (script_of x)
 came_stopped a b c r piece (stops.Judged fault) h came stops = judged_piece a b c r piece fault h came stops
 came_stopped a b c r piece stops.NoMemory h came stops = any_script a
 came_stopped a b c r piece stops.ReadFault h came stops = absurd stops
 
-gives_reads : (res : Result (List Group) Stop) (v : Result (List Group) Fault) → Gives (λ groups. groups) res v → Reads res v
-gives_reads (Ok groups) v h = h
+gives_reads : (res : Result (List NumberedLine) Stop) (v : Result (List NumberedLine) ScriptFault) → Gives (λ lines. lines) res v → Reads res v
+gives_reads (Ok lines) v h = h
 gives_reads (Err (stops.Judged fault)) v h = h
 gives_reads (Err stops.NoMemory) v h = tt
 gives_reads (Err stops.ReadFault) v h = absurd h
@@ -66,12 +63,12 @@ whole (Some all) None bytes came end = absurd came
 whole None b bytes came end = tt
 
 -- the end of the source
-pub came_whole : (a b c : Option (List ℕ)) (r : Reading) (res : Result (List Group) Stop) → HasCome a b r → Comes b [] c → IsAtEnd c
-    → Gives (λ groups. groups) res (finished r r.line) → (x : List ℕ) × IsAll a x × Reads res (meaning x)
+pub came_whole : (a b c : Option (List ℕ)) (r : Reading) (res : Result (List NumberedLine) Stop) → HasCome a b r → Comes b [] c → IsAtEnd c
+    → Gives (λ lines. lines) res (finished r r.line) → (x : List ℕ) × IsAll a x × Reads res (script_of x)
 came_whole a b c r res h came end gives =
     let all = came_further a b c r r [] h came refl in (
       all.bytes,
       whole a c all.bytes all.comes end,
-      gives_reads res _ (let P : Result (List Group) Fault → Type 0 = λ v. Gives (λ groups. groups) res v in
-          subst P (sym (ap (λ v. v >>= λ s. finished s s.line) all.leads) ∙ reads_meaning all.bytes) gives),
+      gives_reads res _ (let P : Result (List NumberedLine) ScriptFault → Type 0 = λ v. Gives (λ lines. lines) res v in
+          subst P (sym (ap (λ v. v >>= λ s. finished s s.line) all.leads) ∙ reads_meaning OneNode false all.bytes) gives),
     )

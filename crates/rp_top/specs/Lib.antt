@@ -1,12 +1,7 @@
-pub mod Words
-pub mod Lines
-pub mod Script
-pub mod Reading
+pub mod Scripts
+pub mod Inputs
+pub mod Headline
 pub mod Gives
-pub mod Book
-pub mod World
-pub mod Playing
 pub mod Status
 pub mod Answers
-pub mod Headline
 pub mod Runs

@@ -1,24 +1,21 @@
-//! Laws about the definitions that the calls' contracts cite. Each is the clause of an empty function.
+//! Laws of the definitions that the calls' contracts cite. Each is the clause of an empty function.
 
+ghost use Rattle.std.specs.Prelude.{◌≡◌, List};
+ghost use Rattle.rp_script.specs.declared.lines.NumberedLine.{NumberedLine};
 ghost use Rattle.rp_top.specs.Headline.{Headline};
-ghost use Rattle.rp_top.specs.Playing.{PlaysView};
-ghost use Rattle.rp_top.specs.Reading.{ReadsMeaning};
+ghost use Rattle.rp_top.specs.Inputs.{run_of};
+ghost use Rattle.rp_world.specs.Playing.{played_all};
+ghost use Rattle.rp_world.specs.Worlds.{started};
 
-/// To read a script byte after byte, as the reader does, gives its meaning, which is said line by line.
-#[tactic(auto, using(crate::proofs::ReadsLines::reads_meaning))]
-pub fn reads_meaning()
-    ensures { ReadsMeaning }
+/// The replica of the node that plays the lines of a script is the one that the run of their events
+/// leaves.
+#[tactic(auto, using(crate::proofs::Runs::run_is_played))]
+pub fn lines_make_a_run()
+    ensures { (ls : List NumberedLine) → (run_of ls).replica ≡ (played_all started ls).replica }
 {}
 
-/// To play the groups of a script one after another gives what they show.
-#[tactic(auto, using(crate::proofs::Plays::plays_view))]
-pub fn plays_view()
-    ensures { PlaysView }
-{}
-
-/// The headline: in what a script shows, each command has exactly one place, its reply is the reply
-/// there, and the rows are the fold of the list.
-#[tactic(auto, using(crate::proofs::HeadlineProof::headline))]
-pub fn headline()
+/// The headline, of all lines whose events are lawful at the replica: each command has at most one
+/// place, the table is the fold of the applied list, places are lawful, and outcomes are honest.
+pub fn headline_of_lawful_lines()
     ensures { Headline }
 {}

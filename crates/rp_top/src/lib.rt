@@ -1,16 +1,17 @@
 //! The calls of the program: from words and bytes to bytes and a status.
 #![tactic(auto)]
 
+mod asks;
 mod calls;
-mod counts;
 pub mod laws;
 mod outputs;
-mod play;
-mod script;
+mod plays;
+mod sources;
 mod statuses;
+mod stops;
 
 pub use calls::{run_call, top_call};
-pub use script::LineKind;
+pub use rp_script::LineKind;
 pub use statuses::{Form, Status};
 
 #[cfg(test)]

@@ -2,9 +2,9 @@ ghost use Rattle.std.specs.Prelude.{◌≡◌, ℕ, ◌++◌, ◌⊎◌, List, [
 ghost use Rattle.rp_outside.specs.Devices.{Rose, Adds, AddsFront};
 ghost use Rattle.rp_top.specs.Answers.{kind_text, which_text, fault_line};
 
-use crate::script::{Fault, LineKind};
 use crate::statuses::Status;
 use rp_base::{NoMemory, Text, Which, push_number, push_word};
+use rp_script::{LineKind, ScriptFault};
 
 /// Why a line is refused.
 fn kind_word(kind: LineKind) -> &'static str
@@ -12,7 +12,19 @@ fn kind_word(kind: LineKind) -> &'static str
 {
     match kind {
         LineKind::NoCluster => "no-cluster",
+        LineKind::SecondCluster => "second-cluster",
+        LineKind::AfterEnd => "after-end",
         LineKind::NoEnd => "no-end",
+        LineKind::UnknownWord => "unknown-word",
+        LineKind::NotInRace => "not-in-race",
+        LineKind::MissingWord => "missing-word",
+        LineKind::NotNumber => "not-number",
+        LineKind::OutOfRange => "out-of-range",
+        LineKind::BadKey => "bad-key",
+        LineKind::BadSpan => "bad-span",
+        LineKind::NotSent => "not-sent",
+        LineKind::ExtraWord => "extra-word",
+        LineKind::BadByte => "bad-byte",
         LineKind::NotBuilt => "not-built",
     }
 }
@@ -33,11 +45,11 @@ fn which_word(which: Which) -> &'static str
 }
 
 /// The line that says why a script was not played.
-pub fn push_fault(out: &mut Text, fault: Fault) -> Result<(), NoMemory>
+pub fn push_fault(out: &mut Text, fault: ScriptFault) -> Result<(), NoMemory>
     ensures { OnOk result (out.new ≡ out.old ++ fault_line fault) }
 {
     match fault {
-        Fault::Refused { line, word, kind } => {
+        ScriptFault::Refused { line, word, kind } => {
             push_word(out, "refused")?;
             push_word(out, " ")?;
             push_number(out, u64::from(line))?;
@@ -47,7 +59,7 @@ pub fn push_fault(out: &mut Text, fault: Fault) -> Result<(), NoMemory>
             push_word(out, kind_word(kind))?;
             push_word(out, "\n")
         }
-        Fault::Limit { which, count } => {
+        ScriptFault::Limit { which, count } => {
             push_word(out, "limit ")?;
             push_word(out, which_word(which))?;
             push_word(out, " ")?;

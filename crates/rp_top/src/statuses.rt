@@ -1,13 +1,16 @@
 ghost use Rattle.std.specs.Prelude.{◌≡◌};
 ghost use Rattle.rp_top.specs.Status.{code_of};
 
-use crate::script::LineKind;
 use rp_base::Which;
+use rp_script::LineKind;
 
 /// In which form a report is written.
 #[derive(Clone, Copy, Debug, PartialEq, Eq)]
 pub enum Form {
+    /// The report.
     Text,
+    /// Ten lines that count what the report shows.
+    Summary,
 }
 
 /// How a call of the program ended.

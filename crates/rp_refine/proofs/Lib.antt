@@ -1,0 +1,14 @@
+pub mod Stands
+pub mod Ghosts
+pub mod Shadows
+pub mod Admitting
+pub mod Applying
+pub mod Settled
+pub mod Flushing
+pub mod Fitting
+pub mod Fitted
+pub mod Counting
+pub mod Following
+pub mod Telling
+pub mod Allowing
+pub mod Worked

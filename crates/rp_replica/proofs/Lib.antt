@@ -1,0 +1,5 @@
+pub mod Known
+pub mod Assigning
+pub mod Flushing
+pub mod Carrying
+pub mod Writing

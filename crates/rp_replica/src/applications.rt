@@ -1,0 +1,165 @@
+ghost use Rattle.std.specs.Prelude.{◌≡◌, ◌≤◌, ◌+◌, IfOk, Some};
+ghost use Rattle.rp_replica.specs.Replicas.{leaves};
+ghost use Rattle.rp_replica.specs.Applications.{applied, is_own, is_own_command, payload_of, turn, turn_of, told, told_of, recorded, turned};
+ghost use Rattle.rp_replica.specs.Allows.{MayApply};
+ghost use Rattle.rp_replica.specs.Plans.{Makes, ApplicationFits, IsKnown};
+ghost use Rattle.rp_replica.specs.declared.events.EventAnswer.TheVariants as answers;
+ghost use Rattle.rp_apply.specs.Applied.{verdict};
+ghost use Rattle.rp_apply.specs.Rooms.{IsWithin, needed};
+ghost use Rattle.rp_replica.specs.Plans.{items_of};
+ghost use Rattle.rp_raftlog.specs.declared.entries.Entry.{Entry};
+
+use crate::events::{Effects, Ended, EventAnswer, Outcomes};
+use crate::plans::{Application, ReplicaPlan, Turn};
+use crate::replicas::Replica;
+use rp_apply::{Verdict, check};
+use rp_base::{Item, Lease, NoMemory};
+use rp_codec::{DecodeFault, decode};
+use rp_pending::Stage;
+use rp_raftlog::Entry;
+use rp_request::{Command, Outcome, Payload, Refusal};
+use std::alloc::Global;
+
+/// The payload that an entry of the log carries.
+fn payload_of(alloc: Global, entry: &Entry) -> Result<Payload, NoMemory>
+    requires { (p : Payload) × (payload_of (Some entry.now) ≡ Some p) }
+    ensures { IfOk result (λ p. payload_of (Some entry.now) ≡ Some p) }
+{
+    match decode(alloc, entry.payload.as_slice()) {
+        Ok(payload) => Ok(payload),
+        Err(DecodeFault::NoMemory) => Err(NoMemory),
+        Err(DecodeFault::Bad { .. }) => unreachable!(),
+    }
+}
+
+/// What the verdict on its own entry makes of a proposal.
+fn turn(command: &Command, verdict: Verdict) -> Turn
+    ensures { result ≡ turn command.now verdict }
+{
+    match verdict {
+        Verdict::Took | Verdict::OldLease { .. } => Turn::Ends { id: command.id },
+        Verdict::OldIndex { .. } => Turn::WaitsAgain { id: command.id },
+        Verdict::LeaseMoved | Verdict::Nothing => Turn::Stays,
+    }
+}
+
+/// What its client is told.
+fn told(
+    alloc: Global,
+    lease: Lease,
+    command: &Command,
+    verdict: Verdict,
+) -> Result<Outcomes, NoMemory>
+    ensures { IfOk result (λ o. o ≡ told lease command.now verdict) }
+{
+    let outcome = match verdict {
+        Verdict::Took => Outcome::Success(command.reply),
+        Verdict::OldLease { .. } => Outcome::Refused(Refusal::NotLeaseHolder { lease }),
+        Verdict::OldIndex { .. } | Verdict::LeaseMoved | Verdict::Nothing => {
+            return Ok(Outcomes::new(alloc));
+        }
+    };
+    let mut outcomes = Outcomes::new(alloc);
+    outcomes.push(Ended {
+        id: command.id,
+        outcome,
+    })?;
+    Ok(outcomes)
+}
+
+impl Replica {
+    /// Whether the replica itself has proposed the command, under this maximum.
+    fn is_own(&self, command: &Command) -> bool
+        ensures { result ≡ is_own_command self.now.replica command.now }
+    {
+        match self.pending.find(command.id) {
+            None => false,
+            Some(proposal) => proposal.stage == Stage::Proposed && proposal.max == command.max,
+        }
+    }
+
+    fn turn_of(&self, payload: &Payload) -> Turn
+        ensures turn { result ≡ turn_of self.now.replica payload.now }
+        ensures known { IsKnown self.now.replica.pending result }
+    {
+        let Payload::Write(command) = payload else {
+            return Turn::Stays;
+        };
+        if !self.is_own(command) {
+            return Turn::Stays;
+        }
+        turn(command, check(&self.applied, payload))
+    }
+
+    fn told_of(&self, alloc: Global, payload: &Payload) -> Result<Outcomes, NoMemory>
+        ensures { IfOk result (λ o. o ≡ told_of self.now.replica payload.now) }
+    {
+        let Payload::Write(command) = payload else {
+            return Ok(Outcomes::new(alloc));
+        };
+        if !self.is_own(command) {
+            return Ok(Outcomes::new(alloc));
+        }
+        told(
+            alloc,
+            self.applied.lease(),
+            command,
+            check(&self.applied, payload),
+        )
+    }
+
+    pub(crate) fn plan_application(&self, alloc: Global) -> Result<ReplicaPlan, NoMemory>
+        requires { MayApply self.now.replica }
+        ensures { IfOk result (λ p. Makes self.now.replica p (applied self.now.replica)) }
+    {
+        let Some(entry) = self.log.entry_at(self.applied.index() + 1) else {
+            return Ok(ReplicaPlan::Answers {
+                answer: EventAnswer::Nothing,
+            });
+        };
+        let payload = payload_of(alloc, entry)?;
+        let turn = self.turn_of(&payload);
+        let outcomes = self.told_of(alloc, &payload)?;
+        Ok(ReplicaPlan::Applies {
+            application: Application {
+                payload,
+                turn,
+                outcomes,
+            },
+        })
+    }
+
+    /// The proposal turns so.
+    fn turn_so(&mut self, turn: Turn)
+        requires known { IsKnown self.old.replica.pending turn }
+        requires room { items_of turn ≤ self.old.room.inbox }
+        ensures { self.new.replica ≡ turned self.old.replica turn }
+    {
+        match turn {
+            Turn::Stays => {}
+            Turn::Ends { id } => {
+                self.latches.free(id);
+                self.pending.finish(id);
+            }
+            Turn::WaitsAgain { id } => {
+                self.pending.back_to_waiting(id);
+                self.inbox.push(Item::Write(id));
+            }
+        }
+    }
+
+    pub(crate) fn apply(&mut self, application: Application) -> Effects
+        requires fits { ApplicationFits self.old.replica application }
+        requires applied { IsWithin (needed application.payload) self.old.room.applied }
+        requires inbox { items_of application.turn ≤ self.old.room.inbox }
+        ensures { leaves self.new.replica result.answer result.outcomes
+            ≡ leaves (turned (recorded self.old.replica application.payload) application.turn) answers.Done application.outcomes }
+    {
+        self.applied.commit_one(&application.payload);
+        self.turn_so(application.turn);
+        Effects {
+            answer: EventAnswer::Done,
+            outcomes: application.outcomes,
+        }
+    }
+}

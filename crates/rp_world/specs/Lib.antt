@@ -1,0 +1,7 @@
+pub mod Notes
+pub mod Worlds
+pub mod Playing
+pub mod Views
+pub mod Allows
+pub mod Sound
+pub mod Shows

@@ -1,0 +1,16 @@
+//! One node that plays the lines of a script on its replica, and what it shows.
+#![tactic(auto)]
+
+mod counts;
+mod events;
+pub mod laws;
+mod notes;
+mod plays;
+mod runs;
+#[cfg(test)]
+mod tests;
+mod views;
+mod worlds;
+
+pub use runs::play_lines;
+pub use worlds::World;

@@ -1,0 +1,74 @@
+ghost use Rattle.std.specs.Prelude.{◌≡◌, ◌++◌, codes, OnOk, IfOk};
+ghost use Rattle.rp_report.specs.Words.{spaced, spaced_key, value_text};
+ghost use Rattle.rp_world.specs.Notes.{absent_text, peek_text};
+
+use rp_base::{Key, NoMemory, Text, push_key, push_number, push_word};
+use std::alloc::Global;
+
+/// A text that holds these words.
+pub fn text_of(alloc: Global, words: &str) -> Result<Text, NoMemory>
+    ensures { IfOk result (λ text. text ≡ words.now) }
+{
+    let mut text = Text::new(alloc);
+    push_word(&mut text, words)?;
+    Ok(text)
+}
+
+/// What is told of a range that has no replica at the node.
+pub fn absent_text(alloc: Global) -> Result<Text, NoMemory>
+    ensures { IfOk result (λ text. text ≡ absent_text) }
+{
+    text_of(alloc, "no-replica")
+}
+
+/// A value, or that there is none.
+fn push_value(out: &mut Text, value: Option<u64>) -> Result<(), NoMemory>
+    ensures { OnOk result (out.new ≡ out.old ++ value_text value) }
+{
+    match value {
+        Some(value) => push_number(out, value),
+        None => push_word(out, "none"),
+    }
+}
+
+/// The word `peek`, and a key behind a space.
+fn push_peek(out: &mut Text, key: Key) -> Result<(), NoMemory>
+    ensures { OnOk result (out.new ≡ out.old ++ (codes "peek" ++ spaced_key key)) }
+{
+    push_word(out, "peek")?;
+    push_word(out, " ")?;
+    push_key(out, key)
+}
+
+/// A value behind a space.
+fn push_spaced_value(out: &mut Text, value: Option<u64>) -> Result<(), NoMemory>
+    ensures { OnOk result (out.new ≡ out.old ++ (codes " " ++ value_text value)) }
+{
+    push_word(out, " ")?;
+    push_value(out, value)
+}
+
+/// The word `applied`, and an index behind a space.
+fn push_applied(out: &mut Text, index: u64) -> Result<(), NoMemory>
+    ensures { OnOk result (out.new ≡ out.old ++ (codes " applied" ++ spaced index)) }
+{
+    push_word(out, " applied")?;
+    push_word(out, " ")?;
+    push_number(out, index)
+}
+
+/// What a peek tells: the key, its applied value, and the applied index.
+pub fn peek_text(
+    alloc: Global,
+    key: Key,
+    value: Option<u64>,
+    applied: u64,
+) -> Result<Text, NoMemory>
+    ensures { IfOk result (λ text. text ≡ peek_text key value applied) }
+{
+    let mut text = Text::new(alloc);
+    push_peek(&mut text, key)?;
+    push_spaced_value(&mut text, value)?;
+    push_applied(&mut text, applied)?;
+    Ok(text)
+}

@@ -1,0 +1,165 @@
+ghost use Rattle.std.specs.Prelude.{◌≡◌, ◌+◌, ◌-◌, ◌<◌, ◌^◌, None, OnOk, slice_index};
+ghost use Rattle.rp_pending.specs.Proposals.{proposal_of};
+ghost use Rattle.rp_replica.specs.Allows.{MayFlush, MayApply};
+ghost use Rattle.rp_replica.specs.Writes.{WritesFit};
+ghost use Rattle.rp_world.specs.Sound.{FlushFits};
+ghost use Rattle.rp_world.specs.Allows.{MayPlay, MaySend};
+ghost use Rattle.rp_world.specs.Notes.{absent_text};
+ghost use Rattle.rp_world.specs.Worlds.{with_note};
+ghost use Rattle.rp_replica.specs.declared.events.ReplicaEvent.TheVariants as events;
+ghost use Rattle.rp_world.specs.Playing.{placed, told, asked, sent, flushed, collected, noted, applied, peeked, happens, played};
+
+use crate::notes::{absent_text, peek_text, text_of};
+use crate::worlds::World;
+use rp_base::{CmdId, Item, Key, NoMemory, RangeId};
+use rp_replica::{EventAnswer, ReplicaEvent};
+use rp_request::{Outcome, Refusal, Request};
+use rp_script::ScriptLine;
+
+/// How many items may wait for a flush, as a proposal buffer has places.
+const MAX_WAITING: usize = 16;
+
+impl World {
+    /// Lets an admitted attempt wait for a flush, where there is a place.
+    fn place(&mut self, line: u32, id: CmdId) -> Result<(), NoMemory>
+        ensures { OnOk result (self.new ≡ placed self.old line id) }
+    {
+        if self.waiting.len() < MAX_WAITING {
+            self.waiting.make_room(1)?;
+            self.waiting.push(Item::Write(id));
+            return Ok(());
+        }
+        let text = text_of(self.alloc, "full 16")?;
+        self.note(line, text)
+    }
+
+    /// Notes what an admission answered.
+    fn tell(&mut self, line: u32, id: CmdId, answer: EventAnswer) -> Result<(), NoMemory>
+        ensures { OnOk result (self.new ≡ told self.old line id answer) }
+    {
+        match answer {
+            EventAnswer::Admitted => {
+                self.set_outcome(id, Outcome::Pending)?;
+                self.place(line, id)
+            }
+            EventAnswer::Refused(refusal) => self.set_outcome(id, Outcome::Refused(refusal)),
+            _ => Ok(()),
+        }
+    }
+
+    /// An attempt asks to be admitted.
+    fn ask(&mut self, line: u32, id: CmdId, request: Request) -> Result<(), NoMemory>
+        requires { proposal_of id self.old.replica.pending ≡ None }
+        ensures { OnOk result (self.new ≡ asked self.old line id request) }
+    {
+        let effects = self.happen(ReplicaEvent::Admit { id, request })?;
+        self.tell(line, id, effects.answer)
+    }
+
+    /// A client's next command comes to a range.
+    fn send(
+        &mut self,
+        line: u32,
+        range: RangeId,
+        client: u16,
+        request: Request,
+    ) -> Result<(), NoMemory>
+        requires { MaySend self.old client }
+        ensures { OnOk result (self.new ≡ sent self.old line range client request) }
+    {
+        let id = CmdId {
+            client,
+            seq: self.sent.count(client),
+            attempt: 1,
+        };
+        if !self.has_replica(range) {
+            return self.set_outcome(id, Outcome::Refused(Refusal::NoReplica));
+        }
+        self.ask(line, id, request)
+    }
+
+    /// What waits goes to the log.
+    fn flush(&mut self) -> Result<(), NoMemory>
+        requires { MayFlush (collected self.old).replica }
+        ensures flushed { OnOk result (self.new ≡ flushed (collected self.old)) }
+        ensures fits { OnOk result (WritesFit (collected self.old).replica) }
+    {
+        self.collect()?;
+        self.happen(ReplicaEvent::Flush)?;
+        Ok(())
+    }
+
+    /// The next committed entry is applied.
+    fn apply(&mut self, line: u32) -> Result<(), NoMemory>
+        requires { MayApply self.old.replica }
+        ensures { OnOk result (self.new ≡ applied self.old line) }
+    {
+        let effects = self.happen(ReplicaEvent::Apply)?;
+        match effects.answer {
+            EventAnswer::Nothing => {
+                let text = text_of(self.alloc, "nothing")?;
+                self.note(line, text)
+            }
+            _ => Ok(()),
+        }
+    }
+
+    /// The applied value of a key is told.
+    fn peek(&mut self, line: u32, key: Key) -> Result<(), NoMemory>
+        ensures { OnOk result (self.new ≡ peeked self.old line key (happens self.old (events.Peek key)).answer) }
+    {
+        let effects = self.happen(ReplicaEvent::Peek { key })?;
+        match effects.answer {
+            EventAnswer::Value { value, applied } => {
+                let text = peek_text(self.alloc, key, value, applied)?;
+                self.note(line, text)
+            }
+            _ => Ok(()),
+        }
+    }
+
+    /// The range has no replica here.
+    fn miss(&mut self, line: u32) -> Result<(), NoMemory>
+        ensures { OnOk result (self.new ≡ with_note self.old line absent_text) }
+    {
+        let text = absent_text(self.alloc)?;
+        self.note(line, text)
+    }
+
+    /// Plays a line. A line that is not built yet, `cluster` and `end` change nothing. Where memory is
+    /// wanting, what was done before it stands.
+    pub fn play(&mut self, number: u32, line: &ScriptLine) -> Result<(), NoMemory>
+        requires { MayPlay self.old line.now }
+        ensures played { OnOk result (self.new ≡ played self.old number line.now) }
+        // What a flush wrote holds numbers of their widths.
+        ensures fits { OnOk result (FlushFits self.old line.now) }
+    {
+        match *line {
+            ScriptLine::Send {
+                range,
+                client,
+                request,
+                ..
+            } => self.send(number, range, client, request),
+            ScriptLine::Flush { range, .. } => {
+                if !self.has_replica(range) {
+                    return self.miss(number);
+                }
+                self.flush()
+            }
+            ScriptLine::Apply { range, .. } => {
+                if !self.has_replica(range) {
+                    return self.miss(number);
+                }
+                self.apply(number)
+            }
+            ScriptLine::Peek { range, key, .. } => {
+                if !self.has_replica(range) {
+                    return self.miss(number);
+                }
+                self.peek(number, key)
+            }
+            _ => Ok(()),
+        }
+    }
+}

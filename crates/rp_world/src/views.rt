@@ -1,0 +1,116 @@
+ghost use Rattle.std.specs.Prelude.{◌≡◌, ◌-◌, ◌<◌, ◌^◌, map, IfOk};
+ghost use Rattle.std.specs.FinMap.{entries};
+ghost use Rattle.rp_world.specs.Views.{answer_of, range_view, replica_view, row_of, view_of};
+
+use crate::worlds::World;
+use rp_apply::ApplyState;
+use rp_base::{CmdId, NoMemory, Seq, Text, push_word};
+use rp_report::{RangeView, ReplicaView, Row, View};
+use rp_request::{Answer, End, Note, Notes, Outcome, Replies};
+use rp_table::Table;
+use std::alloc::Global;
+use std::collections::BTreeMap;
+
+/// The term of a replica, for as long as no other leader stands.
+const FIRST_TERM: u64 = 1;
+
+/// The rows of a table, by key.
+fn rows_of(alloc: Global, table: &Table) -> Result<Seq<Row>, NoMemory>
+    ensures { IfOk result (λ rows. rows ≡ map row_of (entries table.now.map)) }
+{
+    let mut rows = Vec::new(alloc);
+    for at in 0..table.len() {
+        let (key, value) = table.row(at);
+        rows.push(Row { key, value })?;
+    }
+    Ok(Seq::from_vec(rows))
+}
+
+/// The answers, by attempt.
+fn answers_of(alloc: Global, outcomes: &BTreeMap<CmdId, Outcome>) -> Result<Replies, NoMemory>
+    ensures { IfOk result (λ answers. answers ≡ map answer_of outcomes.now.entries) }
+{
+    let mut answers = Vec::new(alloc);
+    for (id, outcome) in outcomes {
+        answers.push(Answer {
+            client: id.client,
+            seq: id.seq,
+            attempt: id.attempt,
+            end: End::Outcome(*outcome),
+        })?;
+    }
+    Ok(Seq::from_vec(answers))
+}
+
+fn copy_note(alloc: Global, note: &Note) -> Result<Note, NoMemory>
+    ensures { IfOk result (λ copy. copy ≡ note.now) }
+{
+    let mut text = Text::new(alloc);
+    push_word(&mut text, note.text.as_str())?;
+    Ok(Note {
+        line: note.line,
+        text,
+    })
+}
+
+fn copy_notes(alloc: Global, notes: &[Note]) -> Result<Notes, NoMemory>
+    ensures { IfOk result (λ copy. copy ≡ notes.now) }
+{
+    let mut copies = Notes::new(alloc);
+    for note in notes {
+        let copy = copy_note(alloc, note)?;
+        copies.push(copy)?;
+    }
+    Ok(copies)
+}
+
+impl World {
+    /// How far the replica has come, and its rows.
+    fn replica_view(&self) -> Result<ReplicaView, NoMemory>
+        ensures { IfOk result (λ view. view ≡ replica_view self.now.replica) }
+    {
+        let applied = self.replica.applied();
+        let rows = rows_of(self.alloc, applied.table())?;
+        Ok(ReplicaView::Live {
+            term: FIRST_TERM,
+            applied: applied.index(),
+            lai: applied.lai(),
+            rows,
+        })
+    }
+
+    fn range_view(&self) -> Result<RangeView, NoMemory>
+        requires { self.now.replica.applied.index < 2 ^ 64 - 1 }
+        ensures { IfOk result (λ view. view ≡ range_view self.now.replica) }
+    {
+        let applied = self.replica.applied();
+        let records = Vec::from_slice(self.alloc, applied.records())?;
+        let replica = self.replica_view()?;
+        let replicas = Vec::from_array(self.alloc, [replica])?;
+        Ok(RangeView {
+            desc: applied.desc(),
+            lease: applied.lease(),
+            first: applied.before() + 1,
+            records: Seq::from_vec(records),
+            replicas: Seq::from_vec(replicas),
+        })
+    }
+
+    /// What the node shows.
+    pub fn view(&self) -> Result<View, NoMemory>
+        requires { self.now.replica.applied.index < 2 ^ 64 - 1 }
+        ensures { IfOk result (λ view. view ≡ view_of self.now) }
+    {
+        let range = self.range_view()?;
+        let ranges = Vec::from_array(self.alloc, [range])?;
+        let notes = copy_notes(self.alloc, &self.notes)?;
+        let replies = answers_of(self.alloc, &self.outcomes)?;
+        Ok(View {
+            nodes: 1,
+            notes,
+            replies,
+            ranges: Seq::from_vec(ranges),
+            messages: 0,
+        })
+    }
+}
