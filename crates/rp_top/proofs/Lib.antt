@@ -1,5 +1,3 @@
 pub mod ReadsSource
 pub mod Playable
 pub mod RunProof
-pub mod Runs
-pub mod HeadlineProof

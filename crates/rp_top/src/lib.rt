@@ -3,7 +3,6 @@
 
 mod asks;
 mod calls;
-pub mod laws;
 mod outputs;
 mod plays;
 mod sources;

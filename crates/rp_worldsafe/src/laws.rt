@@ -2,8 +2,8 @@
 
 ghost use Rattle.std.specs.Prelude.{◌≡◌, List};
 ghost use Rattle.rp_script.specs.declared.lines.NumberedLine.{NumberedLine};
-ghost use Rattle.rp_top.specs.Headline.{Headline};
-ghost use Rattle.rp_top.specs.Inputs.{run_of};
+ghost use Rattle.rp_worldsafe.specs.Headline.{Headline};
+ghost use Rattle.rp_worldsafe.specs.Inputs.{run_of};
 ghost use Rattle.rp_world.specs.Playing.{played_all};
 ghost use Rattle.rp_world.specs.Worlds.{started};
 

@@ -2,10 +2,10 @@
 use Rattle.std.proofs.Common.{refl}
 use Rattle.rp_refine.proofs.Telling.{once, fold_is, place_is_lawful, success_is_one_place, applied_place_is_told, refused_has_never}
 use Rattle.rp_refine.specs.Laws.{IsReached}
-use Rattle.rp_top.specs.Headline.{Headline}
-use Rattle.rp_top.specs.Inputs.{all_inputs, run_of}
+use Rattle.rp_worldsafe.specs.Headline.{Headline}
+use Rattle.rp_worldsafe.specs.Inputs.{all_inputs, run_of}
 use Rattle.rp_world.specs.Worlds.{started}
-use Rattle.rp_top.proofs.Runs.{run_is_played}
+use Rattle.rp_worldsafe.proofs.Runs.{run_is_played}
 
 pub headline : Headline
 headline ls lawful =

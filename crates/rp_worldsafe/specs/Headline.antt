@@ -11,7 +11,7 @@ use Rattle.rp_rangesafe.specs.Places.{shown}
 use Rattle.rp_refine.specs.Laws.{IsPlace, IsLawfulPlace, IsTheOnePlace, HasNever, items, payloads}
 use Rattle.rp_refine.specs.Runs.{IsRefusal, begun, AllLawful}
 use Rattle.rp_script.specs.declared.lines.NumberedLine.{NumberedLine}
-use Rattle.rp_top.specs.Inputs.{all_inputs, run_of}
+use Rattle.rp_worldsafe.specs.Inputs.{all_inputs, run_of}
 use Rattle.rp_world.specs.Playing.{played_all}
 use Rattle.rp_world.specs.Worlds.{started}
 

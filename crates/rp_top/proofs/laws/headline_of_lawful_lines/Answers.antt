@@ -1,5 +1,0 @@
-use Rattle.rp_top.proofs.HeadlineProof.{headline}
-use Rattle.rp_top.proofs.laws.headline_of_lawful_lines.Goals as goal
-
-pub returns : goal.returns
-returns c = headline
