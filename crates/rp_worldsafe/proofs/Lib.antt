@@ -1,3 +1,4 @@
 pub mod Runs
 pub mod Unmade
+pub mod Playing
 pub mod HeadlineProof
