@@ -1,3 +1,4 @@
 pub mod Runs
 pub mod HeadlineProof
 pub mod Lookups
+pub mod Told
