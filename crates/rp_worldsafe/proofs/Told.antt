@@ -140,3 +140,45 @@ pending_sent sent es f id k pending = go (nat_lt (get_or sent (id.client - 1) 0)
 
 pending_apart : (f : runs.Outcomes) (id q : CmdId) → f id ≡ Some Pending → f q ≡ None → q ≡ id → ⊥
 pending_apart f id q pending none e = nothing_told Pending (sym none ∙ ap f e ∙ pending)
+
+-- what an application ends was pending
+own_pending : (P : CmdId → Type 0) (c : Command) (lease : leases.Lease) (v : verdict_type.Verdict) (o : Option Proposal) → (is_some o ≡ true → P c.id)
+    → AllByRecursion (λ e. P e.id) (cond (is_own c.max o) (applications.told lease c v) [])
+own_pending P c lease v None h = tt
+own_pending P c lease v (Some p) h = either (is_own c.max (Some p)) v where
+  either : (b : Bool) (v : verdict_type.Verdict) → AllByRecursion (λ e. P e.id) (cond b (applications.told lease c v) [])
+  either true verdicts.Took = (h refl, tt)
+  either true (verdicts.OldLease now) = (h refl, tt)
+  either true (verdicts.OldIndex lai) = tt
+  either true verdicts.LeaseMoved = tt
+  either true verdicts.Nothing = tt
+  either false v = tt
+
+apply_pending : (x : Run) → IsReached x → (o : Option Payload) → ArePending x.outcome (applied_where x.replica o).outcomes
+apply_pending x r None = tt
+apply_pending x r (Some payload_kinds.Nothing) = tt
+apply_pending x r (Some (payload_kinds.Write c)) =
+    own_pending (λ id. x.outcome id ≡ Some Pending) c x.replica.applied.state.lease (command_verdict x.replica.applied.state c)
+    (proposal_of c.id x.replica.pending) (listed_is_pending x r c.id)
+apply_pending x r (Some (payload_kinds.Lease ask)) = tt
+
+-- what a flush ends was pending
+module _ {X : Type 0} where
+  all_first : (P : X → Type 0) (xs ys : List X) → AllByRecursion P (xs ++ ys) → AllByRecursion P xs
+  all_first P [] ys h = tt
+  all_first P (x ∷ xs) ys h = (h.0, all_first P xs ys h.1)
+
+all_refused : (P : CmdId → Type 0) (lease : leases.Lease) (ids : List CmdId) → AllByRecursion P ids → AllByRecursion (λ e. P e.id) (map (refused_with lease) ids)
+all_refused P lease [] h = tt
+all_refused P lease (id ∷ ids) h = (h.0, all_refused P lease ids h.1)
+
+flush_pending : (x : Run) → IsReached x → (ticks round : ℕ) → ArePending x.outcome (flushed x.replica ticks round).outcomes
+flush_pending x r ticks round =
+    let sh : Shown x = shown_reached x r in
+    let f : Attempts = (sh.ranges.range 0).attempt in
+    let tells = sh.shadow.shows.tells in
+    let waits = all_wait f x.replica.pending tells.stands.holds x.replica.applied.state.lease.seq x.replica.inbox in
+    all_refused (λ id. x.outcome id ≡ Some Pending) x.replica.applied.state.lease _
+    (all_weaker (λ id. (f id).stage ≡ Waiting) (λ id. x.outcome id ≡ Some Pending)
+    (λ id e. (told_pending (x.outcome id) (sh.ranges.owner id) (f id).stage (tells.agrees id) (subst IsPending (sym e) tt)).0) _
+    (all_first (λ id. (f id).stage ≡ Waiting) _ _ waits))
