@@ -1,13 +1,14 @@
 -- The node keeps the outcomes that the run of its replica was told.
-use Rattle.std.proofs.Common.{◌≡◌, ◌≤◌, ◌<◌, ◌+◌, ◌-◌, ◌==◌, ◌⊎◌, inl, inr, ℕ, Bool, true, false, cond, nat_lt, List, [], ◌∷◌, ◌++◌, length, map, replicate, get_or, set, Result, Ok, Err, Option, None, Some, is_some, refl, sym, ap, subst, ◌∙◌, arith}
+use Rattle.std.proofs.Common.{◌≡◌, ◌≢◌, ◌≤◌, ◌<◌, ◌+◌, ◌-◌, ◌==◌, ◌⊎◌, inl, inr, ℕ, Bool, true, false, cond, nat_lt, List, [], ◌∷◌, ◌++◌, length, map, replicate, get_or, set, Result, Ok, Err, Option, None, Some, is_some, refl, sym, ap, subst, ◌∙◌, arith, eqb-true}
 use Rattle.std.specs.Prelude.{IsSome}
 use Rattle.std.specs.List.{AllByRecursion, filter}
 use Rattle.std.proofs.lemmas.List.{get_or-set_other, get_or-set_same, length-set, length-replicate}
 use Rattle.std.proofs.lemmas.Bool.{cond_both}
 use Rattle.std.proofs.lemmas.Bool.{ltb-true, ltb-false}
+use Rattle.std.proofs.lemmas.Bool.Decides.{nat_tests}
 use Rattle.std.specs.BTreeMap.{insert_entry}
 use Rattle.rp_base.specs.declared.ids.CmdId.{CmdId}
-use Rattle.rp_base.specs.declared.items.Item.{Item}
+use Rattle.rp_base.specs.declared.items.Item.TheVariants as items
 use Rattle.rp_base.specs.declared.leases.Lease as leases
 use Rattle.rp_request.specs.declared.commands.Command.{Command}
 use Rattle.rp_request.specs.declared.commands.Payload.{Payload}
@@ -32,13 +33,24 @@ use Rattle.rp_replica.specs.declared.events.ReplicaEvent.TheVariants as events
 use Rattle.rp_rangesafe.specs.Attempts.{IsPending, Waiting, Attempts, same_id}
 use Rattle.rp_rangesafe.proofs.Tables.{id_cases, same_id_is, other_id}
 use Rattle.rp_refine.specs.Laws.{IsReached}
-use Rattle.rp_refine.specs.Runs.{Input, Run, begun, with_outcome, with_ended, next, play, AllLawful}
+use Rattle.rp_refine.specs.Runs.{Input, Run, begun, with_outcome, with_ended, left_by, next, play, AllLawful}
 use Rattle.rp_refine.specs.Runs as runs
 use Rattle.rp_refine.proofs.Following.{Shown, shown_reached, reached_begun, reached_next}
 use Rattle.rp_refine.proofs.Settled.{all_wait, all_weaker}
 use Rattle.rp_refine.proofs.Shadows.{told_pending}
 use Rattle.rp_refine.proofs.Telling.{listed_is_pending}
-use Rattle.rp_world.specs.Worlds.{Outcomes, cmd_cmp, ended_in}
+use Rattle.rp_script.specs.Bounds.{IsBounded, IsTaken}
+use Rattle.rp_script.specs.declared.built.Forms.TheVariants.{OneNode}
+use Rattle.rp_script.specs.declared.lines.NumberedLine.{NumberedLine}
+use Rattle.rp_script.specs.declared.lines.ScriptLine.{ScriptLine}
+use Rattle.rp_script.specs.declared.lines.ScriptLine.TheVariants as lines
+use Rattle.rp_world.specs.Notes.{absent_text, full_text}
+use Rattle.rp_world.specs.Playing.{applied, asked, collected, has_replica, happens, noted, peeked, played, played_all, told}
+use Rattle.rp_world.specs.Playing as playing
+use Rattle.rp_world.specs.Worlds.{World, Outcomes, cmd_cmp, counted, ended_in, next_command, started, took, with_note}
+use Rattle.rp_world.specs.Worlds as worlds
+use Rattle.rp_worldsafe.specs.Inputs.{all_inputs, input, inputs_of, run_of}
+use Rattle.rp_worldsafe.specs.Told.{IsTold, IsUnasked}
 use Rattle.rp_worldsafe.proofs.Lookups.{found, put_itself, put_other}
 
 -- what the run was told, once one attempt is told more
@@ -182,3 +194,130 @@ flush_pending x r ticks round =
     (all_weaker (λ id. (f id).stage ≡ Waiting) (λ id. x.outcome id ≡ Some Pending)
     (λ id e. (told_pending (x.outcome id) (sh.ranges.owner id) (f id).stage (tells.agrees id) (subst IsPending (sym e) tt)).0) _
     (all_first (λ id. (f id).stage ≡ Waiting) _ _ waits))
+
+-- what a line leaves: the node and the run agree, and an attempt that was not asked stays so
+record Went (w v : World) (f : runs.Outcomes) (y : Run) : Type 0 where
+  replica : y.replica ≡ v.replica
+  clients : length v.sent ≡ 64
+  kept : Kept v.sent v.outcomes y.outcome
+  stays : (q : CmdId) → Unasked w.outcomes f q → Unasked v.outcomes y.outcome q
+
+-- the run whose replica is the node's
+abbrev run_at : World → runs.Outcomes → Run
+run_at w f = record { replica = w.replica; outcome = f }
+
+-- nothing changes but notes and what waits
+went_nowhere : (w : World) (f : runs.Outcomes) (line : ℕ) (text : List ℕ) → length w.sent ≡ 64 → Kept w.sent w.outcomes f
+    → Went w (with_note w line text) f (run_at w f)
+went_nowhere w f line text long k = record { replica = refl; clients = long; kept = k; stays = λ q h. h }
+
+-- counts grow
+grown_at : (xs : List ℕ) (c j : ℕ) → c < length xs → (b : Bool) → (j == c) ≡ b → get_or xs j 0 ≤ get_or (set xs c (get_or xs c 0 + 1)) j 0
+grown_at xs c j within true e =
+    let at = get_or-set_same xs c (get_or xs c 0 + 1) 0 within in
+    subst (λ i. get_or xs i 0 ≤ get_or (set xs c (get_or xs c 0 + 1)) i 0) (sym (eqb-true j c e)) (omega (arith, at))
+grown_at xs c j within false e =
+    let other : j ≢ c = grind (arith, nat_tests) in
+    let at = get_or-set_other xs c j (get_or xs c 0 + 1) 0 other in
+    omega (arith, at)
+
+grown_kept : (sent more : List ℕ) (es : Outcomes) (f : runs.Outcomes) → ((j : ℕ) → get_or sent j 0 ≤ get_or more j 0) → Kept sent es f → Kept more es f
+grown_kept sent more es f grows k = record {
+  told = k.told;
+  fresh = λ q new. k.fresh q (let g = grows (q.client - 1) in omega (arith, g, new));
+}
+
+counted_kept : (w : World) (client : ℕ) (f : runs.Outcomes) → client - 1 < length w.sent → Kept w.sent w.outcomes f → Kept (counted w client).sent w.outcomes f
+counted_kept w client f within k = grown_kept w.sent (counted w client).sent w.outcomes f (λ j. grown_at w.sent (client - 1) j within (j == client - 1) refl) k
+
+-- a client's next command was not told anything, and has been sent from now on
+next_fresh : (w : World) (client : ℕ) → IsFresh w.sent (next_command w client)
+next_fresh w client = omega arith
+
+next_sent : (w : World) (client : ℕ) → client - 1 < length w.sent → WasSent (counted w client).sent (next_command w client)
+next_sent w client within =
+    let at = get_or-set_same w.sent (client - 1) (get_or w.sent (client - 1) 0 + 1) 0 within in
+    omega (arith, at)
+
+-- an attempt that was not asked is no fresh one
+unasked_apart : (sent : List ℕ) (es : Outcomes) (f : runs.Outcomes) (id q : CmdId) → Kept sent es f → IsFresh sent id → Unasked es f q → q ≡ id → ⊥
+unasked_apart sent es f id q k new h e = nothing_told (Refused NoReplica) (sym (k.fresh id new).1 ∙ ap (found es) (sym e) ∙ h.0)
+
+-- a client's next command
+placed_goes : (w : World) (v : World) (f : runs.Outcomes) (y : Run) (line : ℕ) (id : CmdId) (b : Bool) → Went w v f y
+    → Went w (cond b (record v { waiting = v.waiting ++ items.Write id ∷ [] }) (with_note v line full_text)) f y
+placed_goes w v f y line id true h = record { replica = h.replica; clients = h.clients; kept = h.kept; stays = h.stays }
+placed_goes w v f y line id false h = record { replica = h.replica; clients = h.clients; kept = h.kept; stays = h.stays }
+
+told_goes : (w : World) (f : runs.Outcomes) (line client : ℕ) (request : Request) (g : Result Evaluated Refusal) → client - 1 < length w.sent → length w.sent ≡ 64
+    → Kept w.sent w.outcomes f
+    → Went w (told (took (counted w client) (admitted_by w.replica (next_command w client) request g)) line (next_command w client) (admitted_by w.replica (next_command w client) request g).answer)
+    f (left_by f (events.Admit (next_command w client) request) (admitted_by w.replica (next_command w client) request g))
+told_goes w f line client request (Ok e) within long k =
+    let id = next_command w client in
+    placed_goes w (worlds.with_outcome (took (counted w client) (admitted_by w.replica id request (Ok e))) id Pending) f
+    (left_by f (events.Admit id request) (admitted_by w.replica id request (Ok e))) line id (nat_lt (length w.waiting) 16) (record {
+      replica = refl;
+      clients = length-set w.sent (client - 1) _ ∙ long;
+      kept = put_kept (counted w client).sent w.outcomes f id Pending (next_sent w client within) (counted_kept w client f within k);
+      stays = λ q h. put_unasked w.outcomes f id Pending q (unasked_apart w.sent w.outcomes f id q k (next_fresh w client) h) h;
+    })
+told_goes w f line client request (Err refusal) within long k =
+    let id = next_command w client in
+    record {
+      replica = refl;
+      clients = length-set w.sent (client - 1) _ ∙ long;
+      kept = put_kept (counted w client).sent w.outcomes f id (Refused refusal) (next_sent w client within) (counted_kept w client f within k);
+      stays = λ q h. put_unasked w.outcomes f id (Refused refusal) q (unasked_apart w.sent w.outcomes f id q k (next_fresh w client) h) h;
+    }
+
+sent_goes : (w : World) (f : runs.Outcomes) (line client : ℕ) (request : Request) (b : Bool) → client - 1 < length w.sent → length w.sent ≡ 64 → Kept w.sent w.outcomes f
+    → Went w (cond b (asked (counted w client) line (next_command w client) request) (worlds.with_outcome (counted w client) (next_command w client) (Refused NoReplica)))
+    f (play (run_at w f) (cond b (input (events.Admit (next_command w client) request) [] ∷ []) []))
+sent_goes w f line client request true within long k = told_goes w f line client request (guarded w.replica request) within long k
+sent_goes w f line client request false within long k =
+    let id = next_command w client in
+    let none = k.fresh id (next_fresh w client) in
+    record {
+      replica = refl;
+      clients = length-set w.sent (client - 1) _ ∙ long;
+      kept = alone_kept (counted w client).sent w.outcomes f id (next_sent w client within) none.0 (counted_kept w client f within k);
+      stays = λ q h. (put_other w.outcomes id (Refused NoReplica) q (unasked_apart w.sent w.outcomes f id q k (next_fresh w client) h) ∙ h.0, h.1);
+    }
+
+-- attempts that were pending end
+ended_goes : (w : World) (f : runs.Outcomes) (ended : List Ended) → ArePending f ended → Kept w.sent w.outcomes f
+    → Kept w.sent (ended_in ended w.outcomes) (with_ended f ended)
+ended_goes w f ended pending k = ended_kept w.sent ended w.outcomes f
+    (all_weaker (λ e. f e.id ≡ Some Pending) (λ e. WasSent w.sent e.id) (λ e p. pending_sent w.sent w.outcomes f e.id k p) ended pending) k
+
+ended_stays : (w : World) (f : runs.Outcomes) (ended : List Ended) → ArePending f ended → (q : CmdId) → Unasked w.outcomes f q
+    → Unasked (ended_in ended w.outcomes) (with_ended f ended) q
+ended_stays w f ended pending q h = ended_unasked ended w.outcomes f q
+    (all_weaker (λ e. f e.id ≡ Some Pending) (λ e. q ≡ e.id → ⊥) (λ e p. pending_apart f e.id q p h.1) ended pending) h
+
+applied_goes : (w : World) (f : runs.Outcomes) (line : ℕ) (o : Option Payload) → ArePending f (applied_where w.replica o).outcomes → length w.sent ≡ 64 → Kept w.sent w.outcomes f
+    → Went w (noted (took w (applied_where w.replica o)) line (applied_where w.replica o).answer) f (left_by f events.Apply (applied_where w.replica o))
+applied_goes w f line None pending long k = record { replica = refl; clients = long; kept = k; stays = λ q h. h }
+applied_goes w f line (Some p) pending long k = record {
+  replica = refl;
+  clients = long;
+  kept = ended_goes w f (told_of w.replica p) pending k;
+  stays = ended_stays w f (told_of w.replica p) pending;
+}
+
+flushed_goes : (w : World) (f : runs.Outcomes) → ArePending f (flushed (collected w).replica 0 0).outcomes → length w.sent ≡ 64 → Kept w.sent w.outcomes f
+    → Went w (playing.flushed (collected w)) f (play (run_at w f) (input events.Collect w.waiting ∷ input events.Flush [] ∷ []))
+flushed_goes w f pending long k = record {
+  replica = refl;
+  clients = long;
+  kept = ended_goes w f (flushed (collected w).replica 0 0).outcomes pending k;
+  stays = ended_stays w f (flushed (collected w).replica 0 0).outcomes pending;
+}
+
+-- a line for a range that may have no replica here
+either_goes : (w v : World) (f : runs.Outcomes) (line : ℕ) (is : List Input) (b : Bool) → length w.sent ≡ 64 → Kept w.sent w.outcomes f
+    → (AllLawful (run_at w f) is → Went w v f (play (run_at w f) is)) → AllLawful (run_at w f) (cond b is [])
+    → Went w (cond b v (with_note w line absent_text)) f (play (run_at w f) (cond b is []))
+either_goes w v f line is true long k goes lawful = goes lawful
+either_goes w v f line is false long k goes lawful = went_nowhere w f line absent_text long k
