@@ -1,5 +1,5 @@
 -- The node keeps the outcomes that the run of its replica was told.
-use Rattle.std.proofs.Common.{◌≡◌, ◌≢◌, ◌≤◌, ◌<◌, ◌+◌, ◌-◌, ◌==◌, ◌⊎◌, inl, inr, ℕ, Bool, true, false, cond, nat_lt, List, [], ◌∷◌, ◌++◌, length, map, replicate, get_or, set, Result, Ok, Err, Option, None, Some, is_some, refl, sym, ap, subst, ◌∙◌, arith, eqb-true}
+use Rattle.std.proofs.Common.{◌≡◌, ◌≢◌, ◌≤◌, ◌<◌, ◌+◌, ◌-◌, ◌==◌, ◌⊎◌, inl, inr, ℕ, Bool, true, false, cond, nat_lt, List, [], ◌∷◌, ◌++◌, length, map, replicate, get_or, set, Result, Ok, Err, Option, None, Some, is_some, refl, sym, ap, subst, ◌∙◌, arith, eqb-true, append_assoc}
 use Rattle.std.specs.Prelude.{IsSome}
 use Rattle.std.specs.List.{AllByRecursion, filter}
 use Rattle.std.proofs.lemmas.List.{get_or-set_other, get_or-set_same, length-set, length-replicate}
@@ -321,3 +321,126 @@ either_goes : (w v : World) (f : runs.Outcomes) (line : ℕ) (is : List Input) (
     → Went w (cond b v (with_note w line absent_text)) f (play (run_at w f) (cond b is []))
 either_goes w v f line is true long k goes lawful = goes lawful
 either_goes w v f line is false long k goes lawful = went_nowhere w f line absent_text long k
+
+went_none : (w : World) (f : runs.Outcomes) → length w.sent ≡ 64 → Kept w.sent w.outcomes f → Went w w f (run_at w f)
+went_none w f long k = record { replica = refl; clients = long; kept = k; stays = λ q h. h }
+
+line_goes : (w : World) (f : runs.Outcomes) (line : ℕ) (l : ScriptLine) → IsBounded l → IsReached (run_at w f) → AllLawful (run_at w f) (inputs_of w l)
+    → length w.sent ≡ 64 → Kept w.sent w.outcomes f → Went w (played w line l) f (play (run_at w f) (inputs_of w l))
+line_goes w f line (lines.Send node range client request) bounded r lawful long k =
+    sent_goes w f line client request (has_replica w range) (omega (arith, bounded.0, bounded.1, long)) long k
+line_goes w f line (lines.Flush node range) bounded r lawful long k =
+    let collect = input events.Collect w.waiting in
+    either_goes w (playing.flushed (collected w)) f line (collect ∷ input events.Flush [] ∷ []) (has_replica w range) long k
+    (λ l. flushed_goes w f (flush_pending (next (run_at w f) collect) (reached_next (run_at w f) collect r l.0) 0 0) long k) lawful
+line_goes w f line (lines.Apply node range) bounded r lawful long k =
+    either_goes w (applied w line) f line (input events.Apply [] ∷ []) (has_replica w range) long k
+    (λ l. applied_goes w f line (next_payload w.replica) (apply_pending (run_at w f) r (next_payload w.replica)) long k) lawful
+line_goes w f line (lines.Peek node range key) bounded r lawful long k =
+    either_goes w (peeked w line key (happens w (events.Peek key)).answer) f line (input (events.Peek key) [] ∷ []) (has_replica w range) long k
+    (λ l. record { replica = refl; clients = long; kept = k; stays = λ q h. h }) lawful
+line_goes w f line (lines.Cluster nodes) bounded r lawful long k = went_none w f long k
+line_goes w f line (lines.Admit node range client request) bounded r lawful long k = went_none w f long k
+line_goes w f line (lines.Again node range client seq) bounded r lawful long k = went_none w f long k
+line_goes w f line (lines.Draw client seq) bounded r lawful long k = went_none w f long k
+line_goes w f line (lines.Publish client seq) bounded r lawful long k = went_none w f long k
+line_goes w f line (lines.Ask node range) bounded r lawful long k = went_none w f long k
+line_goes w f line (lines.Transfer node range to) bounded r lawful long k = went_none w f long k
+line_goes w f line (lines.Cut node range) bounded r lawful long k = went_none w f long k
+line_goes w f line (lines.Remove node range) bounded r lawful long k = went_none w f long k
+line_goes w f line (lines.Tick node count) bounded r lawful long k = went_none w f long k
+line_goes w f line (lines.Deliver node number) bounded r lawful long k = went_none w f long k
+line_goes w f line (lines.Loss percent salt) bounded r lawful long k = went_none w f long k
+line_goes w f line (lines.Settle rounds) bounded r lawful long k = went_none w f long k
+line_goes w f line lines.End bounded r lawful long k = went_none w f long k
+
+-- the node and the run of its replica, where lawful events led to it
+record Along (w : World) (x : Run) : Type 0 where
+  reached : IsReached x
+  replica : x.replica ≡ w.replica
+  clients : length w.sent ≡ 64
+  kept : Kept w.sent w.outcomes x.outcome
+
+reached_all : (x : Run) (is : List Input) → IsReached x → AllLawful x is → IsReached (play x is)
+reached_all x [] r lawful = r
+reached_all x (i ∷ is) r lawful = reached_all (next x i) is (reached_next x i r lawful.0) lawful.1
+
+step_goes : (w : World) (x : Run) (line : ℕ) (l : ScriptLine) → IsBounded l → AllLawful x (inputs_of w l) → Along w x
+    → Went w (played w line l) x.outcome (play x (inputs_of w l))
+step_goes w x line l bounded lawful a =
+    let same : run_at w x.outcome ≡ x = λ i. record { replica = sym a.replica i; outcome = x.outcome } in
+    subst (λ (y : Run). IsReached y → AllLawful y (inputs_of w l) → Went w (played w line l) x.outcome (play y (inputs_of w l))) same
+    (λ r good. line_goes w x.outcome line l bounded r good a.clients a.kept) a.reached lawful
+
+-- events one after the other, and lines one after the other
+play_append : (x : Run) (is js : List Input) → play x (is ++ js) ≡ play (play x is) js
+play_append x [] js = refl
+play_append x (i ∷ is) js = play_append (next x i) is js
+
+lawful_first : (x : Run) (is js : List Input) → AllLawful x (is ++ js) → AllLawful x is
+lawful_first x [] js h = tt
+lawful_first x (i ∷ is) js h = (h.0, lawful_first (next x i) is js h.1)
+
+lawful_rest : (x : Run) (is js : List Input) → AllLawful x (is ++ js) → AllLawful (play x is) js
+lawful_rest x [] js h = h
+lawful_rest x (i ∷ is) js h = lawful_rest (next x i) is js h.1
+
+pub played_append : (w : World) (ls more : List NumberedLine) → played_all w (ls ++ more) ≡ played_all (played_all w ls) more
+played_append w [] more = refl
+played_append w (l ∷ ls) more = played_append (played w l.number l.line) ls more
+
+pub inputs_append : (w : World) (ls more : List NumberedLine) → all_inputs w (ls ++ more) ≡ all_inputs w ls ++ all_inputs (played_all w ls) more
+inputs_append w [] more = refl
+inputs_append w (l ∷ ls) more = ap (λ is. inputs_of w l.line ++ is) (inputs_append (played w l.number l.line) ls more)
+    ∙ sym (append_assoc (inputs_of w l.line) (all_inputs (played w l.number l.line) ls) (all_inputs (played_all (played w l.number l.line) ls) more))
+
+-- what lines leave
+record Led (w v : World) (x y : Run) : Type 0 where
+  along : Along v y
+  stays : (q : CmdId) → IsUnasked w x q → IsUnasked v y q
+
+lines_lead : (w : World) (x : Run) (ls : List NumberedLine) → AllByRecursion (IsTaken OneNode) ls → AllLawful x (all_inputs w ls) → Along w x
+    → Led w (played_all w ls) x (play x (all_inputs w ls))
+lines_lead w x [] taken lawful a = record { along = a; stays = λ q h. h }
+lines_lead w x (l ∷ ls) taken lawful a =
+    let is : List Input = inputs_of w l.line in
+    let v : World = played w l.number l.line in
+    let first = lawful_first x is (all_inputs v ls) lawful in
+    let went : Went w v x.outcome (play x is) = step_goes w x l.number l.line taken.0.bounded first a in
+    let led : Led v (played_all v ls) (play x is) (play (play x is) (all_inputs v ls)) =
+    lines_lead v (play x is) ls taken.1 (lawful_rest x is (all_inputs v ls) lawful)
+    (record { reached = reached_all x is a.reached first; replica = went.replica; clients = went.clients; kept = went.kept }) in
+    subst (λ (y : Run). Led w (played_all v ls) x y) (sym (play_append x is (all_inputs v ls)))
+    (record { along = led.along; stays = λ q h. led.stays q (went.stays q h) })
+
+-- at first nothing was told
+starts_along : Along started begun
+starts_along = record {
+  reached = reached_begun;
+  replica = refl;
+  clients = length-replicate {A = ℕ} 64 0;
+  kept = record { told = λ q. inl refl; fresh = λ q new. (refl, refl) };
+}
+
+-- the node keeps what the run of its replica was told, unless the replica was not asked
+pub told_along : (ls : List NumberedLine) → AllByRecursion (IsTaken OneNode) ls → AllLawful begun (all_inputs started ls) → (id : CmdId)
+    → IsTold (played_all started ls) (run_of ls) id
+told_along ls taken lawful id = (lines_lead started begun ls taken lawful starts_along).along.kept.told id
+
+module _ {X : Type 0} where
+  all_rest : (P : X → Type 0) (xs ys : List X) → AllByRecursion P (xs ++ ys) → AllByRecursion P ys
+  all_rest P [] ys h = h
+  all_rest P (x ∷ xs) ys h = all_rest P xs ys h.1
+
+-- an attempt that the replica was not asked stays so, and the run is never told anything of it
+pub unasked_stays : (ls more : List NumberedLine) → AllByRecursion (IsTaken OneNode) (ls ++ more) → AllLawful begun (all_inputs started (ls ++ more)) → (id : CmdId)
+    → IsUnasked (played_all started ls) (run_of ls) id → IsUnasked (played_all started (ls ++ more)) (run_of (ls ++ more)) id
+unasked_stays ls more taken lawful id h =
+    let is : List Input = all_inputs started ls in
+    let v : World = played_all started ls in
+    let js : List Input = all_inputs v more in
+    let all : AllLawful begun (is ++ js) = subst (AllLawful begun) (inputs_append started ls more) lawful in
+    let here = lines_lead started begun ls (all_first (IsTaken OneNode) ls more taken) (lawful_first begun is js all) starts_along in
+    let then = lines_lead v (run_of ls) more (all_rest (IsTaken OneNode) ls more taken) (lawful_rest begun is js all) here.along in
+    subst (λ (w : World). IsUnasked w (run_of (ls ++ more)) id) (sym (played_append started ls more))
+    (subst (λ (y : Run). IsUnasked (played_all v more) y id) (sym (play_append begun is js) ∙ ap (play begun) (sym (inputs_append started ls more))) (then.stays id h))
