@@ -45,7 +45,7 @@ use Rattle.rp_script.specs.declared.lines.NumberedLine.{NumberedLine}
 use Rattle.rp_script.specs.declared.lines.ScriptLine.{ScriptLine}
 use Rattle.rp_script.specs.declared.lines.ScriptLine.TheVariants as lines
 use Rattle.rp_world.specs.Notes.{absent_text, full_text}
-use Rattle.rp_world.specs.Playing.{applied, asked, collected, has_replica, happens, noted, peeked, played, played_all, told}
+use Rattle.rp_world.specs.Playing.{applied, asked, collected, has_replica, happens, noted, peeked, played, played_all}
 use Rattle.rp_world.specs.Playing as playing
 use Rattle.rp_world.specs.Worlds.{World, Outcomes, cmd_cmp, counted, ended_in, next_command, started, took, with_note}
 use Rattle.rp_world.specs.Worlds as worlds
@@ -63,24 +63,24 @@ unfolding with_outcome
 run_put_other f id o q ne = cond_both (same_id q id) (Some o) (f q) (λ r. r ≡ f q) (λ e. absurd (ne (same_id_is q id e))) (λ e. refl)
 
 -- the node has refused the attempt, and the run was told nothing
-abbrev Unasked : Outcomes → runs.Outcomes → CmdId → Type 0
+abbrev pub Unasked : Outcomes → runs.Outcomes → CmdId → Type 0
 Unasked es f id = (found es id ≡ Some (Refused NoReplica)) × (f id ≡ None)
 
 -- the node keeps what the run was told
-abbrev Agrees : Outcomes → runs.Outcomes → CmdId → Type 0
+abbrev pub Agrees : Outcomes → runs.Outcomes → CmdId → Type 0
 Agrees es f id = (found es id ≡ f id) ⊎ Unasked es f id
 
 -- no client has sent the command
-abbrev IsFresh : List ℕ → CmdId → Type 0
+abbrev pub IsFresh : List ℕ → CmdId → Type 0
 IsFresh sent id = get_or sent (id.client - 1) 0 < id.seq
 
 abbrev WasSent : List ℕ → CmdId → Type 0
 WasSent sent id = id.seq ≤ get_or sent (id.client - 1) 0
 
 -- what the node keeps, where its clients have sent so many commands each
-record Kept (sent : List ℕ) (es : Outcomes) (f : runs.Outcomes) : Type 0 where
-  told : (q : CmdId) → Agrees es f q
-  fresh : (q : CmdId) → IsFresh sent q → (f q ≡ None) × (found es q ≡ None)
+pub record Kept (sent : List ℕ) (es : Outcomes) (f : runs.Outcomes) : Type 0 where
+  pub told : (q : CmdId) → Agrees es f q
+  pub fresh : (q : CmdId) → IsFresh sent q → (f q ≡ None) × (found es q ≡ None)
 
 sent_apart : (sent : List ℕ) (id q : CmdId) → WasSent sent id → IsFresh sent q → q ≡ id → ⊥
 sent_apart sent id q was fresh e =
@@ -94,8 +94,8 @@ nothing_told o e = cc
 told_put : (es : Outcomes) (f : runs.Outcomes) (id : CmdId) (o : Outcome) (q : CmdId) → (q ≡ id) ⊎ (q ≡ id → ⊥) → Agrees es f q
     → Agrees (insert_entry cmd_cmp es id o) (with_outcome f id o) q
 told_put es f id o q (inl e) h = inl (
-  ap (found (insert_entry cmd_cmp es id o)) e ∙ put_itself es id o ∙ sym (ap (with_outcome f id o) e ∙ run_put_itself f id o)
-)
+    ap (found (insert_entry cmd_cmp es id o)) e ∙ put_itself es id o ∙ sym (ap (with_outcome f id o) e ∙ run_put_itself f id o)
+    )
 told_put es f id o q (inr ne) (inl h) = inl (put_other es id o q ne ∙ h ∙ sym (run_put_other f id o q ne))
 told_put es f id o q (inr ne) (inr h) = inr (put_other es id o q ne ∙ h.0, run_put_other f id o q ne ∙ h.1)
 
@@ -251,7 +251,7 @@ placed_goes w v f y line id false h = record { replica = h.replica; clients = h.
 
 told_goes : (w : World) (f : runs.Outcomes) (line client : ℕ) (request : Request) (g : Result Evaluated Refusal) → client - 1 < length w.sent → length w.sent ≡ 64
     → Kept w.sent w.outcomes f
-    → Went w (told (took (counted w client) (admitted_by w.replica (next_command w client) request g)) line (next_command w client) (admitted_by w.replica (next_command w client) request g).answer)
+    → Went w (playing.told (took (counted w client) (admitted_by w.replica (next_command w client) request g)) line (next_command w client) (admitted_by w.replica (next_command w client) request g).answer)
     f (left_by f (events.Admit (next_command w client) request) (admitted_by w.replica (next_command w client) request g))
 told_goes w f line client request (Ok e) within long k =
     let id = next_command w client in
@@ -355,11 +355,11 @@ line_goes w f line (lines.Settle rounds) bounded r lawful long k = went_none w f
 line_goes w f line lines.End bounded r lawful long k = went_none w f long k
 
 -- the node and the run of its replica, where lawful events led to it
-record Along (w : World) (x : Run) : Type 0 where
-  reached : IsReached x
-  replica : x.replica ≡ w.replica
-  clients : length w.sent ≡ 64
-  kept : Kept w.sent w.outcomes x.outcome
+pub record Along (w : World) (x : Run) : Type 0 where
+  pub reached : IsReached x
+  pub replica : x.replica ≡ w.replica
+  pub clients : length w.sent ≡ 64
+  pub kept : Kept w.sent w.outcomes x.outcome
 
 reached_all : (x : Run) (is : List Input) → IsReached x → AllLawful x is → IsReached (play x is)
 reached_all x [] r lawful = r
@@ -395,26 +395,26 @@ inputs_append w (l ∷ ls) more = ap (λ is. inputs_of w l.line ++ is) (inputs_a
     ∙ sym (append_assoc (inputs_of w l.line) (all_inputs (played w l.number l.line) ls) (all_inputs (played_all (played w l.number l.line) ls) more))
 
 -- what lines leave
-record Led (w v : World) (x y : Run) : Type 0 where
-  along : Along v y
-  stays : (q : CmdId) → IsUnasked w x q → IsUnasked v y q
+pub record Led (w v : World) (x y : Run) : Type 0 where
+  pub along : Along v y
+  pub stays : (q : CmdId) → IsUnasked w x q → IsUnasked v y q
 
-lines_lead : (w : World) (x : Run) (ls : List NumberedLine) → AllByRecursion (IsTaken OneNode) ls → AllLawful x (all_inputs w ls) → Along w x
+pub told_along : (w : World) (x : Run) (ls : List NumberedLine) → AllByRecursion (IsTaken OneNode) ls → AllLawful x (all_inputs w ls) → Along w x
     → Led w (played_all w ls) x (play x (all_inputs w ls))
-lines_lead w x [] taken lawful a = record { along = a; stays = λ q h. h }
-lines_lead w x (l ∷ ls) taken lawful a =
+told_along w x [] taken lawful a = record { along = a; stays = λ q h. h }
+told_along w x (l ∷ ls) taken lawful a =
     let is : List Input = inputs_of w l.line in
     let v : World = played w l.number l.line in
     let first = lawful_first x is (all_inputs v ls) lawful in
     let went : Went w v x.outcome (play x is) = step_goes w x l.number l.line taken.0.bounded first a in
     let led : Led v (played_all v ls) (play x is) (play (play x is) (all_inputs v ls)) =
-    lines_lead v (play x is) ls taken.1 (lawful_rest x is (all_inputs v ls) lawful)
+    told_along v (play x is) ls taken.1 (lawful_rest x is (all_inputs v ls) lawful)
     (record { reached = reached_all x is a.reached first; replica = went.replica; clients = went.clients; kept = went.kept }) in
     subst (λ (y : Run). Led w (played_all v ls) x y) (sym (play_append x is (all_inputs v ls)))
     (record { along = led.along; stays = λ q h. led.stays q (went.stays q h) })
 
 -- at first nothing was told
-starts_along : Along started begun
+pub starts_along : Along started begun
 starts_along = record {
   reached = reached_begun;
   replica = refl;
@@ -423,9 +423,9 @@ starts_along = record {
 }
 
 -- the node keeps what the run of its replica was told, unless the replica was not asked
-pub told_along : (ls : List NumberedLine) → AllByRecursion (IsTaken OneNode) ls → AllLawful begun (all_inputs started ls) → (id : CmdId)
+pub told : (ls : List NumberedLine) → AllByRecursion (IsTaken OneNode) ls → AllLawful begun (all_inputs started ls) → (id : CmdId)
     → IsTold (played_all started ls) (run_of ls) id
-told_along ls taken lawful id = (lines_lead started begun ls taken lawful starts_along).along.kept.told id
+told ls taken lawful id = (told_along started begun ls taken lawful starts_along).along.kept.told id
 
 module _ {X : Type 0} where
   all_rest : (P : X → Type 0) (xs ys : List X) → AllByRecursion P (xs ++ ys) → AllByRecursion P ys
@@ -433,14 +433,14 @@ module _ {X : Type 0} where
   all_rest P (x ∷ xs) ys h = all_rest P xs ys h.1
 
 -- an attempt that the replica was not asked stays so, and the run is never told anything of it
-pub unasked_stays : (ls more : List NumberedLine) → AllByRecursion (IsTaken OneNode) (ls ++ more) → AllLawful begun (all_inputs started (ls ++ more)) → (id : CmdId)
+pub refused_stays : (ls more : List NumberedLine) → AllByRecursion (IsTaken OneNode) (ls ++ more) → AllLawful begun (all_inputs started (ls ++ more)) → (id : CmdId)
     → IsUnasked (played_all started ls) (run_of ls) id → IsUnasked (played_all started (ls ++ more)) (run_of (ls ++ more)) id
-unasked_stays ls more taken lawful id h =
+refused_stays ls more taken lawful id h =
     let is : List Input = all_inputs started ls in
     let v : World = played_all started ls in
     let js : List Input = all_inputs v more in
     let all : AllLawful begun (is ++ js) = subst (AllLawful begun) (inputs_append started ls more) lawful in
-    let here = lines_lead started begun ls (all_first (IsTaken OneNode) ls more taken) (lawful_first begun is js all) starts_along in
-    let then = lines_lead v (run_of ls) more (all_rest (IsTaken OneNode) ls more taken) (lawful_rest begun is js all) here.along in
+    let here = told_along started begun ls (all_first (IsTaken OneNode) ls more taken) (lawful_first begun is js all) starts_along in
+    let then = told_along v (run_of ls) more (all_rest (IsTaken OneNode) ls more taken) (lawful_rest begun is js all) here.along in
     subst (λ (w : World). IsUnasked w (run_of (ls ++ more)) id) (sym (played_append started ls more))
     (subst (λ (y : Run). IsUnasked (played_all v more) y id) (sym (play_append begun is js) ∙ ap (play begun) (sym (inputs_append started ls more))) (then.stays id h))
