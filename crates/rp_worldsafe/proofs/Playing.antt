@@ -36,8 +36,7 @@ use Rattle.rp_world.proofs.SoundLists.{all_snoc}
 use Rattle.rp_world.proofs.SoundPlay.{none_sent, set_bounds}
 use Rattle.rp_worldsafe.specs.Inputs.{input, inputs_of, all_inputs, run_of}
 use Rattle.rp_worldsafe.specs.Playable.{ArePlayable}
-use Rattle.rp_worldsafe.proofs.Runs.{after, after_append, line_same, played_after}
-use Rattle.rp_worldsafe.proofs.Unmade.{IsOther, stays_unmade}
+use Rattle.rp_worldsafe.proofs.Told.{Along, along_line, play_append, starts_along}
 
 -- keys lie in the key space
 has_keys : (q : Request) → FitsRequest q → HasKeys q
@@ -108,11 +107,6 @@ counts_after w n (lines.Apply node range) b h = counts_more w.sent n h
 counts_after w n (lines.Peek node range key) b h = counts_more w.sent n h
 counts_after w n _ b h = counts_more w.sent n h
 
--- no count falls
-counts_grow : (w : World) (n : ℕ) (l : ScriptLine) → IsBounded l → Counts w.sent n → (i : ℕ) → get_or w.sent i 0 ≤ get_or (sent_after w l) i 0
-counts_grow w n (lines.Send node range client q) b h i = (set_bounds w.sent (client - 1) n i (within_counts w.sent n client h b.0 b.1) h.most _ refl).0
-counts_grow w n _ b h i = omega arith
-
 -- at most 16 items wait, whose numbers have their widths
 record Waits (waiting : List Item) : Type 0 where
   few : length waiting ≤ 16
@@ -151,58 +145,20 @@ line_waits w line (lines.Apply node range) h = either_waits w (applied w line) l
 line_waits w line (lines.Peek node range key) h = either_waits w (peeked w line key (happens w (events.Peek key)).answer) line (has_replica w range) h h
 line_waits w line _ h = h
 
--- the line sends the attempt
-abbrev Sends : World → ScriptLine → CmdId → Type 0
-Sends w (lines.Send node range client q) id = id ≡ next_command w client
-Sends w _ id = ⊥
-
-all_where : (P : Input → Type 0) (b : Bool) (is : List Input) → AllByRecursion P is → AllByRecursion P (cond b is [])
-all_where P true is h = h
-all_where P false is h = tt
-
-line_others : (w : World) (l : ScriptLine) (q : CmdId) → (Sends w l q → ⊥) → AllByRecursion (λ i. IsOther q i.event) (inputs_of w l)
-line_others w (lines.Send node range client request) q h = all_where (λ i. IsOther q i.event) (has_replica w range) (input (events.Admit (next_command w client) request) [] ∷ []) (h, tt)
-line_others w (lines.Flush node range) q h = all_where (λ i. IsOther q i.event) (has_replica w range) (input events.Collect w.waiting ∷ input events.Flush [] ∷ []) (tt, (tt, tt))
-line_others w (lines.Apply node range) q h = all_where (λ i. IsOther q i.event) (has_replica w range) (input events.Apply [] ∷ []) (tt, tt)
-line_others w (lines.Peek node range key) q h = all_where (λ i. IsOther q i.event) (has_replica w range) (input (events.Peek key) [] ∷ []) (tt, tt)
-line_others w _ q h = tt
-
--- an attempt that was sent is not sent again, and one that was not sent yet was not made
-sent_once : (w : World) (l : ScriptLine) (q : CmdId) → q.seq ≤ get_or w.sent (q.client - 1) 0 → Sends w l q → ⊥
-sent_once w (lines.Send node range client request) q h s =
-    let k = subst (λ (id : CmdId). id.seq ≤ get_or w.sent (id.client - 1) 0) s h in
-    absurd (omega (arith, k))
-sent_once w _ q h s = s
-
-not_sent : (w : World) (n : ℕ) (l : ScriptLine) (q : CmdId) → IsBounded l → Counts w.sent n → get_or (sent_after w l) (q.client - 1) 0 < q.seq → Sends w l q → ⊥
-not_sent w n (lines.Send node range client request) q b h k s =
-    let m = subst (λ (id : CmdId). get_or (counted w client).sent (id.client - 1) 0 < id.seq) s k in
-    let at = get_or-set_same w.sent (client - 1) (get_or w.sent (client - 1) 0 + 1) 0 (within_counts w.sent n client h b.0 b.1) in
-    absurd (omega (arith, m, at))
-not_sent w n _ q b h k s = s
-
 -- lists of lawful events, one after the other
 lawful_append : (x : Run) (is js : List Input) → AllLawful x is → AllLawful (play x is) js → AllLawful x (is ++ js)
 lawful_append x [] js h k = k
 lawful_append x (i ∷ is) js h k = (h.0, lawful_append (next x i) is js h.1 k)
 
-pub play_append : (x : Run) (is js : List Input) → play x (is ++ js) ≡ play (play x is) js
-play_append x [] js = refl
-play_append x (i ∷ is) js = play_append (next x i) is js
-
--- the run x of the replica follows the node w after so many lines
+-- the run follows the node, after so many lines
 record Follows (w : World) (x : Run) (n : ℕ) : Type 0 where
-  same : x.replica ≡ w.replica
   inputs : List Input
   lawful : AllLawful begun inputs
   reached : play begun inputs ≡ x
   few : length inputs ≤ 2 * n
+  along : Along w x
   counts : Counts w.sent n
   waits : Waits w.waiting
-  new : (q : CmdId) → get_or w.sent (q.client - 1) 0 < q.seq → x.outcome q ≡ None
-
-abbrev is_reached : (w : World) (x : Run) (n : ℕ) → Follows w x n → IsReached x
-is_reached w x n h = record { inputs = h.inputs; lawful = h.lawful; reached = h.reached }
 
 lawful_where : (x : Run) (b : Bool) (is : List Input) → AllLawful x is → AllLawful x (cond b is [])
 lawful_where x true is h = h
@@ -212,7 +168,7 @@ may_ask : (w : World) (x : Run) (n client : ℕ) (q : Request) → Follows w x n
 may_ask w x n client q h small from_one to_limit fits =
     let c = h.counts.most (client - 1) in
     record {
-      new = h.new (next_command w client) (omega arith);
+      new = (h.along.kept.fresh (next_command w client) (omega arith)).0;
       turn = inl refl;
       keys = has_keys q fits;
       fits_id = (omega (arith, to_limit), omega (arith, c, small), omega arith);
@@ -238,7 +194,7 @@ line_lawful w x n (lines.Send node range client q) h small b fits =
 line_lawful w x n (lines.Flush node range) h small b fits =
     lawful_where x (has_replica w range) (input events.Collect w.waiting ∷ input events.Flush [] ∷ []) (flush_lawful w x n h small)
 line_lawful w x n (lines.Apply node range) h small b fits =
-    lawful_where x (has_replica w range) (input events.Apply [] ∷ []) (low_sequence x (is_reached w x n h) (let f = h.few in omega (arith, f, small)), tt)
+    lawful_where x (has_replica w range) (input events.Apply [] ∷ []) (low_sequence x (record { inputs = h.inputs; lawful = h.lawful; reached = h.reached }) (let f = h.few in omega (arith, f, small)), tt)
 line_lawful w x n (lines.Peek node range key) h small b fits = lawful_where x (has_replica w range) (input (events.Peek key) [] ∷ []) (tt, tt)
 line_lawful w x n _ h small b fits = tt
 
@@ -256,51 +212,34 @@ line_few w _ = omega arith
 line_follows : (w : World) (x : Run) (n line : ℕ) (l : ScriptLine) → Follows w x n → IsBounded l → AllLawful x (inputs_of w l)
     → Follows (played w line l) (play x (inputs_of w l)) (n + 1)
 line_follows w x n line l h b lawful = record {
-  same = played_after x (inputs_of w l) ∙ ap (λ r. after r (inputs_of w l)) h.same ∙ sym (line_same w line l);
   inputs = h.inputs ++ inputs_of w l;
   lawful = lawful_append begun h.inputs (inputs_of w l) h.lawful (subst (λ y. AllLawful y (inputs_of w l)) (sym h.reached) lawful);
   reached = play_append begun h.inputs (inputs_of w l) ∙ ap (λ y. play y (inputs_of w l)) h.reached;
   few = (let m = length-append h.inputs (inputs_of w l) in let k = line_few w l in let f = h.few in omega (arith, m, k, f));
+  along = along_line w x line l b lawful h.along;
   counts = subst (λ sent. Counts sent (n + 1)) (sym (line_sent w line l)) (counts_after w n l b h.counts);
   waits = line_waits w line l h.waits;
-  new = λ q k.
-      let m : get_or (sent_after w l) (q.client - 1) 0 < q.seq = subst (λ sent. get_or sent (q.client - 1) 0 < q.seq) (line_sent w line l) k in
-      let g = counts_grow w n l b h.counts (q.client - 1) in
-      stays_unmade x (is_reached w x n h) q (h.new q (omega (arith, m, g))) (inputs_of w l) lawful (line_others w l q (not_sent w n l q b h.counts m));
 }
 
 follows_started : Follows started begun 0
 follows_started = record {
-  same = refl;
   inputs = [];
   lawful = tt;
   reached = refl;
   few = omega arith;
+  along = starts_along;
   counts = record { clients = length-replicate {A = ℕ} 64 0; most = λ i. (let e = none_sent 64 i in omega (arith, e)) };
   waits = record { few = omega arith; fit = tt };
-  new = λ q k. refl;
 }
 
--- where lines that may be played lead from a node and the run that it follows
-record Leads (w : World) (x : Run) (n : ℕ) (ls : List NumberedLine) : Type 0 where
-  pub lawful : AllLawful x (all_inputs w ls)
-  pub follows : Follows (played_all w ls) (play x (all_inputs w ls)) (n + length ls)
-
-all_follow : (w : World) (x : Run) (n : ℕ) (ls : List NumberedLine) → Follows w x n → n + length ls ≤ 65536 → AllByRecursion (IsTaken OneNode) ls → AllByRecursion LineFits ls → Leads w x n ls
-all_follow w x n [] h few taken fit = record { lawful = tt; follows = subst (Follows w x) (omega arith) h }
-all_follow w x n (l ∷ ls) h few taken fit =
+lawful_from : (w : World) (x : Run) (n : ℕ) (ls : List NumberedLine) → Follows w x n → n + length ls ≤ 65536 → AllByRecursion (IsTaken OneNode) ls
+    → AllByRecursion LineFits ls → AllLawful x (all_inputs w ls)
+lawful_from w x n [] h few taken fit = tt
+lawful_from w x n (l ∷ ls) h few taken fit =
     let here = line_lawful w x n l.line h (omega (arith, few)) taken.0.bounded fit.0 in
-    let now = line_follows w x n l.number l.line h taken.0.bounded here in
-    let rest = all_follow (played w l.number l.line) (play x (inputs_of w l.line)) (n + 1) ls now (omega (arith, few)) taken.1 fit.1 in
-    record {
-      lawful = lawful_append x (inputs_of w l.line) (all_inputs (played w l.number l.line) ls) here rest.lawful;
-      follows = subst (Follows (played_all (played w l.number l.line) ls) (play x (all_inputs w (l ∷ ls)))) (omega arith)
-          (subst (λ y. Follows (played_all (played w l.number l.line) ls) y (n + 1 + length ls))
-          (sym (play_append x (inputs_of w l.line) (all_inputs (played w l.number l.line) ls))) rest.follows);
-    }
-
-leads : (ls : List NumberedLine) → ArePlayable ls → Leads started begun 0 ls
-leads ls h = all_follow started begun 0 ls follows_started (let f = h.few in omega (arith, f)) h.taken h.fit
+    lawful_append x (inputs_of w l.line) (all_inputs (played w l.number l.line) ls) here
+    (lawful_from (played w l.number l.line) (play x (inputs_of w l.line)) (n + 1) ls (line_follows w x n l.number l.line h taken.0.bounded here)
+    (omega (arith, few)) taken.1 fit.1)
 
 pub lines_are_lawful : (ls : List NumberedLine) → ArePlayable ls → AllLawful begun (all_inputs started ls)
-lines_are_lawful ls h = (leads ls h).lawful
+lines_are_lawful ls h = lawful_from started begun 0 ls follows_started (let f = h.few in omega (arith, f)) h.taken h.fit

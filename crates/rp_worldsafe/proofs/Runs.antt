@@ -27,11 +27,11 @@ abbrev pub after : Replica → List Input → Replica
 after r [] = r
 after r (i ∷ is) = after (event r i.event i.ticks i.round i.taken).replica is
 
-pub played_after : (x : Run) (is : List Input) → (play x is).replica ≡ after x.replica is
+played_after : (x : Run) (is : List Input) → (play x is).replica ≡ after x.replica is
 played_after x [] = refl
 played_after x (i ∷ is) = played_after (next x i) is
 
-pub after_append : (r : Replica) (is js : List Input) → after r (is ++ js) ≡ after (after r is) js
+after_append : (r : Replica) (is js : List Input) → after r (is ++ js) ≡ after (after r is) js
 after_append r [] js = refl
 after_append r (i ∷ is) js = after_append (event r i.event i.ticks i.round i.taken).replica is js
 
@@ -59,7 +59,7 @@ either_same : (w next : World) (line : ℕ) (is : List Input) (b : Bool) → nex
 either_same w next line is true h = h
 either_same w next line is false h = refl
 
-pub line_same : (w : World) (line : ℕ) (l : ScriptLine) → (played w line l).replica ≡ after w.replica (inputs_of w l)
+line_same : (w : World) (line : ℕ) (l : ScriptLine) → (played w line l).replica ≡ after w.replica (inputs_of w l)
 line_same w line (lines.Send node range client q) = sent_same w line client q (has_replica w range)
 line_same w line (lines.Flush node range) =
     either_same w (flushed (collected w)) line (input events.Collect w.waiting ∷ input events.Flush [] ∷ []) (has_replica w range) refl

@@ -372,8 +372,14 @@ step_goes w x line l bounded lawful a =
     subst (λ (y : Run). IsReached y → AllLawful y (inputs_of w l) → Went w (played w line l) x.outcome (play y (inputs_of w l))) same
     (λ r good. line_goes w x.outcome line l bounded r good a.clients a.kept) a.reached lawful
 
+pub along_line : (w : World) (x : Run) (line : ℕ) (l : ScriptLine) → IsBounded l → AllLawful x (inputs_of w l) → Along w x
+    → Along (played w line l) (play x (inputs_of w l))
+along_line w x line l bounded lawful a =
+    let went : Went w (played w line l) x.outcome (play x (inputs_of w l)) = step_goes w x line l bounded lawful a in
+    record { reached = reached_all x (inputs_of w l) a.reached lawful; replica = went.replica; clients = went.clients; kept = went.kept }
+
 -- events one after the other, and lines one after the other
-play_append : (x : Run) (is js : List Input) → play x (is ++ js) ≡ play (play x is) js
+pub play_append : (x : Run) (is js : List Input) → play x (is ++ js) ≡ play (play x is) js
 play_append x [] js = refl
 play_append x (i ∷ is) js = play_append (next x i) is js
 
@@ -408,8 +414,7 @@ told_along w x (l ∷ ls) taken lawful a =
     let first = lawful_first x is (all_inputs v ls) lawful in
     let went : Went w v x.outcome (play x is) = step_goes w x l.number l.line taken.0.bounded first a in
     let led : Led v (played_all v ls) (play x is) (play (play x is) (all_inputs v ls)) =
-    told_along v (play x is) ls taken.1 (lawful_rest x is (all_inputs v ls) lawful)
-    (record { reached = reached_all x is a.reached first; replica = went.replica; clients = went.clients; kept = went.kept }) in
+    told_along v (play x is) ls taken.1 (lawful_rest x is (all_inputs v ls) lawful) (along_line w x l.number l.line taken.0.bounded first a) in
     subst (λ (y : Run). Led w (played_all v ls) x y) (sym (play_append x is (all_inputs v ls)))
     (record { along = led.along; stays = λ q h. led.stays q (went.stays q h) })
 
