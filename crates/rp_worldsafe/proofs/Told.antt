@@ -387,7 +387,7 @@ lawful_first : (x : Run) (is js : List Input) → AllLawful x (is ++ js) → All
 lawful_first x [] js h = tt
 lawful_first x (i ∷ is) js h = (h.0, lawful_first (next x i) is js h.1)
 
-lawful_rest : (x : Run) (is js : List Input) → AllLawful x (is ++ js) → AllLawful (play x is) js
+pub lawful_rest : (x : Run) (is js : List Input) → AllLawful x (is ++ js) → AllLawful (play x is) js
 lawful_rest x [] js h = h
 lawful_rest x (i ∷ is) js h = lawful_rest (next x i) is js h.1
 

@@ -1,4 +1,4 @@
 pub mod Inputs
 pub mod Playable
-pub mod Headline
 pub mod Told
+pub mod Headline
