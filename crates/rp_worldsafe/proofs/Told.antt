@@ -1,10 +1,8 @@
 -- The node keeps the outcomes that the run of its replica was told.
-use Rattle.std.proofs.Common.{◌≡◌, ◌≢◌, ◌≤◌, ◌<◌, ◌+◌, ◌-◌, ◌==◌, ◌⊎◌, inl, inr, ℕ, Bool, true, false, cond, nat_lt, List, [], ◌∷◌, ◌++◌, length, map, replicate, get_or, set, Result, Ok, Err, Option, None, Some, is_some, refl, sym, ap, subst, ◌∙◌, arith, eqb-true, append_assoc}
-use Rattle.std.specs.Prelude.{IsSome}
-use Rattle.std.specs.List.{AllByRecursion, filter}
+use Rattle.std.proofs.Common.{◌≡◌, ◌≢◌, ◌≤◌, ◌<◌, ◌+◌, ◌-◌, ◌==◌, ◌⊎◌, inl, inr, ℕ, Bool, true, false, cond, nat_lt, List, [], ◌∷◌, ◌++◌, length, map, get_or, set, Result, Ok, Err, Option, None, Some, is_some, refl, sym, ap, subst, ◌∙◌, arith, eqb-true, append_assoc}
+use Rattle.std.specs.List.{AllByRecursion}
 use Rattle.std.proofs.lemmas.List.{get_or-set_other, get_or-set_same, length-set, length-replicate}
-use Rattle.std.proofs.lemmas.Bool.{cond_both}
-use Rattle.std.proofs.lemmas.Bool.{ltb-true, ltb-false}
+use Rattle.std.proofs.lemmas.Bool.{cond_both, ltb-true, ltb-false}
 use Rattle.std.proofs.lemmas.Bool.Decides.{nat_tests}
 use Rattle.std.specs.BTreeMap.{insert_entry}
 use Rattle.rp_base.specs.declared.ids.CmdId.{CmdId}
@@ -176,7 +174,7 @@ apply_pending x r (Some (payload_kinds.Lease ask)) = tt
 
 -- what a flush ends was pending
 module _ {X : Type 0} where
-  all_first : (P : X → Type 0) (xs ys : List X) → AllByRecursion P (xs ++ ys) → AllByRecursion P xs
+  pub all_first : (P : X → Type 0) (xs ys : List X) → AllByRecursion P (xs ++ ys) → AllByRecursion P xs
   all_first P [] ys h = tt
   all_first P (x ∷ xs) ys h = (h.0, all_first P xs ys h.1)
 
@@ -383,7 +381,7 @@ pub play_append : (x : Run) (is js : List Input) → play x (is ++ js) ≡ play 
 play_append x [] js = refl
 play_append x (i ∷ is) js = play_append (next x i) is js
 
-lawful_first : (x : Run) (is js : List Input) → AllLawful x (is ++ js) → AllLawful x is
+pub lawful_first : (x : Run) (is js : List Input) → AllLawful x (is ++ js) → AllLawful x is
 lawful_first x [] js h = tt
 lawful_first x (i ∷ is) js h = (h.0, lawful_first (next x i) is js h.1)
 
