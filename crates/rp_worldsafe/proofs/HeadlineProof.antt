@@ -22,7 +22,7 @@ use Rattle.rp_worldsafe.specs.Playable.{ArePlayable}
 use Rattle.rp_worldsafe.specs.Told.{IsTold, outcome_of}
 use Rattle.rp_worldsafe.proofs.Playing.{lines_are_lawful}
 use Rattle.rp_worldsafe.proofs.Runs.{run_is_played}
-use Rattle.rp_worldsafe.proofs.Told.{told, refused_stays, inputs_append, lawful_rest, play_append}
+use Rattle.rp_worldsafe.proofs.Told.{each_kept, told, refused_stays, inputs_append, lawful_rest, play_append}
 
 nothing_is_some : (o : Outcome) → None ≡ Some o → ⊥
 nothing_is_some o e = cc
@@ -92,7 +92,7 @@ module _ (ls : List NumberedLine) (h : ArePlayable ls) where
   reached : IsReached (run_of ls)
   reached = record { inputs = all_inputs started ls; lawful = lines_are_lawful ls h; reached = refl }
 
-  tells_all : (id : CmdId) → IsTold (node_after ls) (run_of ls) id
+  pub tells_all : (id : CmdId) → IsTold (node_after ls) (run_of ls) id
   tells_all id = told ls h.taken (lines_are_lawful ls h) id
 
   never : (id : CmdId) → IsRefusal (outcome_of (node_after ls) id) → NeverHasAPlace ls id
@@ -125,6 +125,7 @@ module _ (ls : List NumberedLine) (h : ArePlayable ls) where
         once_in_log = once_in_log x r;
         lawful = place_is_lawful x r;
         told = applied_told w f r tells;
+        replies = each_kept ls h.taken (lines_are_lawful ls h);
         success = success w f r tells;
         refused = never;
         pending = pending w f r tells;

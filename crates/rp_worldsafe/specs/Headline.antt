@@ -1,5 +1,6 @@
 -- What a node that has played the lines of a script owes its clients.
 use Rattle.std.specs.Prelude.{◌≡◌, ℕ, ◌<◌, ◌≤◌, ◌↔◌, List, ◌++◌, length, take, filter_map, Some, IsSome}
+use Rattle.std.specs.List.{AllByRecursion}
 use Rattle.rp_base.specs.declared.ids.CmdId.{CmdId}
 use Rattle.rp_request.specs.Items.{fold}
 use Rattle.rp_request.specs.Places.{IsOnce}
@@ -22,16 +23,17 @@ use Rattle.rp_world.specs.Playing.{played_all}
 use Rattle.rp_world.specs.Worlds.{World, started}
 use Rattle.rp_worldsafe.specs.Inputs.{run_of}
 use Rattle.rp_worldsafe.specs.Playable.{ArePlayable}
-use Rattle.rp_worldsafe.specs.Told.{outcome_of}
+use Rattle.rp_worldsafe.specs.Told.{IsKept, outcome_of}
 
 -- the node that has played these lines
 abbrev pub node_after : List NumberedLine → World
 node_after ls = played_all started ls
 
--- the payloads of its log, all of them committed, and its applied list
+-- the payloads of a node's log, all of them committed
 abbrev pub log_of : World → List Payload
 log_of w = filter_map payload w.replica.log.entries
 
+-- its applied list
 abbrev pub list_of : World → List Place
 list_of w = applied w.replica.applied.records.list
 
@@ -59,6 +61,8 @@ pub record IsHeadline (ls : List NumberedLine) : Type 0 where
   pub lawful : (id : CmdId) (k : ℕ) (c : Command) → IsPlace (log_of (node_after ls)) id k c → IsLawfulPlace (log_of (node_after ls)) k c
   pub told : (id : CmdId) (k : ℕ) (c : Command) → IsPlace (log_of (node_after ls)) id k c → k < (node_after ls).replica.applied.index
       → outcome_of (node_after ls) id ≡ Some (Success c.reply)
+  -- each reply line is what its attempt is told
+  pub replies : AllByRecursion (IsKept (node_after ls)) (node_after ls).outcomes
   -- an attempt that is told Success has the one place of its command, with this reply; a refused one never has a place
   pub success : (id : CmdId) (reply : Reply) → outcome_of (node_after ls) id ≡ Some (Success reply) → IsTheOnePlace (log_of (node_after ls)) id reply
   pub refused : (id : CmdId) → IsRefusal (outcome_of (node_after ls) id) → NeverHasAPlace ls id
