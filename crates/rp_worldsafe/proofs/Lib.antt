@@ -1,2 +1,5 @@
 pub mod Runs
+pub mod Lookups
+pub mod Told
+pub mod Playing
 pub mod HeadlineProof

@@ -1,2 +1,4 @@
 pub mod Inputs
+pub mod Playable
+pub mod Told
 pub mod Headline
