@@ -5,9 +5,8 @@ use Rattle.rp_script.specs.Meaning.{meaning}
 use Rattle.rp_script.specs.declared.built.Forms.TheVariants.{OneNode}
 use Rattle.rp_script.specs.declared.faults.ScriptFault.{ScriptFault}
 use Rattle.rp_script.specs.declared.lines.NumberedLine.{NumberedLine}
-use Rattle.rp_world.specs.Playing.{played_all}
-use Rattle.rp_world.specs.Views as views
-use Rattle.rp_world.specs.Worlds.{started}
+use Rattle.rp_world.specs.Views.{view_of}
+use Rattle.rp_worldsafe.specs.Headline.{node_after}
 
 -- the lines of a script of one node, or the first limit or refusal
 abbrev pub script_of : List ℕ → Result (List NumberedLine) ScriptFault
@@ -15,4 +14,4 @@ script_of bytes = meaning OneNode false bytes
 
 -- what one node shows that has played these lines
 abbrev pub shown_of : List NumberedLine → View
-shown_of lines = views.view_of (played_all started lines)
+shown_of lines = view_of (node_after lines)

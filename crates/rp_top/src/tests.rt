@@ -153,6 +153,24 @@ fn wipes_of_17_and_16_keys(rt: HostRuntime) -> Result<(), Fail> {
 }
 
 #[test]
+fn a_17th_item_stays_pending(rt: HostRuntime) -> Result<(), Fail> {
+    let script =
+        b"cluster 1\nsend 1 0 1 put k01 1\nsend 1 0 1 put k02 1\nsend 1 0 1 put k03 1\nsend 1 0 1 put k04 1\nsend 1 0 1 put k05 1\nsend 1 0 1 put k06 1\nsend 1 0 1 put k07 1\nsend 1 0 1 put k08 1\nsend 1 0 1 put k09 1\nsend 1 0 1 put k10 1\nsend 1 0 1 put k11 1\nsend 1 0 1 put k12 1\nsend 1 0 1 put k13 1\nsend 1 0 1 put k14 1\nsend 1 0 1 put k15 1\nsend 1 0 1 put k16 1\nsend 1 0 1 put k17 1\nflush 1 0\napply 1 0\napply 1 0\napply 1 0\napply 1 0\napply 1 0\napply 1 0\napply 1 0\napply 1 0\napply 1 0\napply 1 0\napply 1 0\napply 1 0\napply 1 0\napply 1 0\napply 1 0\napply 1 0\nend\n";
+    let output =
+        b"nodes 1\nnote 18 full 16\nreply 1.1 1 ok none\nreply 1.2 1 ok none\nreply 1.3 1 ok none\nreply 1.4 1 ok none\nreply 1.5 1 ok none\nreply 1.6 1 ok none\nreply 1.7 1 ok none\nreply 1.8 1 ok none\nreply 1.9 1 ok none\nreply 1.10 1 ok none\nreply 1.11 1 ok none\nreply 1.12 1 ok none\nreply 1.13 1 ok none\nreply 1.14 1 ok none\nreply 1.15 1 ok none\nreply 1.16 1 ok none\nreply 1.17 1 pending\nrange 0 ^ ~ level 0 lease 1 1 40\nplace 1 write 1.1 1 put k01 1 under 1 ok none\nplace 2 write 1.2 1 put k02 1 under 1 ok none\nplace 3 write 1.3 1 put k03 1 under 1 ok none\nplace 4 write 1.4 1 put k04 1 under 1 ok none\nplace 5 write 1.5 1 put k05 1 under 1 ok none\nplace 6 write 1.6 1 put k06 1 under 1 ok none\nplace 7 write 1.7 1 put k07 1 under 1 ok none\nplace 8 write 1.8 1 put k08 1 under 1 ok none\nplace 9 write 1.9 1 put k09 1 under 1 ok none\nplace 10 write 1.10 1 put k10 1 under 1 ok none\nplace 11 write 1.11 1 put k11 1 under 1 ok none\nplace 12 write 1.12 1 put k12 1 under 1 ok none\nplace 13 write 1.13 1 put k13 1 under 1 ok none\nplace 14 write 1.14 1 put k14 1 under 1 ok none\nplace 15 write 1.15 1 put k15 1 under 1 ok none\nplace 16 write 1.16 1 put k16 1 under 1 ok none\nnode 1 live term 1 applied 16 lai 16\nrow k01 1\nrow k02 1\nrow k03 1\nrow k04 1\nrow k05 1\nrow k06 1\nrow k07 1\nrow k08 1\nrow k09 1\nrow k10 1\nrow k11 1\nrow k12 1\nrow k13 1\nrow k14 1\nrow k15 1\nrow k16 1\nend\n";
+    assert!(rt;
+        gives(
+            rt.alloc(),
+            &["run"],
+            script.as_slice(),
+            0,
+            output.as_slice()
+        )?
+    );
+    Ok(())
+}
+
+#[test]
 fn a_last_line_that_is_cut(rt: HostRuntime) -> Result<(), Fail> {
     let script = b"cluster 1\nsend 1 0 1 pu";
     assert!(rt;
@@ -242,6 +260,44 @@ fn refusals(rt: HostRuntime) -> Result<(), Fail> {
     Ok(())
 }
 
+/// Whether the second line, behind `cluster 1`, is refused with these words.
+fn refuses(alloc: Global, line: &[u8], output: &[u8]) -> Result<bool, Fail> {
+    let mut script = b"cluster 1\n".to_vec(alloc)?;
+    script.extend_from_slice(line)?;
+    script.extend_from_slice(b"\nend\n")?;
+    gives(alloc, &["run"], &script, 3, output)
+}
+
+#[test]
+fn lines_that_are_not_built(rt: HostRuntime) -> Result<(), Fail> {
+    let alloc = rt.alloc();
+    assert!(rt; refuses(alloc, b"send 1 0 1 split k", b"refused 2 5 not-built\n")?);
+    assert!(rt; refuses(alloc, b"admit 1 0 1 split k", b"refused 2 5 not-built\n")?);
+    assert!(rt; refuses(alloc, b"admit 1 0 1 put k 1", b"refused 2 1 not-built\n")?);
+    assert!(rt; refuses(alloc, b"ask 1 0", b"refused 2 1 not-built\n")?);
+    assert!(rt; refuses(alloc, b"settle 1", b"refused 2 1 not-built\n")?);
+    Ok(())
+}
+
+#[test]
+fn a_refusal_before_what_is_not_built(rt: HostRuntime) -> Result<(), Fail> {
+    let alloc = rt.alloc();
+    assert!(rt; refuses(alloc, b"send 1 0 1 split", b"refused 2 6 missing-word\n")?);
+    assert!(rt; refuses(alloc, b"send 2 0 1 split k", b"refused 2 2 out-of-range\n")?);
+    assert!(rt; refuses(alloc, b"admit 1 0 1 split k k", b"refused 2 7 extra-word\n")?);
+    assert!(rt; refuses(alloc, b"settle 0", b"refused 2 2 out-of-range\n")?);
+    assert!(rt;
+        gives(
+            alloc,
+            &["run"],
+            b"cluster 6\n",
+            3,
+            b"refused 1 2 out-of-range\n"
+        )?
+    );
+    Ok(())
+}
+
 #[test]
 fn a_comment_of_257_bytes(rt: HostRuntime) -> Result<(), Fail> {
     let script = [b'#'; 257];
@@ -278,6 +334,14 @@ fn other_words(rt: HostRuntime) -> Result<(), Fail> {
     assert!(rt; gives(rt.alloc(), &["run", "run"], ONE_PUT, 2, USAGE)?);
     assert!(rt; gives(rt.alloc(), &["run", "--form"], ONE_PUT, 2, USAGE)?);
     assert!(rt; gives(rt.alloc(), &["run", "--form=list"], ONE_PUT, 2, USAGE)?);
+    Ok(())
+}
+
+#[test]
+fn words_of_what_is_not_built(rt: HostRuntime) -> Result<(), Fail> {
+    assert!(rt; gives(rt.alloc(), &["race"], ONE_PUT, 2, USAGE)?);
+    assert!(rt; gives(rt.alloc(), &["gen", "7", "20"], ONE_PUT, 2, USAGE)?);
+    assert!(rt; gives(rt.alloc(), &["run", "--form=json"], ONE_PUT, 2, USAGE)?);
     Ok(())
 }
 
