@@ -1,2 +1,5 @@
 pub mod Runs
 pub mod HeadlineProof
+pub mod Lookups
+pub mod Told
+pub mod Refusals
