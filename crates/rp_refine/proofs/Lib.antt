@@ -10,5 +10,6 @@ pub mod Fitted
 pub mod Counting
 pub mod Following
 pub mod Telling
+pub mod Unmade
 pub mod Allowing
 pub mod Worked

@@ -76,7 +76,7 @@ as_long (e ∷ es) [] h = absurd h
 as_long (e ∷ es) (p ∷ ps) h = ap suc (as_long es ps h.1)
 
 module _ (x : Run) (w : Ranges) (s : Shadow w x) where
-  shown_log : (w.range 0).log ≡ payloads x
+  pub shown_log : (w.range 0).log ≡ payloads x
   shown_log = log_carried x.replica.log.entries (w.range 0).log s.shows.base.carried
 
   shown_place : (id : CmdId) (k : ℕ) (c : Command) → IsPlace (payloads x) id k c → machine.IsPlace (w.range 0) id k c

@@ -4,6 +4,7 @@ use Rattle.std.specs.List.{IsDistinct}
 use Rattle.rp_base.specs.declared.ids.CmdId.{CmdId}
 use Rattle.rp_request.specs.declared.commands.Command.{Command}
 use Rattle.rp_request.specs.declared.commands.Payload.{Payload}
+use Rattle.rp_request.specs.declared.commands.Payload.TheVariants.{Write}
 use Rattle.rp_request.specs.declared.items.Place.{Place}
 use Rattle.rp_request.specs.declared.items.Record as kept
 use Rattle.rp_request.specs.declared.outcomes.Reply.{Reply}
@@ -51,6 +52,12 @@ items x = applied (records x)
 -- the state after so many entries of a list
 abbrev pub state_after : List Payload → ℕ → AppliedState
 state_after log k = state first_applied (entry log) k
+
+-- the entry with this index, from 0, is a command of the attempt, taken or not
+pub record IsEntryOf (log : List Payload) (id : CmdId) (k : ℕ) (c : Command) : Type 0 where
+  pub within : k < length log
+  pub here : entry log k ≡ Write c
+  pub named : c.id ≡ id
 
 -- the attempt has a place in a list: the entry with this index, from 0, is a command of it, and is taken
 pub record IsPlace (log : List Payload) (id : CmdId) (k : ℕ) (c : Command) : Type 0 where

@@ -1,6 +1,6 @@
 //! Laws of a run of one replica whose whole log is committed, for every list of lawful events. No program calls these
 //! functions.
-ghost use Rattle.std.specs.Prelude.{◌≡◌, ℕ, ◌+◌, ◌-◌, ◌*◌, ◌^◌, max, ◌<◌, ◌≤◌, ◌↔◌, Some, length, map, take, slice_get, IsSome};
+ghost use Rattle.std.specs.Prelude.{◌≡◌, ℕ, ◌+◌, ◌-◌, ◌*◌, ◌^◌, max, ◌<◌, ◌≤◌, ◌↔◌, Some, None, length, map, take, slice_get, IsSome};
 ghost use Rattle.rp_base.specs.declared.ids.CmdId.{CmdId};
 ghost use Rattle.rp_request.specs.declared.commands.Command.{Command};
 ghost use Rattle.rp_request.specs.declared.items.Record.TheVariants as kept;
@@ -19,7 +19,7 @@ ghost use Rattle.rp_replica.specs.Allows.{Allows, MayApplyNext, MayFlush};
 ghost use Rattle.rp_rangesafe.specs.Places.{shown};
 ghost use Rattle.rp_rangesafe.specs.Ranges.{first_applied};
 ghost use Rattle.rp_refine.specs.Runs.{Input, Run, begun, next, Lawful, IsRefusal};
-ghost use Rattle.rp_refine.specs.Laws.{IsReached, IsLater, payloads, records, items, state_after, IsPlace, IsLawfulPlace, IsTheOnePlace, HasNever, HaveDistinctIds, hold_of};
+ghost use Rattle.rp_refine.specs.Laws.{IsReached, IsLater, payloads, records, items, state_after, IsEntryOf, IsPlace, IsLawfulPlace, IsTheOnePlace, HasNever, HaveDistinctIds, hold_of};
 
 /// Each entry of the log carries a payload, so that it is decoded and none is left out.
 pub fn each_entry_carries_a_payload()
@@ -71,6 +71,13 @@ pub fn refused_never_takes_effect()
 pub fn an_applied_place_is_told()
     ensures { (x : Run) → IsReached x → (id : CmdId) (k : ℕ) (c : Command) → IsPlace (payloads x) id k c → k < x.replica.applied.index
         → x.outcome id ≡ Some (outcomes.Success c.reply) }
+{}
+
+/// An attempt that was told nothing has no entry in the log, taken or not, and so no place: each entry that is a command is of
+/// an attempt that was made.
+pub fn a_place_was_told()
+    ensures entry { (x : Run) → IsReached x → (id : CmdId) → x.outcome id ≡ None → (k : ℕ) (c : Command) → IsEntryOf (payloads x) id k c → ⊥ }
+    ensures place { (x : Run) → IsReached x → (id : CmdId) → x.outcome id ≡ None → (k : ℕ) (c : Command) → IsPlace (payloads x) id k c → ⊥ }
 {}
 
 /// No attempt is told that it is not known what became of it.
