@@ -41,7 +41,7 @@ use Rattle.rp_world.proofs.SoundLists.{all_snoc, all_append, all_weaker}
 use Rattle.rp_world.proofs.SoundFlush.{flush_sound}
 use Rattle.rp_world.proofs.SoundApply.{apply_sound, entry_known, may_apply, more_sound}
 
-none_sent : (n i : ℕ) → get_or (replicate {A = ℕ} n zero) i zero ≡ zero
+pub none_sent : (n i : ℕ) → get_or (replicate {A = ℕ} n zero) i zero ≡ zero
 none_sent zero i = refl
 none_sent (suc n) zero = refl
 none_sent (suc n) (suc i) = none_sent n i
@@ -84,7 +84,7 @@ set_at xs c v j within false e =
     let other : j ≢ c = grind (arith, nat_tests) in
     get_or-set_other xs c j v 0 other
 
-set_bounds : (xs : List ℕ) (c n j : ℕ) → c < length xs → ((i : ℕ) → get_or xs i 0 ≤ n) → (b : Bool) → (j == c) ≡ b
+pub set_bounds : (xs : List ℕ) (c n j : ℕ) → c < length xs → ((i : ℕ) → get_or xs i 0 ≤ n) → (b : Bool) → (j == c) ≡ b
     → (get_or xs j 0 ≤ get_or (set xs c (get_or xs c 0 + 1)) j 0) × (get_or (set xs c (get_or xs c 0 + 1)) j 0 ≤ n + 1)
 set_bounds xs c n j within few true e =
     let at = set_at xs c (get_or xs c 0 + 1) j within true e in

@@ -1,5 +1,5 @@
 pub mod Runs
-pub mod HeadlineProof
 pub mod Lookups
 pub mod Told
-pub mod Refusals
+pub mod Playing
+pub mod HeadlineProof

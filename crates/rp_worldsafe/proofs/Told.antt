@@ -48,8 +48,8 @@ use Rattle.rp_world.specs.Playing as playing
 use Rattle.rp_world.specs.Worlds.{World, Outcomes, cmd_cmp, counted, ended_in, next_command, started, took, with_note}
 use Rattle.rp_world.specs.Worlds as worlds
 use Rattle.rp_worldsafe.specs.Inputs.{all_inputs, input, inputs_of, run_of}
-use Rattle.rp_worldsafe.specs.Told.{IsTold, IsUnasked}
-use Rattle.rp_worldsafe.proofs.Lookups.{found, put_itself, put_other}
+use Rattle.rp_worldsafe.specs.Told.{IsKept, IsTold, IsUnasked}
+use Rattle.rp_worldsafe.proofs.Lookups.{IsRising, each_found, found, put_itself, put_other, put_rising}
 
 -- what the run was told, once one attempt is told more
 run_put_itself : (f : runs.Outcomes) (id : CmdId) (o : Outcome) → with_outcome f id o id ≡ Some o
@@ -79,6 +79,7 @@ WasSent sent id = id.seq ≤ get_or sent (id.client - 1) 0
 pub record Kept (sent : List ℕ) (es : Outcomes) (f : runs.Outcomes) : Type 0 where
   pub told : (q : CmdId) → Agrees es f q
   pub fresh : (q : CmdId) → IsFresh sent q → (f q ≡ None) × (found es q ≡ None)
+  pub rising : IsRising es
 
 sent_apart : (sent : List ℕ) (id q : CmdId) → WasSent sent id → IsFresh sent q → q ≡ id → ⊥
 sent_apart sent id q was fresh e =
@@ -105,6 +106,7 @@ put_kept sent es f id o was k = record {
     run_put_other f id o q (sent_apart sent id q was new) ∙ (k.fresh q new).0,
     put_other es id o q (sent_apart sent id q was new) ∙ (k.fresh q new).1,
   );
+  rising = put_rising es id o k.rising;
 }
 
 put_unasked : (es : Outcomes) (f : runs.Outcomes) (id : CmdId) (o : Outcome) (q : CmdId) → (q ≡ id → ⊥) → Unasked es f q
@@ -123,6 +125,7 @@ alone_kept : (sent : List ℕ) (es : Outcomes) (f : runs.Outcomes) (id : CmdId) 
 alone_kept sent es f id was none k = record {
   told = λ q. told_alone es f id q none (id_cases q id) (k.told q);
   fresh = λ q new. ((k.fresh q new).0, put_other es id (Refused NoReplica) q (sent_apart sent id q was new) ∙ (k.fresh q new).1);
+  rising = put_rising es id (Refused NoReplica) k.rising;
 }
 
 -- attempts have ended
@@ -223,6 +226,7 @@ grown_kept : (sent more : List ℕ) (es : Outcomes) (f : runs.Outcomes) → ((j 
 grown_kept sent more es f grows k = record {
   told = k.told;
   fresh = λ q new. k.fresh q (let g = grows (q.client - 1) in omega (arith, g, new));
+  rising = k.rising;
 }
 
 counted_kept : (w : World) (client : ℕ) (f : runs.Outcomes) → client - 1 < length w.sent → Kept w.sent w.outcomes f → Kept (counted w client).sent w.outcomes f
@@ -370,6 +374,12 @@ step_goes w x line l bounded lawful a =
     subst (λ (y : Run). IsReached y → AllLawful y (inputs_of w l) → Went w (played w line l) x.outcome (play y (inputs_of w l))) same
     (λ r good. line_goes w x.outcome line l bounded r good a.clients a.kept) a.reached lawful
 
+pub along_line : (w : World) (x : Run) (line : ℕ) (l : ScriptLine) → IsBounded l → AllLawful x (inputs_of w l) → Along w x
+    → Along (played w line l) (play x (inputs_of w l))
+along_line w x line l bounded lawful a =
+    let went : Went w (played w line l) x.outcome (play x (inputs_of w l)) = step_goes w x line l bounded lawful a in
+    record { reached = reached_all x (inputs_of w l) a.reached lawful; replica = went.replica; clients = went.clients; kept = went.kept }
+
 -- events one after the other, and lines one after the other
 pub play_append : (x : Run) (is js : List Input) → play x (is ++ js) ≡ play (play x is) js
 play_append x [] js = refl
@@ -406,8 +416,7 @@ told_along w x (l ∷ ls) taken lawful a =
     let first = lawful_first x is (all_inputs v ls) lawful in
     let went : Went w v x.outcome (play x is) = step_goes w x l.number l.line taken.0.bounded first a in
     let led : Led v (played_all v ls) (play x is) (play (play x is) (all_inputs v ls)) =
-    told_along v (play x is) ls taken.1 (lawful_rest x is (all_inputs v ls) lawful)
-    (record { reached = reached_all x is a.reached first; replica = went.replica; clients = went.clients; kept = went.kept }) in
+    told_along v (play x is) ls taken.1 (lawful_rest x is (all_inputs v ls) lawful) (along_line w x l.number l.line taken.0.bounded first a) in
     subst (λ (y : Run). Led w (played_all v ls) x y) (sym (play_append x is (all_inputs v ls)))
     (record { along = led.along; stays = λ q h. led.stays q (went.stays q h) })
 
@@ -417,13 +426,18 @@ starts_along = record {
   reached = reached_begun;
   replica = refl;
   clients = length-replicate {A = ℕ} 64 0;
-  kept = record { told = λ q. inl refl; fresh = λ q new. (refl, refl) };
+  kept = record { told = λ q. inl refl; fresh = λ q new. (refl, refl); rising = tt };
 }
 
 -- the node keeps what the run of its replica was told, unless the replica was not asked
 pub told : (ls : List NumberedLine) → AllByRecursion (IsTaken OneNode) ls → AllLawful begun (all_inputs started ls) → (id : CmdId)
     → IsTold (played_all started ls) (run_of ls) id
 told ls taken lawful id = (told_along started begun ls taken lawful starts_along).along.kept.told id
+
+-- each entry that it keeps is what it keeps of its attempt
+pub each_kept : (ls : List NumberedLine) → AllByRecursion (IsTaken OneNode) ls → AllLawful begun (all_inputs started ls)
+    → AllByRecursion (IsKept (played_all started ls)) (played_all started ls).outcomes
+each_kept ls taken lawful = each_found (played_all started ls).outcomes (told_along started begun ls taken lawful starts_along).along.kept.rising
 
 module _ {X : Type 0} where
   all_rest : (P : X → Type 0) (xs ys : List X) → AllByRecursion P (xs ++ ys) → AllByRecursion P ys

@@ -13,6 +13,10 @@ use Rattle.rp_world.specs.Worlds.{World, cmd_cmp}
 abbrev pub outcome_of : World → CmdId → Option Outcome
 outcome_of w id = lookup (is_at (cmd_cmp id)) w.outcomes
 
+-- the entry is what the node keeps of its attempt
+abbrev pub IsKept : World → CmdId × Outcome → Type 0
+IsKept w e = outcome_of w e.0 ≡ Some e.1
+
 -- the node has refused the attempt since the range has no replica there, and the replica was not asked
 abbrev pub IsUnasked : World → Run → CmdId → Type 0
 IsUnasked w x id = (outcome_of w id ≡ Some (Refused NoReplica)) × (x.outcome id ≡ None)

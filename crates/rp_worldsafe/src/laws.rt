@@ -1,11 +1,15 @@
-//! Laws of the definitions that the calls' contracts cite. Each is the clause of an empty function.
+//! Laws of the lines of a script that one node plays. No program calls these functions.
 
 ghost use Rattle.std.specs.Prelude.{◌≡◌, List};
+ghost use Rattle.rp_base.specs.declared.ids.CmdId.{CmdId};
+ghost use Rattle.rp_refine.specs.Runs.{AllLawful, begun};
 ghost use Rattle.rp_script.specs.declared.lines.NumberedLine.{NumberedLine};
-ghost use Rattle.rp_worldsafe.specs.Headline.{Headline};
-ghost use Rattle.rp_worldsafe.specs.Inputs.{run_of};
 ghost use Rattle.rp_world.specs.Playing.{played_all};
 ghost use Rattle.rp_world.specs.Worlds.{started};
+ghost use Rattle.rp_worldsafe.specs.Headline.{IsHeadline};
+ghost use Rattle.rp_worldsafe.specs.Inputs.{all_inputs, run_of};
+ghost use Rattle.rp_worldsafe.specs.Playable.{ArePlayable};
+ghost use Rattle.rp_worldsafe.specs.Told.{IsTold};
 
 /// The replica of the node that plays the lines of a script is the one that the run of their events
 /// leaves.
@@ -14,8 +18,19 @@ pub fn lines_make_a_run()
     ensures { (ls : List NumberedLine) → (run_of ls).replica ≡ (played_all started ls).replica }
 {}
 
-/// The headline, of all lines whose events are lawful at the replica: each command has at most one
-/// place, the table is the fold of the applied list, places are lawful, and outcomes are honest.
-pub fn headline_of_lawful_lines()
-    ensures { Headline }
+/// Lines that may be played make lawful events of the replica.
+pub fn lines_are_lawful()
+    ensures { (ls : List NumberedLine) → ArePlayable ls → AllLawful begun (all_inputs started ls) }
+{}
+
+/// What the node keeps of an attempt is what the run was told of it, unless the node refused it since
+/// the range has no replica there, and then the replica was not asked.
+pub fn outcomes_are_the_runs()
+    ensures { (ls : List NumberedLine) → ArePlayable ls → (id : CmdId) → IsTold (played_all started ls) (run_of ls) id }
+{}
+
+/// The headline, of all lines that may be played: what the node shows is the fold of a prefix of its
+/// log, each command has at most one place, places are lawful, and outcomes are honest.
+pub fn headline()
+    ensures { (ls : List NumberedLine) → ArePlayable ls → IsHeadline ls }
 {}
