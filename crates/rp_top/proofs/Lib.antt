@@ -1,3 +1,2 @@
 pub mod ReadsSource
-pub mod Playable
 pub mod RunProof

@@ -1,8 +1,13 @@
 -- What a run answers, by the script that it read.
-use Rattle.std.proofs.Common.{◌≡◌, ℕ, ◌⊎◌, inl, inr, List, Option, None, Some, Result, Ok, Err, refl, ap, ◌∙◌, sym, subst}
+use Rattle.std.proofs.Common.{◌≡◌, ℕ, ◌⊎◌, inl, inr, List, Option, None, Result, Ok, Err, ap, ◌∙◌, sym, subst}
+use Rattle.std.specs.Prelude.{IfOk, OnOk, ◌≤◌, length}
+use Rattle.std.specs.List.{AllByRecursion}
 use Rattle.rp_outside.specs.Devices.{IsAll}
+use Rattle.rp_report.specs.Shown.{IsShownView}
+use Rattle.rp_report.specs.declared.views.View.{View}
+use Rattle.rp_script.specs.Bounds.{IsTaken}
+use Rattle.rp_script.specs.declared.built.Forms.TheVariants.{OneNode}
 use Rattle.rp_script.specs.declared.faults.ScriptFault.{ScriptFault}
-use Rattle.rp_script.specs.declared.faults.ScriptFault.TheVariants as faults
 use Rattle.rp_script.specs.declared.lines.NumberedLine.{NumberedLine}
 use Rattle.rp_top.specs.Answers.{Answers, Writes, status_due, text_due, status_where, text_where, form_asked, usage_line}
 use Rattle.rp_top.specs.Runs.{IsShownRun}
@@ -12,6 +17,9 @@ use Rattle.rp_top.specs.declared.statuses.Status.{Status}
 use Rattle.rp_top.specs.declared.statuses.Status.TheVariants as statuses
 use Rattle.rp_top.specs.Status.{code_of}
 use Rattle.rp_top.proofs.ReadsSource.{any_script}
+use Rattle.rp_world.specs.Fits.{LineFits}
+use Rattle.rp_worldsafe.specs.Headline.{IsHeadline}
+use Rattle.rp_worldsafe.proofs.HeadlineProof.{headline}
 
 -- a script of these lines was read, and they were shown
 pub answered : (left : Option (List ℕ)) (status : Status) (form : Form) (old new : Option (List ℕ)) (lines shown : List NumberedLine)
@@ -21,19 +29,25 @@ answered left status form old new lines shown read same answers =
     let P : Result (List NumberedLine) ScriptFault → Type 0 = λ m. Answers status form m old new in
     (read.0, read.1, subst P (ap (λ g. Ok g) same ∙ sym read.2) answers)
 
-shown_at : (form : Form) (x : List ℕ) (v : Result (List NumberedLine) ScriptFault) (old new : Option (List ℕ)) → script_of x ≡ v → Answers statuses.Ok form v old new
-    → IsShownRun form x old new
-shown_at form x (Ok lines) old new is answers = record { lines = lines; script = is; written = answers.1 }
-shown_at form x (Err (faults.Refused line word kind)) old new is answers = let other : statuses.Ok ≡ statuses.Refused line word kind = answers.0 in cc
-shown_at form x (Err (faults.Limit which count)) old new is answers = let other : statuses.Ok ≡ statuses.Limit which count = answers.0 in cc
-
--- a run that ended well
-pub shown_run : (left : Option (List ℕ)) (status : Status) (form : Form) (old new : Option (List ℕ))
-    → ((x : List ℕ) × IsAll left x × Answers status form (script_of x) old new) → status ≡ statuses.Ok
+-- a script of these lines was read, they were shown, and the headline holds of them
+pub shown_run : (left : Option (List ℕ)) (status : Status) (form : Form) (old new : Option (List ℕ)) (lines shown : List NumberedLine)
+    → ((x : List ℕ) × IsAll left x × (script_of x ≡ Ok lines)) → shown ≡ lines → Answers status form (Ok shown) old new
+    → (status ≡ statuses.Ok → IsHeadline shown) → status ≡ statuses.Ok
     → (x : List ℕ) × IsAll left x × IsShownRun form x old new
-shown_run left status form old new run ok =
-    let P : Status → Type 0 = λ s. Answers s form (script_of run.0) old new in
-    (run.0, run.1, shown_at form run.0 (script_of run.0) old new refl (subst P ok run.2))
+shown_run left status form old new lines shown read same answers headline ok =
+    let P : Status → Type 0 = λ s. Answers s form (Ok shown) old new in
+    (read.0, read.1, record { lines = shown; script = read.2 ∙ ap (λ g. Ok g) (sym same); headline = headline ok; written = (subst P ok answers).1 })
+
+-- a node that has played lines showed what it holds
+pub is_shown_view : {E : Type 0} (res : Result View E) (view : View) → IfOk res (λ v. v ≡ view) → IsShownView view → IfOk res IsShownView
+is_shown_view (Ok v) view is h = subst IsShownView (sym is) h
+is_shown_view (Err e) view is h = tt
+
+-- the headline holds of the lines that a node has played
+pub headline_of : {E : Type 0} (res : Result View E) (lines : List NumberedLine) → length lines ≤ 65536 → AllByRecursion (IsTaken OneNode) lines → AllByRecursion LineFits lines
+    → OnOk res (IsHeadline lines)
+headline_of (Ok v) lines few taken fits = headline lines (record { few = few; taken = taken; fit = fits })
+headline_of (Err e) lines few taken fits = tt
 
 some_script : (left : Option (List ℕ)) → (x : List ℕ) × IsAll left x
 some_script left = let any = any_script left in (any.0, any.1)

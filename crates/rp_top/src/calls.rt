@@ -1,4 +1,4 @@
-ghost use Rattle.std.specs.Prelude.{◌≡◌, ◌≢◌, ℕ, ◌≤◌, ◌⊎◌, List, length, map, string_bytes, IfOk, Ok, Err, None, Some};
+ghost use Rattle.std.specs.Prelude.{◌≡◌, ◌≢◌, ℕ, ◌≤◌, ◌⊎◌, List, length, map, string_bytes, IfOk, OnOk, Ok, Err, None, Some};
 ghost use Rattle.rp_outside.specs.Devices.{Rose, IsAtEnd, IsAll};
 ghost use Rattle.rp_report.specs.Shown.{IsShownView};
 ghost use Rattle.rp_top.specs.Answers.{Answers, Writes, written, status_of, status_due, text_due, fault_line, form_asked, usage_line, IsRefused, IsLimited};
@@ -12,6 +12,7 @@ ghost use Rattle.rp_top.specs.Runs.{IsShownRun};
 ghost use Rattle.rp_top.specs.Scripts.{script_of, shown_of};
 ghost use Rattle.rp_top.specs.Status.{code_of};
 ghost use Rattle.rp_top.specs.declared.statuses.Form.{Form};
+ghost use Rattle.rp_worldsafe.specs.Headline.{IsHeadline};
 
 use crate::asks::form_asked;
 use crate::outputs::push_fault;
@@ -46,7 +47,8 @@ fn written(alloc: Global, view: &View, form: Form) -> Result<Text, NoMemory>
 fn report_of(alloc: Global, lines: &[NumberedLine], form: Form) -> Result<Text, NoMemory>
     requires few { length lines.now ≤ 65536 }
     requires taken { AllByRecursion (IsTaken OneNode) lines.now }
-    ensures { IfOk result (λ text. text ≡ written form (shown_of lines.now)) }
+    ensures text { IfOk result (λ text. text ≡ written form (shown_of lines.now)) }
+    ensures headline { OnOk result (IsHeadline lines.now) }
 {
     let view = view_played(alloc, lines)?;
     written(alloc, &view, form)
@@ -76,6 +78,7 @@ fn put_report<K: Sink>(alloc: Global, sink: &mut K, lines: &[NumberedLine], form
     requires few { length lines.now ≤ 65536 }
     requires taken { AllByRecursion (IsTaken OneNode) lines.now }
     ensures answers { Answers result form (Ok lines.now) (K.held sink.old) (K.held sink.new) }
+    ensures headline { result ≡ Status.Ok → IsHeadline lines.now }
     ensures faults { K.faults sink.old ≤ K.faults sink.new }
     ensures cause { result ≡ Status.WriteFault → Rose (K.faults sink.old) (K.faults sink.new) }
     ensures reads { result ≢ Status.ReadFault }
@@ -107,14 +110,11 @@ fn put_fault<K: Sink>(alloc: Global, sink: &mut K, fault: ScriptFault) -> Status
 }
 
 /// Reads a script to its end, plays it, and writes what it shows, each with the causes of its answers.
-fn call<S: Source, K: Sink>(
-    alloc: Global,
-    source: &mut S,
-    sink: &mut K,
-    form: Form,
-) -> Status
+fn call<S: Source, K: Sink>(alloc: Global, source: &mut S, sink: &mut K, form: Form) -> Status
     ensures answers { (bytes : List ℕ) × IsAll (S.left source.old) bytes
         × Answers result form (script_of bytes) (K.held sink.old) (K.held sink.new) }
+    ensures headline { result ≡ Status.Ok → (bytes : List ℕ) × IsAll (S.left source.old) bytes
+        × IsShownRun form bytes (K.held sink.old) (K.held sink.new) }
     ensures end { result ≡ Status.Ok → IsAtEnd (S.left source.new) }
     ensures source { S.faults source.old ≤ S.faults source.new }
     ensures sink { K.faults sink.old ≤ K.faults sink.new }

@@ -59,8 +59,24 @@ fn one_put_in_each_form(rt: HostRuntime) -> Result<(), Fail> {
     let alloc = rt.alloc();
     assert!(rt; gives(alloc, &["run", "--form", "text"], ONE_PUT, 0, ONE_PUT_SHOWN)?);
     assert!(rt; gives(alloc, &["run", "--form=text"], ONE_PUT, 0, ONE_PUT_SHOWN)?);
-    assert!(rt; gives(alloc, &["run", "--form", "summary"], ONE_PUT, 0, ONE_PUT_COUNTS)?);
-    assert!(rt; gives(alloc, &["run", "--form=summary"], ONE_PUT, 0, ONE_PUT_COUNTS)?);
+    assert!(rt;
+        gives(
+            alloc,
+            &["run", "--form", "summary"],
+            ONE_PUT,
+            0,
+            ONE_PUT_COUNTS
+        )?
+    );
+    assert!(rt;
+        gives(
+            alloc,
+            &["run", "--form=summary"],
+            ONE_PUT,
+            0,
+            ONE_PUT_COUNTS
+        )?
+    );
     Ok(())
 }
 
@@ -70,7 +86,15 @@ fn the_end_of_the_type(rt: HostRuntime) -> Result<(), Fail> {
         b"cluster 1\nsend 1 0 1 put a 1\nflush 1 0\napply 1 0\nsend 1 0 1 add a 18446744073709551615\nsend 1 0 1 add b 18446744073709551615\nflush 1 0\napply 1 0\nend\n";
     let output =
         b"nodes 1\nreply 1.1 1 ok none\nreply 1.2 1 refused overflow 1\nreply 1.3 1 ok 18446744073709551615\nrange 0 ^ ~ level 0 lease 1 1 40\nplace 1 write 1.1 1 put a 1 under 1 ok none\nplace 2 write 1.3 1 add b 18446744073709551615 under 1 ok 18446744073709551615\nnode 1 live term 1 applied 2 lai 2\nrow a 1\nrow b 18446744073709551615\nend\n";
-    assert!(rt; gives(rt.alloc(), &["run"], script.as_slice(), 0, output.as_slice())?);
+    assert!(rt;
+        gives(
+            rt.alloc(),
+            &["run"],
+            script.as_slice(),
+            0,
+            output.as_slice()
+        )?
+    );
     Ok(())
 }
 
@@ -80,7 +104,15 @@ fn two_names(rt: HostRuntime) -> Result<(), Fail> {
         b"cluster 1\nsend 1 0 1 put a 3\nflush 1 0\napply 1 0\nsend 1 0 1 move a a 3\nflush 1 0\napply 1 0\nsend 1 0 1 move a b 4\nend\n";
     let output =
         b"nodes 1\nreply 1.1 1 ok none\nreply 1.2 1 ok 3\nreply 1.3 1 refused short 3\nrange 0 ^ ~ level 0 lease 1 1 40\nplace 1 write 1.1 1 put a 3 under 1 ok none\nplace 2 write 1.2 1 move a a 3 under 1 ok 3\nnode 1 live term 1 applied 2 lai 2\nrow a 3\nend\n";
-    assert!(rt; gives(rt.alloc(), &["run"], script.as_slice(), 0, output.as_slice())?);
+    assert!(rt;
+        gives(
+            rt.alloc(),
+            &["run"],
+            script.as_slice(),
+            0,
+            output.as_slice()
+        )?
+    );
     Ok(())
 }
 
@@ -90,7 +122,15 @@ fn conditions_and_deletions(rt: HostRuntime) -> Result<(), Fail> {
         b"cluster 1\nsend 1 0 1 put a 1\nflush 1 0\napply 1 0\nsend 1 0 1 cput a none 2\nsend 1 0 1 cput a 1 2\nflush 1 0\napply 1 0\nsend 1 0 1 wipe a b\nflush 1 0\napply 1 0\nsend 1 0 1 del a\nflush 1 0\napply 1 0\nend\n";
     let output =
         b"nodes 1\nreply 1.1 1 ok none\nreply 1.2 1 refused condition-failed 1\nreply 1.3 1 ok set\nreply 1.4 1 ok 1\nreply 1.5 1 ok none\nrange 0 ^ ~ level 0 lease 1 1 40\nplace 1 write 1.1 1 put a 1 under 1 ok none\nplace 2 write 1.3 1 cput a 1 2 under 1 ok set\nplace 3 write 1.4 1 wipe a b under 1 ok 1\nplace 4 write 1.5 1 del a under 1 ok none\nnode 1 live term 1 applied 4 lai 4\nend\n";
-    assert!(rt; gives(rt.alloc(), &["run"], script.as_slice(), 0, output.as_slice())?);
+    assert!(rt;
+        gives(
+            rt.alloc(),
+            &["run"],
+            script.as_slice(),
+            0,
+            output.as_slice()
+        )?
+    );
     Ok(())
 }
 
@@ -100,7 +140,15 @@ fn wipes_of_17_and_16_keys(rt: HostRuntime) -> Result<(), Fail> {
         b"cluster 1\nsend 1 0 1 put k01 1\nflush 1 0\napply 1 0\nsend 1 0 1 put k02 1\nflush 1 0\napply 1 0\nsend 1 0 1 put k03 1\nflush 1 0\napply 1 0\nsend 1 0 1 put k04 1\nflush 1 0\napply 1 0\nsend 1 0 1 put k05 1\nflush 1 0\napply 1 0\nsend 1 0 1 put k06 1\nflush 1 0\napply 1 0\nsend 1 0 1 put k07 1\nflush 1 0\napply 1 0\nsend 1 0 1 put k08 1\nflush 1 0\napply 1 0\nsend 1 0 1 put k09 1\nflush 1 0\napply 1 0\nsend 1 0 1 put k10 1\nflush 1 0\napply 1 0\nsend 1 0 1 put k11 1\nflush 1 0\napply 1 0\nsend 1 0 1 put k12 1\nflush 1 0\napply 1 0\nsend 1 0 1 put k13 1\nflush 1 0\napply 1 0\nsend 1 0 1 put k14 1\nflush 1 0\napply 1 0\nsend 1 0 1 put k15 1\nflush 1 0\napply 1 0\nsend 1 0 1 put k16 1\nflush 1 0\napply 1 0\nsend 1 0 1 put k17 1\nflush 1 0\napply 1 0\nsend 1 0 1 wipe k01 k18\nsend 1 0 1 wipe k02 k18\nflush 1 0\napply 1 0\npeek 1 0 k01\napply 1 0\nend\n";
     let output =
         b"nodes 1\nnote 57 peek k01 1 applied 18\nnote 58 nothing\nreply 1.1 1 ok none\nreply 1.2 1 ok none\nreply 1.3 1 ok none\nreply 1.4 1 ok none\nreply 1.5 1 ok none\nreply 1.6 1 ok none\nreply 1.7 1 ok none\nreply 1.8 1 ok none\nreply 1.9 1 ok none\nreply 1.10 1 ok none\nreply 1.11 1 ok none\nreply 1.12 1 ok none\nreply 1.13 1 ok none\nreply 1.14 1 ok none\nreply 1.15 1 ok none\nreply 1.16 1 ok none\nreply 1.17 1 ok none\nreply 1.18 1 refused too-wide 17\nreply 1.19 1 ok 16\nrange 0 ^ ~ level 0 lease 1 1 40\nplace 1 write 1.1 1 put k01 1 under 1 ok none\nplace 2 write 1.2 1 put k02 1 under 1 ok none\nplace 3 write 1.3 1 put k03 1 under 1 ok none\nplace 4 write 1.4 1 put k04 1 under 1 ok none\nplace 5 write 1.5 1 put k05 1 under 1 ok none\nplace 6 write 1.6 1 put k06 1 under 1 ok none\nplace 7 write 1.7 1 put k07 1 under 1 ok none\nplace 8 write 1.8 1 put k08 1 under 1 ok none\nplace 9 write 1.9 1 put k09 1 under 1 ok none\nplace 10 write 1.10 1 put k10 1 under 1 ok none\nplace 11 write 1.11 1 put k11 1 under 1 ok none\nplace 12 write 1.12 1 put k12 1 under 1 ok none\nplace 13 write 1.13 1 put k13 1 under 1 ok none\nplace 14 write 1.14 1 put k14 1 under 1 ok none\nplace 15 write 1.15 1 put k15 1 under 1 ok none\nplace 16 write 1.16 1 put k16 1 under 1 ok none\nplace 17 write 1.17 1 put k17 1 under 1 ok none\nplace 18 write 1.19 1 wipe k02 k18 under 1 ok 16\nnode 1 live term 1 applied 18 lai 18\nrow k01 1\nend\n";
-    assert!(rt; gives(rt.alloc(), &["run"], script.as_slice(), 0, output.as_slice())?);
+    assert!(rt;
+        gives(
+            rt.alloc(),
+            &["run"],
+            script.as_slice(),
+            0,
+            output.as_slice()
+        )?
+    );
     Ok(())
 }
 

@@ -1,5 +1,8 @@
-use Rattle.rp_top.proofs.Playable.{view_can_be_shown}
+use Rattle.rp_top.proofs.RunProof.{headline_of, is_shown_view}
 use Rattle.rp_top.proofs.plays.view_played.Goals as goal
 
 pub returns-clause-shown : goal.returns-clause-shown
-returns-clause-shown c = view_can_be_shown c.view.result _ c.view.ensures c.in_ok-world.ensures.shown
+returns-clause-shown c = is_shown_view c.view.result _ c.view.ensures c.in_ok-world.ensures.shown
+
+pub returns-clause-headline : goal.returns-clause-headline
+returns-clause-headline c = headline_of c.view.result c.args.lines.now c.requires.few c.requires.taken c.in_ok-world.ensures.fits
