@@ -12,7 +12,7 @@ use Rattle.rp_pending.specs.Proposals.{proposal_of}
 use Rattle.rp_replica.specs.Replicas.{Replica}
 use Rattle.rp_refine.specs.Laws.{IsReached, IsLater, IsPlace, IsTheOnePlace, payload, payloads}
 use Rattle.rp_refine.specs.Runs.{Run, Outcomes, AllLawful, IsRefusal, begun, play}
-use Rattle.rp_refine.proofs.Telling.{applied_is, applied_place_is_told, fold_is, index_within, listed_is_pending, log_recorded, never_ambiguous, none_left_out, once, once_in_log, pending_is_listed, place_is_lawful, refused_has_never, success_is_one_place}
+use Rattle.rp_refine.proofs.Telling.{all_carry, applied_is, applied_place_is_told, fold_is, index_within, listed_is_pending, log_recorded, never_ambiguous, none_left_out, once, once_in_log, pending_is_listed, place_is_lawful, refused_has_never, success_is_one_place}
 use Rattle.rp_refine.proofs.Unmade.{unmade_has_no_place}
 use Rattle.rp_script.specs.declared.lines.NumberedLine.{NumberedLine}
 use Rattle.rp_world.specs.Worlds.{World, started}
@@ -20,6 +20,7 @@ use Rattle.rp_worldsafe.specs.Headline.{AppliesAPrefix, IsHeadline, NeverHasAPla
 use Rattle.rp_worldsafe.specs.Inputs.{all_inputs, run_of}
 use Rattle.rp_worldsafe.specs.Playable.{ArePlayable}
 use Rattle.rp_worldsafe.specs.Told.{IsTold, outcome_of}
+use Rattle.rp_worldsafe.proofs.Answered.{answered}
 use Rattle.rp_worldsafe.proofs.Playing.{lines_are_lawful}
 use Rattle.rp_worldsafe.proofs.Runs.{run_is_played}
 use Rattle.rp_worldsafe.proofs.Told.{each_kept, told, refused_stays, inputs_append, lawful_rest, play_append}
@@ -119,12 +120,14 @@ module _ (ls : List NumberedLine) (h : ArePlayable ls) where
       let tells : (id : CmdId) → IsTold w x id = tells_all in
       record {
         shows = run_is_played ls;
+        decodes = all_carry x r;
         prefix = prefix w f r tells;
         folded = fold_is x r;
         once = once x r;
         once_in_log = once_in_log x r;
         lawful = place_is_lawful x r;
         told = applied_told w f r tells;
+        answered = answered ls h.taken (lines_are_lawful ls h);
         replies = each_kept ls h.taken (lines_are_lawful ls h);
         success = success w f r tells;
         refused = never;
