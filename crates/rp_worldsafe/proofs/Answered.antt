@@ -143,12 +143,11 @@ put_answered : (es : Outcomes) (n : ℕ → ℕ) (client : ℕ) (o : Outcome) (q
     → (q ≡ command client (n client)) ⊎ (q ≡ command client (n client) → ⊥)
     → IsAnswered (insert_entry cmd_cmp es (command client (n client)) o) q ↔ IsNumbered (one_more n client) q
 put_answered es n client o q a (inl e) = (
-    (λ is. subst (IsNumbered (one_more n client)) (sym e) (refl, omega arith, last_numbered n client (client == client) refl)),
-    (λ h. ap (λ p. is_some (found (insert_entry cmd_cmp es (command client (n client)) o) p)) e ∙ ap is_some (put_itself es (command client (n client)) o)),
+  (λ is. subst (IsNumbered (one_more n client)) (sym e) (refl, omega arith, last_numbered n client (client == client) refl)),
+  (λ h. ap (λ p. is_some (found (insert_entry cmd_cmp es (command client (n client)) o) p)) e ∙ ap is_some (put_itself es (command client (n client)) o)),
 )
 put_answered es n client o q a (inr ne) =
-    let same = ap is_some (put_other es (command client (n client)) o q ne) in
-    (
+    let same = ap is_some (put_other es (command client (n client)) o q ne) in (
       (λ is. (let h = a.0 (sym same ∙ is) in (h.0, h.1, (let l = h.2 in omega (arith, l))))),
       (λ h. same ∙ a.1 (h.0, h.1, before q n client ne h.0 (client == q.client) refl h.2)),
     )
