@@ -1,11 +1,10 @@
 -- A planned flush is the flush of the definition.
-use Rattle.std.proofs.Common.{◌≡◌, ◌+◌, ℕ, max, List, ◌++◌, map, refl, sym, ap, subst, ◌∙◌, arith}
+use Rattle.std.proofs.Common.{◌≡◌, ℕ, max, List, ◌++◌, map, refl, sym, ap, subst, ◌∙◌, arith}
 use Rattle.std.specs.Prelude.{filter_map}
 use Rattle.rp_base.specs.declared.ids.CmdId.{CmdId}
 use Rattle.rp_base.specs.declared.leases.Lease as leases
 use Rattle.rp_base.specs.declared.leases.LeaseAsk.{LeaseAsk}
 use Rattle.rp_request.specs.declared.commands.Payload.TheVariants as payloads
-use Rattle.rp_request.specs.declared.commands.Waiting.{Waiting}
 use Rattle.rp_raftlog.specs.declared.entries.Entry.{Entry}
 use Rattle.rp_flush.specs.declared.assigns.Assigned.{Assigned}
 use Rattle.rp_flush.specs.Assigns.{assigned_of}
@@ -43,15 +42,15 @@ made r now round carry h =
     }
 
 -- the same of what a body has made
-pub makes_flush : (r : Replica) (now round : ℕ) (waiting : List Waiting) (lease told : leases.Lease) (lai : ℕ) (a : Assigned)
+pub makes_flush : (r : Replica) (now round : ℕ) (lease told : leases.Lease) (lai : ℕ) (a : Assigned)
     (asks : List LeaseAsk) (writes : List (CmdId × ℕ)) (refused : List CmdId) (entries : List Entry) (outcomes : List Ended)
-    → waiting ≡ waiting_of r.pending → lease ≡ r.applied.state.lease → told ≡ r.applied.state.lease → lai ≡ r.applied.state.lai
-    → a ≡ assigned_of r.inbox waiting lease.seq (max r.assigned lai) → asks ≡ a.leases → writes ≡ a.writes → refused ≡ a.refused
+    → lease ≡ r.applied.state.lease → told ≡ r.applied.state.lease → lai ≡ r.applied.state.lai
+    → a ≡ assigned_of r.inbox (waiting_of r.pending) lease.seq (max r.assigned lai) → asks ≡ a.leases → writes ≡ a.writes → refused ≡ a.refused
     → entries ≡ map (λ ask. entry_of (payloads.Lease ask)) asks ++ map entry_of (filter_map (write_of r.pending) writes)
     → EachCarries entries → outcomes ≡ map (refused_with told) refused → MayFlush r → Makes r (with_lists a now round entries outcomes) (flushed r now round)
-makes_flush r now round waiting lease told lai a asks writes refused entries outcomes w l t i e ls ws rs es carry o h =
+makes_flush r now round lease told lai a asks writes refused entries outcomes l t i e ls ws rs es carry o h =
     let is : a ≡ assigning r =
-    e ∙ ap (λ ws. assigned_of r.inbox ws lease.seq (max r.assigned lai)) w ∙ ap (λ l. assigned_of r.inbox (waiting_of r.pending) l.seq (max r.assigned lai)) l
+    e ∙ ap (λ l. assigned_of r.inbox (waiting_of r.pending) l.seq (max r.assigned lai)) l
     ∙ ap (λ n. assigned_of r.inbox (waiting_of r.pending) r.applied.state.lease.seq (max r.assigned n)) i in
     let entries_is : entries ≡ map entry_of (payloads_of r.pending (assigning r)) =
     es ∙ ap (λ l. map (λ ask. entry_of (payloads.Lease ask)) l ++ map entry_of (filter_map (write_of r.pending) writes)) ls

@@ -3,3 +3,4 @@ pub mod Assigning
 pub mod Flushing
 pub mod Carrying
 pub mod Writing
+pub mod Awaiting

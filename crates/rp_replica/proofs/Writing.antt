@@ -1,5 +1,5 @@
 -- What a flush writes holds numbers of their widths.
-use Rattle.std.proofs.Common.{◌≡◌, ◌<◌, ◌+◌, ℕ, max, List, [], ◌∷◌, ◌++◌, length, drop, get_or, map, Option, None, Some, refl, sym, ap, subst, ◌∙◌}
+use Rattle.std.proofs.Common.{◌≡◌, ◌<◌, ◌+◌, ℕ, max, List, [], ◌∷◌, ◌++◌, length, drop, get_or, map, Option, None, Some, sym, ap, subst, ◌∙◌}
 use Rattle.std.proofs.lemmas.List.{drop_more}
 use Rattle.std.specs.Prelude.{filter_map}
 use Rattle.std.specs.List.{AllByRecursion, cons_option}
@@ -8,7 +8,6 @@ use Rattle.rp_base.specs.declared.leases.Lease as leases
 use Rattle.rp_base.specs.declared.leases.LeaseAsk.{LeaseAsk}
 use Rattle.rp_request.specs.declared.commands.Payload.{Payload}
 use Rattle.rp_request.specs.declared.commands.Payload.TheVariants as payloads
-use Rattle.rp_request.specs.declared.commands.Waiting.{Waiting}
 use Rattle.rp_codec.specs.Fits.{FitsPayload}
 use Rattle.rp_flush.specs.Assigns.{assigned_of}
 use Rattle.rp_flush.specs.declared.assigns.Assigned.{Assigned}
@@ -46,13 +45,13 @@ both_fit [] ys h k = k
 both_fit (x ∷ xs) ys h k = (h.0, both_fit xs ys h.1 k)
 
 -- of what a body has made
-pub writes_fit : (r : Replica) (waiting : List Waiting) (lease : leases.Lease) (lai : ℕ) (a : Assigned) (asks : List LeaseAsk) (writes : List (CmdId × ℕ))
-    → waiting ≡ waiting_of r.pending → lease ≡ r.applied.state.lease → lai ≡ r.applied.state.lai
-    → a ≡ assigned_of r.inbox waiting lease.seq (max r.assigned lai) → asks ≡ a.leases → writes ≡ a.writes
+pub writes_fit : (r : Replica) (lease : leases.Lease) (lai : ℕ) (a : Assigned) (asks : List LeaseAsk) (writes : List (CmdId × ℕ))
+    → lease ≡ r.applied.state.lease → lai ≡ r.applied.state.lai
+    → a ≡ assigned_of r.inbox (waiting_of r.pending) lease.seq (max r.assigned lai) → asks ≡ a.leases → writes ≡ a.writes
     → AllByRecursion FitsPayload (map payloads.Lease asks) → AllByRecursion FitsPayload (filter_map (write_of r.pending) writes) → WritesFit r
-writes_fit r waiting lease lai a asks writes w l i e ls ws fa fw =
+writes_fit r lease lai a asks writes l i e ls ws fa fw =
     let is : a ≡ assigning r =
-    e ∙ ap (λ ws. assigned_of r.inbox ws lease.seq (max r.assigned lai)) w ∙ ap (λ l. assigned_of r.inbox (waiting_of r.pending) l.seq (max r.assigned lai)) l
+    e ∙ ap (λ l. assigned_of r.inbox (waiting_of r.pending) l.seq (max r.assigned lai)) l
     ∙ ap (λ n. assigned_of r.inbox (waiting_of r.pending) r.applied.state.lease.seq (max r.assigned n)) i in
     record {
       each = subst (λ b. AllByRecursion FitsPayload (payloads_of r.pending b)) is

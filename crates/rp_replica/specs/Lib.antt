@@ -5,6 +5,7 @@ pub mod Applications
 pub mod Events
 pub mod Carried
 pub mod Writes
+pub mod Waits
 pub mod Plans
 pub mod Held
 pub mod Allows

@@ -14,9 +14,10 @@ ghost use Rattle.std.specs.List.{AllByRecursion};
 use crate::events::{Effects, Ended, EventAnswer, Outcomes};
 use crate::plans::{FlushPlan, ReplicaPlan};
 use crate::replicas::Replica;
+use crate::waits::assign_inbox;
 use rp_base::{CmdId, Lease, LeaseAsk, LeaseIndex, NoMemory, Tick};
 use rp_codec::encode;
-use rp_flush::{Assigned, assign};
+use rp_flush::Assigned;
 use rp_latch::Latches;
 use rp_pending::{Pending, Proposal};
 use rp_raftlog::{Entries, Entry, Log};
@@ -196,12 +197,11 @@ impl Replica {
         ensures plan { IfOk result (λ p. Makes self.now.replica p (flushed self.now.replica now round)) }
         ensures fits { OnOk result (WritesFit self.now.replica) }
     {
-        let waiting = self.pending.waiting()?;
         let lai = self.applied.lai();
-        let assigned = assign(
+        let assigned = assign_inbox(
             alloc,
             &self.inbox,
-            &waiting,
+            &self.pending,
             self.applied.lease(),
             lai,
             self.assigned,

@@ -11,6 +11,7 @@ mod plans;
 mod replicas;
 #[cfg(test)]
 mod tests;
+mod waits;
 
 pub use events::{Effects, Ended, EventAnswer, Outcomes, ReplicaEvent};
 pub use plans::{Application, FlushPlan, ReplicaPlan, Turn};

@@ -1,9 +1,8 @@
 -- The lines that a node may play make lawful events of its replica.
-use Rattle.std.proofs.Common.{◌≡◌, ◌<◌, ◌≤◌, ◌+◌, ◌-◌, ◌*◌, ◌^◌, ℕ, inl, Bool, true, false, cond, nat_lt, List, [], ◌∷◌, ◌++◌, length, get_or, set, Option, None, Some, Result, Ok, Err, refl, sym, ap, subst, ◌∙◌, arith, length-append}
+use Rattle.std.proofs.Common.{◌≡◌, ◌<◌, ◌≤◌, ◌+◌, ◌-◌, ◌*◌, ◌^◌, ℕ, inl, Bool, true, false, cond, nat_lt, List, [], ◌∷◌, ◌++◌, length, get_or, Option, None, Some, Result, Ok, Err, refl, sym, ap, subst, ◌∙◌, arith, length-append}
 use Rattle.std.specs.List.{AllByRecursion}
 use Rattle.std.proofs.lemmas.Bool.Decides.{nat_tests}
-use Rattle.std.proofs.lemmas.List.{get_or-set_same, length-set, length-replicate}
-use Rattle.rp_base.specs.Keys.{IsKey, end_of}
+use Rattle.rp_base.specs.Keys.{end_of}
 use Rattle.rp_base.proofs.KeyLaws.{key_inside}
 use Rattle.rp_base.specs.declared.ids.CmdId.{CmdId}
 use Rattle.rp_base.specs.declared.items.Item.{Item}
@@ -21,7 +20,7 @@ use Rattle.rp_replica.specs.Admissions.{admitted_by, guarded}
 use Rattle.rp_replica.specs.Applications.{applied_where, next_payload}
 use Rattle.rp_replica.specs.declared.events.ReplicaEvent.TheVariants as events
 use Rattle.rp_refine.specs.Laws.{IsReached}
-use Rattle.rp_refine.specs.Runs.{Input, Run, Outcomes, AllLawful, FitsItem, LawfulEvent, MayAsk, begun, next, play}
+use Rattle.rp_refine.specs.Runs.{Input, Run, AllLawful, FitsItem, LawfulEvent, MayAsk, begun, next, play}
 use Rattle.rp_refine.proofs.Allowing.{may_flush, low_sequence}
 use Rattle.rp_script.specs.Bounds.{IsBounded, IsTaken}
 use Rattle.rp_script.specs.declared.built.Forms.TheVariants.{OneNode}
@@ -30,11 +29,11 @@ use Rattle.rp_script.specs.declared.lines.ScriptLine.{ScriptLine}
 use Rattle.rp_script.specs.declared.lines.ScriptLine.TheVariants as lines
 use Rattle.rp_world.specs.Fits.{Fits, LineFits}
 use Rattle.rp_world.specs.Notes.{absent_text, full_text}
-use Rattle.rp_world.specs.Playing.{applied, asked, collected, flushed, happens, has_replica, noted, peeked, played, played_all, told}
+use Rattle.rp_world.specs.Playing.{applied, asked, collected, flushed, happens, has_replica, noted, peeked, played, told}
 use Rattle.rp_world.specs.Worlds.{World, started, with_note, with_outcome, took, next_command, counted}
 use Rattle.rp_world.proofs.SoundLists.{all_snoc}
 use Rattle.rp_world.proofs.SoundPlay.{none_sent, set_bounds}
-use Rattle.rp_worldsafe.specs.Inputs.{input, inputs_of, all_inputs, run_of}
+use Rattle.rp_worldsafe.specs.Inputs.{input, inputs_of, all_inputs}
 use Rattle.rp_worldsafe.specs.Playable.{ArePlayable}
 use Rattle.rp_worldsafe.proofs.Told.{Along, along_line, play_append, starts_along}
 
@@ -79,33 +78,18 @@ asked_sent : (w : World) (line client : ℕ) (q : Request) (b : Bool)
 asked_sent w line client q true = told_sent (counted w client) line (next_command w client) q (guarded w.replica q)
 asked_sent w line client q false = refl
 
-line_sent : (w : World) (line : ℕ) (l : ScriptLine) → (played w line l).sent ≡ sent_after w l
+pub line_sent : (w : World) (line : ℕ) (l : ScriptLine) → (played w line l).sent ≡ sent_after w l
 line_sent w line (lines.Send node range client q) = asked_sent w line client q (has_replica w range)
 line_sent w line (lines.Flush node range) = either_sent w (flushed (collected w)) line (has_replica w range) refl
 line_sent w line (lines.Apply node range) = either_sent w (applied w line) line (has_replica w range) (noted_sent w line (next_payload w.replica))
 line_sent w line (lines.Peek node range key) = either_sent w (peeked w line key (happens w (events.Peek key)).answer) line (has_replica w range) refl
 line_sent w line _ = refl
 
--- the counts of clients 1 to 64
-record Counts (sent : List ℕ) (n : ℕ) : Type 0 where
-  clients : length sent ≡ 64
-  most : (i : ℕ) → get_or sent i 0 ≤ n
-
-counts_more : (sent : List ℕ) (n : ℕ) → Counts sent n → Counts sent (n + 1)
-counts_more sent n h = record { clients = h.clients; most = λ i. (let c = h.most i in omega (arith, c)) }
-
-within_counts : (sent : List ℕ) (n client : ℕ) → Counts sent n → 1 ≤ client → client ≤ 64 → client - 1 < length sent
-within_counts sent n client h from_one to_limit = let c = h.clients in omega (arith, c, from_one, to_limit)
-
-counts_after : (w : World) (n : ℕ) (l : ScriptLine) → IsBounded l → Counts w.sent n → Counts (sent_after w l) (n + 1)
-counts_after w n (lines.Send node range client q) b h = record {
-  clients = length-set w.sent (client - 1) _ ∙ h.clients;
-  most = λ i. (set_bounds w.sent (client - 1) n i (within_counts w.sent n client h b.0 b.1) h.most _ refl).1;
-}
-counts_after w n (lines.Flush node range) b h = counts_more w.sent n h
-counts_after w n (lines.Apply node range) b h = counts_more w.sent n h
-counts_after w n (lines.Peek node range key) b h = counts_more w.sent n h
-counts_after w n _ b h = counts_more w.sent n h
+-- no client has sent more commands than there were lines
+counts_after : (w : World) (n : ℕ) (l : ScriptLine) → length w.sent ≡ 64 → IsBounded l → ((i : ℕ) → get_or w.sent i 0 ≤ n) → (i : ℕ) → get_or (sent_after w l) i 0 ≤ n + 1
+counts_after w n (lines.Send node range client q) clients b h i =
+    (set_bounds w.sent (client - 1) n i (omega (arith, clients, b.0, b.1)) h _ refl).1
+counts_after w n _ clients b h i = let c = h i in omega (arith, c)
 
 -- at most 16 items wait, whose numbers have their widths
 record Waits (waiting : List Item) : Type 0 where
@@ -157,7 +141,7 @@ record Follows (w : World) (x : Run) (n : ℕ) : Type 0 where
   reached : play begun inputs ≡ x
   few : length inputs ≤ 2 * n
   along : Along w x
-  counts : Counts w.sent n
+  counts : (i : ℕ) → get_or w.sent i 0 ≤ n
   waits : Waits w.waiting
 
 lawful_where : (x : Run) (b : Bool) (is : List Input) → AllLawful x is → AllLawful x (cond b is [])
@@ -166,7 +150,7 @@ lawful_where x false is h = tt
 
 may_ask : (w : World) (x : Run) (n client : ℕ) (q : Request) → Follows w x n → n < 65536 → 1 ≤ client → client ≤ 64 → FitsRequest q → MayAsk x (next_command w client) q
 may_ask w x n client q h small from_one to_limit fits =
-    let c = h.counts.most (client - 1) in
+    let c = h.counts (client - 1) in
     record {
       new = (h.along.kept.fresh (next_command w client) (omega arith)).0;
       turn = inl refl;
@@ -217,7 +201,7 @@ line_follows w x n line l h b lawful = record {
   reached = play_append begun h.inputs (inputs_of w l) ∙ ap (λ y. play y (inputs_of w l)) h.reached;
   few = (let m = length-append h.inputs (inputs_of w l) in let k = line_few w l in let f = h.few in omega (arith, m, k, f));
   along = along_line w x line l b lawful h.along;
-  counts = subst (λ sent. Counts sent (n + 1)) (sym (line_sent w line l)) (counts_after w n l b h.counts);
+  counts = λ i. subst (λ sent. get_or sent i 0 ≤ n + 1) (sym (line_sent w line l)) (counts_after w n l h.along.clients b h.counts i);
   waits = line_waits w line l h.waits;
 }
 
@@ -228,7 +212,7 @@ follows_started = record {
   reached = refl;
   few = omega arith;
   along = starts_along;
-  counts = record { clients = length-replicate {A = ℕ} 64 0; most = λ i. (let e = none_sent 64 i in omega (arith, e)) };
+  counts = λ i. (let e = none_sent 64 i in omega (arith, e));
   waits = record { few = omega arith; fit = tt };
 }
 

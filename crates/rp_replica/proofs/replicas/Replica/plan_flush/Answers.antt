@@ -20,12 +20,12 @@ returns c = record {
         round = c.args.round;
         outcomes = c.in_ok-outcomes.outcomes;
       })) (flushed h.replica c.args.now c.args.round)) c.self.view_is
-      (makes_flush _ c.args.now c.args.round c.in_ok-waiting.waiting c.lease.result c.lease-lease.result c.lai-lai.result c.in_ok-assigned.assigned
+      (makes_flush _ c.args.now c.args.round c.lease.result c.lease-lease.result c.lai-lai.result c.in_ok-assigned.assigned
       c.as_slice.result.now c.as_slice-2.result.now c.as_slice-3.result.now c.in_ok-entries.entries c.in_ok-outcomes.outcomes
-      c.in_ok-waiting.ensures c.lease.ensures c.lease-lease.ensures c.lai-lai.ensures c.in_ok-assigned.ensures
+      c.lease.ensures c.lease-lease.ensures c.lai-lai.ensures c.in_ok-assigned.ensures
       c.as_slice.ensures c.as_slice-2.ensures c.as_slice-3.ensures c.in_ok-entries.ensures.entries c.in_ok-entries.ensures.carry c.in_ok-outcomes.ensures
       (subst (λ h. MayFlush h.replica) (sym c.self.view_is) (record { assigned = c.requires.assigned; index = c.requires.index })));
-  fits = subst (λ h. WritesFit h.replica) c.self.view_is (writes_fit _ c.in_ok-waiting.waiting c.lease.result c.lai-lai.result c.in_ok-assigned.assigned
-      c.as_slice.result.now c.as_slice-2.result.now c.in_ok-waiting.ensures c.lease.ensures c.lai-lai.ensures c.in_ok-assigned.ensures
+  fits = subst (λ h. WritesFit h.replica) c.self.view_is (writes_fit _ c.lease.result c.lai-lai.result c.in_ok-assigned.assigned
+      c.as_slice.result.now c.as_slice-2.result.now c.lease.ensures c.lai-lai.ensures c.in_ok-assigned.ensures
       c.as_slice.ensures c.as_slice-2.ensures c.in_ok-entries.ensures.asks c.in_ok-entries.ensures.commands);
 }
