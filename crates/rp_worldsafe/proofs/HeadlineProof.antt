@@ -1,6 +1,6 @@
 -- The headline of lines that may be played, by the laws of a run of one replica.
 use Rattle.std.proofs.Common.{◌≡◌, ℕ, ◌<◌, ◌≤◌, inl, inr, List, ◌++◌, None, Some, refl, sym, ap, subst, ◌∙◌}
-use Rattle.std.specs.Prelude.{◌↔◌, IsSome, filter_map}
+use Rattle.std.specs.Prelude.{◌↔◌, ◌-◌, IsSome, filter_map, slice_index}
 use Rattle.rp_base.specs.declared.ids.CmdId.{CmdId}
 use Rattle.rp_request.specs.declared.commands.Command.{Command}
 use Rattle.rp_request.specs.declared.outcomes.Ambiguity.{Ambiguity}
@@ -12,14 +12,16 @@ use Rattle.rp_pending.specs.Proposals.{proposal_of}
 use Rattle.rp_replica.specs.Replicas.{Replica}
 use Rattle.rp_refine.specs.Laws.{IsReached, IsLater, IsPlace, IsTheOnePlace, payload, payloads}
 use Rattle.rp_refine.specs.Runs.{Run, Outcomes, AllLawful, IsRefusal, begun, play}
-use Rattle.rp_refine.proofs.Telling.{applied_is, applied_place_is_told, fold_is, index_within, listed_is_pending, log_recorded, never_ambiguous, none_left_out, once, once_in_log, pending_is_listed, place_is_lawful, refused_has_never, success_is_one_place}
+use Rattle.rp_refine.proofs.Telling.{all_carry, applied_is, applied_place_is_told, fold_is, index_within, listed_is_pending, log_recorded, never_ambiguous, none_left_out, once, once_in_log, pending_is_listed, place_is_lawful, refused_has_never, success_is_one_place}
 use Rattle.rp_refine.proofs.Unmade.{unmade_has_no_place}
 use Rattle.rp_script.specs.declared.lines.NumberedLine.{NumberedLine}
 use Rattle.rp_world.specs.Worlds.{World, started}
 use Rattle.rp_worldsafe.specs.Headline.{AppliesAPrefix, IsHeadline, NeverHasAPlace, log_of, node_after}
 use Rattle.rp_worldsafe.specs.Inputs.{all_inputs, run_of}
 use Rattle.rp_worldsafe.specs.Playable.{ArePlayable}
+use Rattle.rp_worldsafe.specs.Sends.{sends_of}
 use Rattle.rp_worldsafe.specs.Told.{IsTold, outcome_of}
+use Rattle.rp_worldsafe.proofs.Answered.{answered, counted_sends}
 use Rattle.rp_worldsafe.proofs.Playing.{lines_are_lawful}
 use Rattle.rp_worldsafe.proofs.Runs.{run_is_played}
 use Rattle.rp_worldsafe.proofs.Told.{each_kept, told, refused_stays, inputs_append, lawful_rest, play_append}
@@ -95,6 +97,9 @@ module _ (ls : List NumberedLine) (h : ArePlayable ls) where
   pub tells_all : (id : CmdId) → IsTold (node_after ls) (run_of ls) id
   tells_all id = told ls h.taken (lines_are_lawful ls h) id
 
+  pub sends_are_counted : (client : ℕ) → 1 ≤ client → client ≤ 64 → slice_index (node_after ls).sent (client - 1) ≡ sends_of client ls
+  sends_are_counted = counted_sends ls h.taken (lines_are_lawful ls h)
+
   never : (id : CmdId) → IsRefusal (outcome_of (node_after ls) id) → NeverHasAPlace ls id
   never id refused more g k c p = go (tells_all id) where
     all : AllLawful begun (all_inputs started (ls ++ more))
@@ -119,12 +124,14 @@ module _ (ls : List NumberedLine) (h : ArePlayable ls) where
       let tells : (id : CmdId) → IsTold w x id = tells_all in
       record {
         shows = run_is_played ls;
+        decodes = all_carry x r;
         prefix = prefix w f r tells;
         folded = fold_is x r;
         once = once x r;
         once_in_log = once_in_log x r;
         lawful = place_is_lawful x r;
         told = applied_told w f r tells;
+        answered = answered ls h.taken (lines_are_lawful ls h);
         replies = each_kept ls h.taken (lines_are_lawful ls h);
         success = success w f r tells;
         refused = never;

@@ -78,7 +78,7 @@ asked_sent : (w : World) (line client : ℕ) (q : Request) (b : Bool)
 asked_sent w line client q true = told_sent (counted w client) line (next_command w client) q (guarded w.replica q)
 asked_sent w line client q false = refl
 
-line_sent : (w : World) (line : ℕ) (l : ScriptLine) → (played w line l).sent ≡ sent_after w l
+pub line_sent : (w : World) (line : ℕ) (l : ScriptLine) → (played w line l).sent ≡ sent_after w l
 line_sent w line (lines.Send node range client q) = asked_sent w line client q (has_replica w range)
 line_sent w line (lines.Flush node range) = either_sent w (flushed (collected w)) line (has_replica w range) refl
 line_sent w line (lines.Apply node range) = either_sent w (applied w line) line (has_replica w range) (noted_sent w line (next_payload w.replica))

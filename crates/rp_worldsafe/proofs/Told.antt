@@ -142,7 +142,7 @@ ended_unasked (e ∷ ended) es f q all h =
     ended_unasked ended (insert_entry cmd_cmp es e.id e.outcome) (with_outcome f e.id e.outcome) q all.1 (put_unasked es f e.id e.outcome q all.0 h)
 
 -- a pending attempt was sent, and it is not one that was not asked
-abbrev ArePending : runs.Outcomes → List Ended → Type 0
+abbrev pub ArePending : runs.Outcomes → List Ended → Type 0
 ArePending f ended = AllByRecursion (λ e. f e.id ≡ Some Pending) ended
 
 pending_sent : (sent : List ℕ) (es : Outcomes) (f : runs.Outcomes) (id : CmdId) → Kept sent es f → f id ≡ Some Pending → WasSent sent id
@@ -167,7 +167,7 @@ own_pending P c lease v (Some p) h = either (is_own c.max (Some p)) v where
   either true verdicts.Nothing = tt
   either false v = tt
 
-apply_pending : (x : Run) → IsReached x → (o : Option Payload) → ArePending x.outcome (applied_where x.replica o).outcomes
+pub apply_pending : (x : Run) → IsReached x → (o : Option Payload) → ArePending x.outcome (applied_where x.replica o).outcomes
 apply_pending x r None = tt
 apply_pending x r (Some payload_kinds.Nothing) = tt
 apply_pending x r (Some (payload_kinds.Write c)) =
@@ -185,7 +185,7 @@ all_refused : (P : CmdId → Type 0) (lease : leases.Lease) (ids : List CmdId) �
 all_refused P lease [] h = tt
 all_refused P lease (id ∷ ids) h = (h.0, all_refused P lease ids h.1)
 
-flush_pending : (x : Run) → IsReached x → (ticks round : ℕ) → ArePending x.outcome (flushed x.replica ticks round).outcomes
+pub flush_pending : (x : Run) → IsReached x → (ticks round : ℕ) → ArePending x.outcome (flushed x.replica ticks round).outcomes
 flush_pending x r ticks round =
     let sh : Shown x = shown_reached x r in
     let f : Attempts = (sh.ranges.range 0).attempt in
@@ -204,7 +204,7 @@ record Went (w v : World) (f : runs.Outcomes) (y : Run) : Type 0 where
   stays : (q : CmdId) → Unasked w.outcomes f q → Unasked v.outcomes y.outcome q
 
 -- the run whose replica is the node's
-abbrev run_at : World → runs.Outcomes → Run
+abbrev pub run_at : World → runs.Outcomes → Run
 run_at w f = record { replica = w.replica; outcome = f }
 
 -- nothing changes but notes and what waits

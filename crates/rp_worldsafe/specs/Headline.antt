@@ -14,6 +14,7 @@ use Rattle.rp_request.specs.declared.outcomes.Outcome.TheVariants.{Success, Ambi
 use Rattle.rp_request.specs.declared.outcomes.Reply.{Reply}
 use Rattle.rp_pending.specs.Proposals.{proposal_of}
 use Rattle.rp_apply.specs.Applied.{after_all, records_of}
+use Rattle.rp_replica.specs.Carried.{AllCarry}
 use Rattle.rp_rangesafe.specs.Places.{shown}
 use Rattle.rp_rangesafe.specs.Ranges.{first_applied}
 use Rattle.rp_refine.specs.Laws.{payload, IsPlace, IsLawfulPlace, IsTheOnePlace}
@@ -23,6 +24,7 @@ use Rattle.rp_world.specs.Playing.{played_all}
 use Rattle.rp_world.specs.Worlds.{World, started}
 use Rattle.rp_worldsafe.specs.Inputs.{run_of}
 use Rattle.rp_worldsafe.specs.Playable.{ArePlayable}
+use Rattle.rp_worldsafe.specs.Sends.{IsSentIn}
 use Rattle.rp_worldsafe.specs.Told.{IsKept, outcome_of}
 
 -- the node that has played these lines
@@ -51,6 +53,8 @@ NeverHasAPlace ls id = (more : List NumberedLine) → ArePlayable (ls ++ more) �
 pub record IsHeadline (ls : List NumberedLine) : Type 0 where
   -- the node's replica is the one that the run of these lines leaves
   pub shows : (run_of ls).replica ≡ (node_after ls).replica
+  -- each entry of the log carries a payload, so that it is decoded and none is left out
+  pub decodes : AllCarry (node_after ls).replica
   -- a prefix of the log is applied, and the fold of the applied list is the table, the description and the lease that it shows
   pub prefix : AppliesAPrefix (node_after ls)
   pub folded : fold first_state (list_of (node_after ls)) ≡ Some (shown (node_after ls).replica.applied.state)
@@ -61,6 +65,8 @@ pub record IsHeadline (ls : List NumberedLine) : Type 0 where
   pub lawful : (id : CmdId) (k : ℕ) (c : Command) → IsPlace (log_of (node_after ls)) id k c → IsLawfulPlace (log_of (node_after ls)) k c
   pub told : (id : CmdId) (k : ℕ) (c : Command) → IsPlace (log_of (node_after ls)) id k c → k < (node_after ls).replica.applied.index
       → outcome_of (node_after ls) id ≡ Some (Success c.reply)
+  -- exactly the first attempts of the commands that clients have sent are told something
+  pub answered : (id : CmdId) → IsSome (outcome_of (node_after ls) id) ↔ IsSentIn ls id
   -- each reply line is what its attempt is told
   pub replies : AllByRecursion (IsKept (node_after ls)) (node_after ls).outcomes
   -- an attempt that is told Success has the one place of its command, with this reply; a refused one never has a place

@@ -1,4 +1,5 @@
 pub mod Inputs
 pub mod Playable
 pub mod Told
+pub mod Sends
 pub mod Headline

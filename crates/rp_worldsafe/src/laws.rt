@@ -1,6 +1,6 @@
 //! Laws of the lines of a script that one node plays. No program calls these functions.
 
-ghost use Rattle.std.specs.Prelude.{◌≡◌, List};
+ghost use Rattle.std.specs.Prelude.{◌≡◌, ℕ, ◌-◌, ◌≤◌, List, slice_index};
 ghost use Rattle.rp_base.specs.declared.ids.CmdId.{CmdId};
 ghost use Rattle.rp_refine.specs.Runs.{AllLawful, begun};
 ghost use Rattle.rp_script.specs.declared.lines.NumberedLine.{NumberedLine};
@@ -9,6 +9,7 @@ ghost use Rattle.rp_world.specs.Worlds.{started};
 ghost use Rattle.rp_worldsafe.specs.Headline.{IsHeadline};
 ghost use Rattle.rp_worldsafe.specs.Inputs.{all_inputs, run_of};
 ghost use Rattle.rp_worldsafe.specs.Playable.{ArePlayable};
+ghost use Rattle.rp_worldsafe.specs.Sends.{sends_of};
 ghost use Rattle.rp_worldsafe.specs.Told.{IsTold};
 
 /// The replica of the node that plays the lines of a script is the one that the run of their events
@@ -29,8 +30,14 @@ pub fn outcomes_are_the_runs()
     ensures { (ls : List NumberedLine) → ArePlayable ls → (id : CmdId) → IsTold (played_all started ls) (run_of ls) id }
 {}
 
+/// The node counts how many commands each of the clients 1 to 64 has sent.
+pub fn sends_are_counted()
+    ensures { (ls : List NumberedLine) → ArePlayable ls → (client : ℕ) → 1 ≤ client → client ≤ 64 → slice_index (played_all started ls).sent (client - 1) ≡ sends_of client ls }
+{}
+
 /// The headline, of all lines that may be played: what the node shows is the fold of a prefix of its
-/// log, each command has at most one place, places are lawful, and outcomes are honest.
+/// log, each command has at most one place, places are lawful, each command that was sent has an
+/// outcome, and outcomes are honest.
 pub fn headline()
     ensures { (ls : List NumberedLine) → ArePlayable ls → IsHeadline ls }
 {}
