@@ -1,5 +1,5 @@
 -- What holds of a node along the lines of a script that are built.
-use Rattle.std.specs.Prelude.{◌≡◌, ℕ, ◌+◌, ◌-◌, ◌≤◌, List, length, None, Some, IsFalse, IsTrue, slice_index}
+use Rattle.std.specs.Prelude.{◌≡◌, ℕ, ◌+◌, ◌-◌, ◌≤◌, List, length, Some, IsFalse, IsTrue, slice_index}
 use Rattle.std.specs.List.{AllByRecursion}
 use Rattle.rp_base.specs.declared.items.Item.{Item}
 use Rattle.rp_base.specs.declared.items.Item.TheVariants as items
