@@ -24,10 +24,6 @@ fn attempt(client: u16) -> CmdId {
     }
 }
 
-fn key(text: &str) -> Result<Key, Fail> {
-    Ok(Key::read(text.as_bytes())?)
-}
-
 fn node(number: u8) -> Result<NodeId, Fail> {
     Ok(NodeId::new(number).ok_or("no node")?)
 }
@@ -119,27 +115,25 @@ fn flush(alloc: Global, replica: &mut Replica, items: &[Item]) -> Option<Effects
     step(alloc, replica, ReplicaEvent::Flush)
 }
 
-fn apply(alloc: Global, replica: &mut Replica) -> Option<Effects> {
-    step(alloc, replica, ReplicaEvent::Apply)
-}
-
-/// Whether the events, one after another, answer so and end no attempt.
-fn answers(alloc: Global, replica: &mut Replica, rows: &[(ReplicaEvent, EventAnswer)]) -> bool {
-    for row in rows {
-        let Some(effects) = step(alloc, replica, row.0) else {
-            return false;
-        };
-        if effects.answer != row.1 || effects.outcomes.len() > 0 {
-            return false;
-        }
+/// Whether the event answers so and ends no attempt.
+fn answers(
+    alloc: Global,
+    replica: &mut Replica,
+    happens: ReplicaEvent,
+    answer: EventAnswer,
+) -> bool {
+    match step(alloc, replica, happens) {
+        None => false,
+        Some(effects) => effects.answer == answer && effects.outcomes.len() == 0,
     }
-    true
 }
 
-/// The attempt of this client comes from the buffer, is flushed and applied.
-fn written(alloc: Global, replica: &mut Replica, client: u16) -> Option<Effects> {
-    flush(alloc, replica, &[write(client)])?;
-    apply(alloc, replica)
+/// Whether it was done, and ends no attempt.
+fn ends_none(effects: Option<Effects>) -> bool {
+    match effects {
+        None => false,
+        Some(effects) => effects.answer == EventAnswer::Done && effects.outcomes.len() == 0,
+    }
 }
 
 /// Whether it was done, and ends this attempt so and no other.
@@ -157,52 +151,123 @@ fn ends(effects: Option<Effects>, client: u16, outcome: Outcome) -> bool {
         && outcomes.next() == None
 }
 
-/// Whether it was done, and ends no attempt.
-fn ends_none(effects: Option<Effects>) -> bool {
-    match effects {
-        None => false,
-        Some(effects) => effects.answer == EventAnswer::Done && effects.outcomes.len() == 0,
-    }
+/// Whether an attempt of this client to put a value is answered so.
+fn put_is(
+    alloc: Global,
+    replica: &mut Replica,
+    client: u16,
+    name: &str,
+    value: u64,
+    answer: EventAnswer,
+) -> bool {
+    let Ok(key) = Key::read(name.as_bytes()) else {
+        return false;
+    };
+    let id = attempt(client);
+    let request = Request::Put { key, value };
+    answers(alloc, replica, ReplicaEvent::Admit { id, request }, answer)
 }
 
-/// An attempt of this client asks to put a value.
-fn put(client: u16, key: Key, value: u64) -> ReplicaEvent {
-    ReplicaEvent::Admit {
-        id: attempt(client),
-        request: Request::Put { key, value },
-    }
+/// Whether it is admitted.
+fn admits(alloc: Global, replica: &mut Replica, client: u16, name: &str, value: u64) -> bool {
+    put_is(alloc, replica, client, name, value, EventAnswer::Admitted)
 }
 
-/// An attempt of this client asks to take from the value of one key for another's.
-fn shift(client: u16, from: Key, to: Key, by: u64) -> ReplicaEvent {
-    ReplicaEvent::Admit {
-        id: attempt(client),
-        request: Request::Move { from, to, by },
-    }
+/// Whether an attempt of this client to take from the value of one key for another's is answered so.
+fn move_is(
+    alloc: Global,
+    replica: &mut Replica,
+    client: u16,
+    names: (&str, &str),
+    by: u64,
+    answer: EventAnswer,
+) -> bool {
+    let (Ok(from), Ok(to)) = (Key::read(names.0.as_bytes()), Key::read(names.1.as_bytes())) else {
+        return false;
+    };
+    let id = attempt(client);
+    let request = Request::Move { from, to, by };
+    answers(alloc, replica, ReplicaEvent::Admit { id, request }, answer)
 }
 
-fn value(value: Option<u64>, applied: u64) -> EventAnswer {
-    EventAnswer::Value { value, applied }
+/// Whether a peek sees this value at this applied index.
+fn sees(
+    alloc: Global,
+    replica: &mut Replica,
+    name: &str,
+    value: Option<u64>,
+    applied: u64,
+) -> bool {
+    let Ok(key) = Key::read(name.as_bytes()) else {
+        return false;
+    };
+    let answer = EventAnswer::Value { value, applied };
+    answers(alloc, replica, ReplicaEvent::Peek { key }, answer)
+}
+
+/// Whether there is nothing to apply.
+fn has_applied_all(alloc: Global, replica: &mut Replica) -> bool {
+    answers(alloc, replica, ReplicaEvent::Apply, EventAnswer::Nothing)
+}
+
+/// Whether an application ends no attempt.
+fn applies(alloc: Global, replica: &mut Replica) -> bool {
+    ends_none(step(alloc, replica, ReplicaEvent::Apply))
+}
+
+/// Whether an application ends this attempt so and no other.
+fn applies_as(alloc: Global, replica: &mut Replica, client: u16, outcome: Outcome) -> bool {
+    ends(step(alloc, replica, ReplicaEvent::Apply), client, outcome)
+}
+
+/// Whether the items come from the buffer and are flushed, and no attempt ends.
+fn flushes(alloc: Global, replica: &mut Replica, items: &[Item]) -> bool {
+    ends_none(flush(alloc, replica, items))
+}
+
+/// Whether the items come from the buffer and are flushed, and this attempt ends so and no other.
+fn flushes_as(
+    alloc: Global,
+    replica: &mut Replica,
+    items: &[Item],
+    client: u16,
+    outcome: Outcome,
+) -> bool {
+    ends(flush(alloc, replica, items), client, outcome)
+}
+
+/// Whether the attempt of this client comes from the buffer, is flushed and applied, and ends so.
+fn writes_as(alloc: Global, replica: &mut Replica, client: u16, outcome: Outcome) -> bool {
+    flushes(alloc, replica, &[write(client)]) && applies_as(alloc, replica, client, outcome)
+}
+
+fn is_pending(replica: &Replica, client: u16) -> bool {
+    replica.pending().find(attempt(client)).is_some()
 }
 
 fn write(client: u16) -> Item {
     Item::Write(attempt(client))
 }
 
-fn lease(holder: NodeId, seq: u64, expires: u64) -> Lease {
-    Lease {
-        holder,
+fn lease(holder: u8, seq: u64, expires: u64) -> Result<Lease, Fail> {
+    Ok(Lease {
+        holder: node(holder)?,
         seq: LeaseSeq::new(seq),
         expires: Tick::new(expires),
-    }
+    })
 }
 
-fn ask(holder: NodeId, prev: u64, expires: u64) -> Item {
-    Item::Lease(LeaseAsk {
-        holder,
+fn ask(holder: u8, prev: u64, expires: u64) -> Result<Item, Fail> {
+    Ok(Item::Lease(LeaseAsk {
+        holder: node(holder)?,
         prev: LeaseSeq::new(prev),
         expires: Tick::new(expires),
-    })
+    }))
+}
+
+/// The bounds below `m`.
+fn left_of_m() -> Result<Desc, Fail> {
+    Ok(split_at(first_desc(), Key::read(b"m")?)?.0)
 }
 
 /// The bytes of attempt 1.1.1 that puts 5 at `a` under lease sequence 1 and lease index 1.
@@ -221,164 +286,132 @@ fn is_last_entry(replica: &Replica, payload: &[u8]) -> bool {
 
 #[test]
 fn a_put_goes_its_way(rt: HostRuntime) -> Result<(), Fail> {
-    let mut replica = fresh(rt.alloc(), 1, first_desc())?;
-    let put = put(1, key("a")?, 5);
+    let alloc = rt.alloc();
+    let mut replica = fresh(alloc, 1, first_desc())?;
     let success = Outcome::Success(Reply::Old(None));
-    assert!(rt; answers(rt.alloc(), &mut replica, &[(put, EventAnswer::Admitted)]));
-    assert!(rt; ends_none(flush(rt.alloc(), &mut replica, &[write(1)])));
+    assert!(rt; admits(alloc, &mut replica, 1, "a", 5));
+    assert!(rt; flushes(alloc, &mut replica, &[write(1)]));
     assert!(rt; is_last_entry(&replica, &PUT));
-    assert!(rt; replica.pending().find(attempt(1)).is_some());
-    assert!(rt; ends(apply(rt.alloc(), &mut replica), 1, success));
-    assert!(rt; replica.pending().find(attempt(1)).is_none());
+    assert!(rt; is_pending(&replica, 1));
+    assert!(rt; applies_as(alloc, &mut replica, 1, success));
+    assert!(rt; !is_pending(&replica, 1));
     Ok(())
 }
 
 #[test]
 fn a_peek_sees_what_is_applied(rt: HostRuntime) -> Result<(), Fail> {
-    let mut replica = fresh(rt.alloc(), 1, first_desc())?;
-    let peek = ReplicaEvent::Peek { key: key("a")? };
-    let put = put(1, key("a")?, 5);
-    let nothing = (ReplicaEvent::Apply, EventAnswer::Nothing);
-    let before = [
-        nothing,
-        (put, EventAnswer::Admitted),
-        (peek, value(None, 0)),
-    ];
-    let after = [nothing, (peek, value(Some(5), 1))];
-    assert!(rt; answers(rt.alloc(), &mut replica, &before));
-    assert!(rt; written(rt.alloc(), &mut replica, 1).is_some());
-    assert!(rt; answers(rt.alloc(), &mut replica, &after));
+    let alloc = rt.alloc();
+    let mut replica = fresh(alloc, 1, first_desc())?;
+    let success = Outcome::Success(Reply::Old(None));
+    assert!(rt; has_applied_all(alloc, &mut replica));
+    assert!(rt; admits(alloc, &mut replica, 1, "a", 5));
+    assert!(rt; sees(alloc, &mut replica, "a", None, 0));
+    assert!(rt; writes_as(alloc, &mut replica, 1, success));
+    assert!(rt; has_applied_all(alloc, &mut replica));
+    assert!(rt; sees(alloc, &mut replica, "a", Some(5), 1));
     Ok(())
-}
-
-/// The bounds below `m`.
-fn left_of_m() -> Result<Desc, Fail> {
-    Ok(split_at(first_desc(), key("m")?)?.0)
 }
 
 #[test]
 fn the_holder_is_asked_first(rt: HostRuntime) -> Result<(), Fail> {
-    let mut replica = fresh(rt.alloc(), 2, left_of_m()?)?;
+    let alloc = rt.alloc();
+    let mut replica = fresh(alloc, 2, left_of_m()?)?;
     let lease = first_lease();
     let refused = EventAnswer::Refused(Refusal::NotLeaseHolder { lease });
-    let rows = [
-        (put(1, key("a")?, 5), refused),
-        (put(1, key("z")?, 5), refused),
-    ];
-    assert!(rt; answers(rt.alloc(), &mut replica, &rows));
+    assert!(rt; put_is(alloc, &mut replica, 1, "a", 5, refused));
+    assert!(rt; put_is(alloc, &mut replica, 1, "z", 5, refused));
     Ok(())
 }
 
 #[test]
 fn the_bounds_come_next(rt: HostRuntime) -> Result<(), Fail> {
+    let alloc = rt.alloc();
     let desc = left_of_m()?;
-    let mut replica = fresh(rt.alloc(), 1, desc)?;
     let refused = EventAnswer::Refused(Refusal::RangeMismatch { desc });
-    let (a, z) = (key("a")?, key("z")?);
-    // The last one's first key is held, and has too little.
-    let rows = [
-        (put(1, a, 3), EventAnswer::Admitted),
-        (put(2, z, 5), refused),
-        (shift(2, a, z, 4), refused),
-    ];
-    assert!(rt; answers(rt.alloc(), &mut replica, &rows));
+    let mut replica = fresh(alloc, 1, left_of_m()?)?;
+    assert!(rt; admits(alloc, &mut replica, 1, "a", 3));
+    assert!(rt; put_is(alloc, &mut replica, 2, "z", 5, refused));
+    // The first key is held, and has too little.
+    assert!(rt; move_is(alloc, &mut replica, 2, ("a", "z"), 4, refused));
     Ok(())
 }
 
 #[test]
 fn latches_come_before_the_evaluation(rt: HostRuntime) -> Result<(), Fail> {
-    let mut replica = fresh(rt.alloc(), 1, first_desc())?;
-    let (a, b) = (key("a")?, key("b")?);
+    let alloc = rt.alloc();
     let by = attempt(1);
-    let held = Span::one(a);
+    let held = Span::one(Key::read(b"a")?);
     let latched = EventAnswer::Refused(Refusal::Latched { by, held });
+    let mut replica = fresh(alloc, 1, first_desc())?;
+    assert!(rt; admits(alloc, &mut replica, 1, "a", 3));
+    assert!(rt; put_is(alloc, &mut replica, 2, "a", 4, latched));
+    assert!(rt; move_is(alloc, &mut replica, 2, ("a", "b"), 4, latched));
+    assert!(rt; move_is(alloc, &mut replica, 2, ("b", "a"), 4, latched));
     // A refused attempt holds nothing.
-    let rows = [
-        (put(1, a, 3), EventAnswer::Admitted),
-        (put(2, a, 4), latched),
-        (shift(2, a, b, 4), latched),
-        (shift(2, b, a, 4), latched),
-        (put(2, b, 4), EventAnswer::Admitted),
-    ];
-    assert!(rt; answers(rt.alloc(), &mut replica, &rows));
+    assert!(rt; admits(alloc, &mut replica, 2, "b", 4));
     Ok(())
 }
 
 #[test]
 fn two_names_move(rt: HostRuntime) -> Result<(), Fail> {
-    let mut replica = fresh(rt.alloc(), 1, first_desc())?;
-    let (a, b) = (key("a")?, key("b")?);
+    let alloc = rt.alloc();
+    let mut replica = fresh(alloc, 1, first_desc())?;
+    let old = Outcome::Success(Reply::Old(None));
     let now = Outcome::Success(Reply::Now(3));
     let short = EventAnswer::Refused(Refusal::Short { actual: 3 });
+    assert!(rt; admits(alloc, &mut replica, 1, "a", 3));
+    assert!(rt; writes_as(alloc, &mut replica, 1, old));
+    assert!(rt; move_is(alloc, &mut replica, 2, ("a", "a"), 3, EventAnswer::Admitted));
+    assert!(rt; writes_as(alloc, &mut replica, 2, now));
+    assert!(rt; move_is(alloc, &mut replica, 3, ("a", "b"), 4, short));
     // The refused attempt leaves no latch.
-    let last = [
-        (shift(3, a, b, 4), short),
-        (put(4, a, 1), EventAnswer::Admitted),
-    ];
-    assert!(rt;
-        answers(
-            rt.alloc(),
-            &mut replica,
-            &[(put(1, a, 3), EventAnswer::Admitted)]
-        )
-    );
-    assert!(rt; written(rt.alloc(), &mut replica, 1).is_some());
-    assert!(rt;
-        answers(
-            rt.alloc(),
-            &mut replica,
-            &[(shift(2, a, a, 3), EventAnswer::Admitted)]
-        )
-    );
-    assert!(rt; ends(written(rt.alloc(), &mut replica, 2), 2, now));
-    assert!(rt; answers(rt.alloc(), &mut replica, &last));
+    assert!(rt; admits(alloc, &mut replica, 4, "a", 1));
     Ok(())
 }
 
 #[test]
 fn a_flush_puts_lease_asks_first(rt: HostRuntime) -> Result<(), Fail> {
-    let mut replica = fresh(rt.alloc(), 1, first_desc())?;
-    let (one, two) = (node(1)?, node(2)?);
-    let put = put(1, key("a")?, 5);
-    let moved = lease(two, 2, 60);
-    let refused = Outcome::Refused(Refusal::NotLeaseHolder { lease: moved });
-    let items = [write(1), ask(two, 1, 60), ask(one, 1, 90)];
+    let alloc = rt.alloc();
+    let items = [write(1), ask(2, 1, 60)?, ask(1, 1, 90)?];
+    let lease = lease(2, 2, 60)?;
+    let refused = Outcome::Refused(Refusal::NotLeaseHolder { lease });
+    let mut replica = fresh(alloc, 1, first_desc())?;
+    assert!(rt; admits(alloc, &mut replica, 1, "a", 5));
+    assert!(rt; flushes(alloc, &mut replica, &items));
     // The second ask names a sequence that has passed, and so does the command.
-    let rows = [
-        (ReplicaEvent::Flush, EventAnswer::Done),
-        (ReplicaEvent::Apply, EventAnswer::Done),
-        (ReplicaEvent::Apply, EventAnswer::Done),
-    ];
-    assert!(rt; answers(rt.alloc(), &mut replica, &[(put, EventAnswer::Admitted)]));
-    assert!(rt; ends_none(collect(rt.alloc(), &mut replica, &items)));
-    assert!(rt; answers(rt.alloc(), &mut replica, &rows));
-    assert!(rt; replica.applied().lease() == moved);
-    assert!(rt; ends(apply(rt.alloc(), &mut replica), 1, refused));
+    assert!(rt; applies(alloc, &mut replica));
+    assert!(rt; applies(alloc, &mut replica));
+    assert!(rt; replica.applied().lease() == lease);
+    assert!(rt; applies_as(alloc, &mut replica, 1, refused));
     Ok(())
 }
 
 #[test]
 fn a_flush_refuses_what_an_old_lease_evaluated(rt: HostRuntime) -> Result<(), Fail> {
-    let mut replica = fresh(rt.alloc(), 1, first_desc())?;
-    let two = node(2)?;
-    let put = put(1, key("a")?, 5);
-    let lease = lease(two, 2, 60);
+    let alloc = rt.alloc();
+    let ask = ask(2, 1, 60)?;
+    let lease = lease(2, 2, 60)?;
     let refused = Outcome::Refused(Refusal::NotLeaseHolder { lease });
-    let rows = [
-        (ReplicaEvent::Flush, EventAnswer::Done),
-        (ReplicaEvent::Apply, EventAnswer::Done),
-    ];
-    assert!(rt; answers(rt.alloc(), &mut replica, &[(put, EventAnswer::Admitted)]));
-    assert!(rt; collect(rt.alloc(), &mut replica, &[ask(two, 1, 60)]).is_some());
-    assert!(rt; answers(rt.alloc(), &mut replica, &rows));
-    assert!(rt;
-        ends(
-            flush(rt.alloc(), &mut replica, &[write(1), write(1)]),
-            1,
-            refused
-        )
-    );
+    let mut replica = fresh(alloc, 1, first_desc())?;
+    assert!(rt; admits(alloc, &mut replica, 1, "a", 5));
+    assert!(rt; flushes(alloc, &mut replica, &[ask]));
+    assert!(rt; applies(alloc, &mut replica));
+    assert!(rt; flushes_as(alloc, &mut replica, &[write(1), write(1)], 1, refused));
     assert!(rt; replica.commit_index() == 1);
+    Ok(())
+}
+
+#[test]
+fn what_is_proposed_gets_no_second_index(rt: HostRuntime) -> Result<(), Fail> {
+    let alloc = rt.alloc();
+    let mut replica = fresh(alloc, 1, first_desc())?;
+    assert!(rt; admits(alloc, &mut replica, 1, "a", 5));
+    assert!(rt; admits(alloc, &mut replica, 2, "b", 5));
+    assert!(rt; flushes(alloc, &mut replica, &[write(1)]));
+    assert!(rt; flushes(alloc, &mut replica, &[write(1), write(3)]));
+    assert!(rt; replica.commit_index() == 1);
+    assert!(rt; flushes(alloc, &mut replica, &[write(1), write(2)]));
+    assert!(rt; replica.commit_index() == 2);
     Ok(())
 }
 
@@ -405,20 +438,17 @@ fn append_foreign(alloc: Global, replica: &mut Replica, max: u64) -> Option<()> 
 
 #[test]
 fn what_comes_too_late_waits_again(rt: HostRuntime) -> Result<(), Fail> {
-    let mut replica = fresh(rt.alloc(), 1, first_desc())?;
-    let put = put(1, key("a")?, 5);
+    let alloc = rt.alloc();
+    let mut replica = fresh(alloc, 1, first_desc())?;
     let success = Outcome::Success(Reply::Old(None));
-    let rows = [
-        (ReplicaEvent::Apply, EventAnswer::Done),
-        (ReplicaEvent::Apply, EventAnswer::Done),
-    ];
-    assert!(rt; answers(rt.alloc(), &mut replica, &[(put, EventAnswer::Admitted)]));
-    assert!(rt; append_foreign(rt.alloc(), &mut replica, 7).is_some());
-    assert!(rt; flush(rt.alloc(), &mut replica, &[write(1)]).is_some());
-    assert!(rt; answers(rt.alloc(), &mut replica, &rows));
+    assert!(rt; admits(alloc, &mut replica, 1, "a", 5));
+    assert!(rt; append_foreign(alloc, &mut replica, 7).is_some());
+    assert!(rt; flushes(alloc, &mut replica, &[write(1)]));
+    assert!(rt; applies(alloc, &mut replica));
+    assert!(rt; applies(alloc, &mut replica));
     assert!(rt; replica.inbox.as_slice() == [write(1)].as_slice());
-    assert!(rt; ends_none(flush(rt.alloc(), &mut replica, &[])));
-    assert!(rt; ends(apply(rt.alloc(), &mut replica), 1, success));
+    assert!(rt; flushes(alloc, &mut replica, &[]));
+    assert!(rt; applies_as(alloc, &mut replica, 1, success));
     assert!(rt; replica.applied().lai() == LeaseIndex::new(8));
     Ok(())
 }
