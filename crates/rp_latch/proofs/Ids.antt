@@ -16,8 +16,8 @@ use Rattle.rp_latch.proofs.Elements.{left_true, right_true, pairs_insert}
 
 pub id_total : IsTotalOrder id_cmp
 id_total =
-    then_total (on_total (λ (id : CmdId). id.client) nat_cmp_total)
-    (then_total (on_total (λ (id : CmdId). id.seq) nat_cmp_total) (on_total (λ (id : CmdId). id.attempt) nat_cmp_total))
+    then_total (on_total (λ (id : CmdId). id.seq) nat_cmp_total)
+    (then_total (on_total (λ (id : CmdId). id.client) nat_cmp_total) (on_total (λ (id : CmdId). id.attempt) nat_cmp_total))
 
 equals : (a b : ℕ) → (a == b) ≡ true → a ≡ b
 equals a b h = grind (arith, nat_tests)
@@ -42,8 +42,8 @@ nat_same a = go (nat_lt a a) (a == a) refl refl where
 
 pub itself : (x : CmdId) → id_cmp x x ≡ Equal
 itself x =
-    ap (λ o. ordering_then o (ordering_then (nat_cmp x.seq x.seq) (nat_cmp x.attempt x.attempt))) (nat_same x.client)
-    ∙ ap (λ o. ordering_then o (nat_cmp x.attempt x.attempt)) (nat_same x.seq)
+    ap (λ o. ordering_then o (ordering_then (nat_cmp x.client x.client) (nat_cmp x.attempt x.attempt))) (nat_same x.seq)
+    ∙ ap (λ o. ordering_then o (nat_cmp x.attempt x.attempt)) (nat_same x.client)
     ∙ nat_same x.attempt
 
 nat_equal : (a b : ℕ) → nat_cmp a b ≡ Equal → (a == b) ≡ true
@@ -65,10 +65,10 @@ then_right Greater p h = absurd cc
 
 pub equal_same : (x y : CmdId) → id_cmp x y ≡ Equal → same_id x y ≡ true
 equal_same x y h =
-    let rest : ordering_then (nat_cmp x.seq y.seq) (nat_cmp x.attempt y.attempt) ≡ Equal = then_right (nat_cmp x.client y.client) _ h in
-    let client = nat_equal x.client y.client (then_left _ _ h) in
-    let seq = nat_equal x.seq y.seq (then_left _ _ rest) in
-    let attempt = nat_equal x.attempt y.attempt (then_right (nat_cmp x.seq y.seq) _ rest) in
+    let rest : ordering_then (nat_cmp x.client y.client) (nat_cmp x.attempt y.attempt) ≡ Equal = then_right (nat_cmp x.seq y.seq) _ h in
+    let client = nat_equal x.client y.client (then_left _ _ rest) in
+    let seq = nat_equal x.seq y.seq (then_left _ _ h) in
+    let attempt = nat_equal x.attempt y.attempt (then_right (nat_cmp x.client y.client) _ rest) in
     ap (λ b. (b && x.seq == y.seq) && x.attempt == y.attempt) client ∙ ap (λ b. b && x.attempt == y.attempt) seq ∙ attempt
 
 -- neither before the other
