@@ -15,7 +15,8 @@ pub struct Tag {
     pub number: u64,
 }
 
-/// Tags in the order of their ids, later commands last, so that a tag mostly comes near the end. Contracts see the list, and apart from it the spare room.
+/// Tags in the order of their ids, later commands last, so that a tag mostly comes near the end.
+/// Contracts see the list, and apart from it the spare room.
 #[derive(Drop)]
 pub struct Tags {
     tags: VecDeque<Tag, Global>,
