@@ -144,7 +144,7 @@ impl Pending {
         refreshes::to_refresh(&self.slots, lai, now, all)
     }
 
-    /// No two pending proposals have one id. A law, which no program calls.
+    /// No two pending proposals have one id. A law: there is nothing to do.
     pub fn ids_are_distinct(&self)
         ensures { IsDistinct same_id (map (λ p. p.id) self.now.list) }
     {
