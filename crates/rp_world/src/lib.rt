@@ -10,6 +10,7 @@ mod runs;
 #[cfg(test)]
 mod tests;
 mod views;
+mod widths;
 mod worlds;
 
 pub use runs::play_lines;

@@ -1,6 +1,7 @@
-ghost use Rattle.std.specs.Prelude.{◌≡◌, ◌-◌, ◌≤◌, ◌<◌, ◌^◌, length, IfOk};
+ghost use Rattle.std.specs.Prelude.{◌≡◌, ◌-◌, ◌≤◌, ◌<◌, ◌^◌, length, IfOk, OnOk};
 ghost use Rattle.std.specs.List.{AllByRecursion};
 ghost use Rattle.rp_report.specs.Shown.{IsShownView};
+ghost use Rattle.rp_world.specs.Fits.{LineFits};
 ghost use Rattle.rp_world.specs.Views.{view_of};
 ghost use Rattle.rp_world.specs.Playing.{played_all};
 ghost use Rattle.rp_script.specs.Bounds.{IsTaken};
@@ -8,6 +9,7 @@ ghost use Rattle.rp_script.specs.declared.built.Forms.TheVariants.{OneNode};
 ghost use Rattle.rp_world.specs.Sound.{IsSound};
 ghost use Rattle.rp_world.specs.Worlds.{started};
 
+use crate::widths::lines_fit;
 use crate::worlds::World;
 use rp_base::NoMemory;
 use rp_script::NumberedLine;
@@ -21,7 +23,9 @@ pub fn play_lines(alloc: Global, lines: &[NumberedLine]) -> Result<World, NoMemo
     ensures small { IfOk result (λ w. w.replica.applied.index < 2 ^ 64 - 1) }
     ensures shown { IfOk result (λ w. IsShownView (view_of w)) }
     ensures sound { IfOk result (λ w. IsSound w (length lines.now) (length lines.now)) }
+    ensures fits { OnOk result (AllByRecursion LineFits lines.now) }
 {
+    lines_fit(lines);
     let mut world = World::start(alloc);
     for line in lines {
         world.play(line.number, &line.line)?;
