@@ -1,5 +1,5 @@
 -- What holds of a node along the lines of a script that are built.
-use Rattle.std.specs.Prelude.{◌≡◌, ℕ, ◌+◌, ◌-◌, ◌≤◌, List, length, None, Some, IsFalse, IsTrue, slice_index}
+use Rattle.std.specs.Prelude.{◌≡◌, ℕ, ◌+◌, ◌-◌, ◌≤◌, List, length, Some, IsFalse, IsTrue, slice_index}
 use Rattle.std.specs.List.{AllByRecursion}
 use Rattle.rp_base.specs.declared.items.Item.{Item}
 use Rattle.rp_base.specs.declared.items.Item.TheVariants as items
@@ -29,6 +29,7 @@ pub record IsGiven (last : ℕ) (e : Entry) : Type 0 where
   pub given : command.max ≤ last
   pub plain : IsFalse (is_split command.request)
 
+-- an item that is an attempt, and no lease ask
 abbrev pub IsWrite : Item → Type 0
 IsWrite (items.Write id) = Unit {0}
 IsWrite (items.Lease ask) = ⊥

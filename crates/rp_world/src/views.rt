@@ -3,7 +3,6 @@ ghost use Rattle.std.specs.FinMap.{entries};
 ghost use Rattle.rp_world.specs.Views.{answer_of, range_view, replica_view, row_of, view_of};
 
 use crate::worlds::World;
-use rp_apply::ApplyState;
 use rp_base::{CmdId, NoMemory, Seq, Text, push_word};
 use rp_report::{RangeView, ReplicaView, Row, View};
 use rp_request::{Answer, End, Note, Notes, Outcome, Replies};
