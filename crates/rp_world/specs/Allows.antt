@@ -14,6 +14,7 @@ pub record MaySend (w : World) (client : ℕ) : Type 0 where
   pub count : slice_index w.sent (client - 1) + 1 < 2 ^ 32
   pub new : proposal_of (next_command w client) w.replica.pending ≡ None
 
+-- a send, a flush and an application have their conditions; each other line may be played
 abbrev pub MayPlay : World → ScriptLine → Type 0
 MayPlay w (lines.Send node range client request) = MaySend w client
 MayPlay w (lines.Flush node range) = MayFlush (collected w).replica

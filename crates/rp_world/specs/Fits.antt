@@ -9,5 +9,6 @@ abbrev pub Fits : ScriptLine → Type 0
 Fits (Send node range client request) = FitsRequest request
 Fits _ = Unit {0}
 
+-- what the numbered line says fits
 abbrev pub LineFits : NumberedLine → Type 0
 LineFits l = Fits l.line

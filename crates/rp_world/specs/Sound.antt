@@ -29,6 +29,7 @@ pub record IsGiven (last : ℕ) (e : Entry) : Type 0 where
   pub given : command.max ≤ last
   pub plain : IsFalse (is_split command.request)
 
+-- an item that is an attempt, and no lease ask
 abbrev pub IsWrite : Item → Type 0
 IsWrite (items.Write id) = Unit {0}
 IsWrite (items.Lease ask) = ⊥

@@ -18,6 +18,7 @@ use Rattle.rp_world.specs.Worlds.{World}
 abbrev pub answer_of : CmdId × Outcome → Answer
 answer_of e = record { client = e.0.client; seq = e.0.seq; attempt = e.0.attempt; end = ends.Outcome e.1 }
 
+-- a row as it is shown
 abbrev pub row_of : ℕ × ℕ → Row
 row_of e = record { key = e.0; value = e.1 }
 

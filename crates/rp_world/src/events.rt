@@ -58,7 +58,7 @@ pub fn end_all(outcomes: &mut BTreeMap<CmdId, Outcome>, ended: &[Ended]) -> Resu
     Ok(())
 }
 
-/// The outcome of an attempt, as it is from now on.
+/// The outcome of an attempt, as it is from now on: it is noted as a list of one.
 pub fn end_one(
     outcomes: &mut BTreeMap<CmdId, Outcome>,
     id: CmdId,

@@ -1,6 +1,6 @@
 ghost use Rattle.std.specs.Prelude.{◌≡◌, ◌++◌, codes, OnOk, IfOk};
 ghost use Rattle.rp_report.specs.Words.{spaced, spaced_key, value_text};
-ghost use Rattle.rp_world.specs.Notes.{absent_text, peek_text};
+ghost use Rattle.rp_world.specs.Notes.{peek_text};
 
 use rp_base::{Key, NoMemory, Text, push_key, push_number, push_word};
 use std::alloc::Global;
@@ -12,13 +12,6 @@ pub fn text_of(alloc: Global, words: &str) -> Result<Text, NoMemory>
     let mut text = Text::new(alloc);
     push_word(&mut text, words)?;
     Ok(text)
-}
-
-/// What is told of a range that has no replica at the node.
-pub fn absent_text(alloc: Global) -> Result<Text, NoMemory>
-    ensures { IfOk result (λ text. text ≡ absent_text) }
-{
-    text_of(alloc, "no-replica")
 }
 
 /// A value, or that there is none.

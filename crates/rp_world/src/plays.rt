@@ -9,7 +9,7 @@ ghost use Rattle.rp_world.specs.Worlds.{with_note};
 ghost use Rattle.rp_replica.specs.declared.events.ReplicaEvent.TheVariants as events;
 ghost use Rattle.rp_world.specs.Playing.{placed, told, asked, sent, flushed, collected, noted, applied, peeked, happens, played};
 
-use crate::notes::{absent_text, peek_text, text_of};
+use crate::notes::{peek_text, text_of};
 use crate::worlds::World;
 use rp_base::{CmdId, Item, Key, NoMemory, RangeId};
 use rp_replica::{EventAnswer, ReplicaEvent};
@@ -20,6 +20,14 @@ use rp_script::ScriptLine;
 const MAX_WAITING: usize = 16;
 
 impl World {
+    /// A line has these words to tell.
+    fn note_words(&mut self, line: u32, words: &str) -> Result<(), NoMemory>
+        ensures { OnOk result (self.new ≡ with_note self.old line words.now) }
+    {
+        let text = text_of(self.alloc, words)?;
+        self.note(line, text)
+    }
+
     /// Lets an admitted attempt wait for a flush, where there is a place.
     fn place(&mut self, line: u32, id: CmdId) -> Result<(), NoMemory>
         ensures { OnOk result (self.new ≡ placed self.old line id) }
@@ -29,8 +37,7 @@ impl World {
             self.waiting.push(Item::Write(id));
             return Ok(());
         }
-        let text = text_of(self.alloc, "full 16")?;
-        self.note(line, text)
+        self.note_words(line, "full 16")
     }
 
     /// Notes what an admission answered.
@@ -96,10 +103,7 @@ impl World {
     {
         let effects = self.happen(ReplicaEvent::Apply)?;
         match effects.answer {
-            EventAnswer::Nothing => {
-                let text = text_of(self.alloc, "nothing")?;
-                self.note(line, text)
-            }
+            EventAnswer::Nothing => self.note_words(line, "nothing"),
             _ => Ok(()),
         }
     }
@@ -122,8 +126,7 @@ impl World {
     fn miss(&mut self, line: u32) -> Result<(), NoMemory>
         ensures { OnOk result (self.new ≡ with_note self.old line absent_text) }
     {
-        let text = absent_text(self.alloc)?;
-        self.note(line, text)
+        self.note_words(line, "no-replica")
     }
 
     /// Plays a line. A line that is not built yet, `cluster` and `end` change nothing. Where memory is

@@ -15,7 +15,7 @@ const TWO_NAMES: &[u8] =
     b"cluster 1\nsend 1 0 1 put a 3\nflush 1 0\napply 1 0\nsend 1 0 1 move a a 3\nflush 1 0\napply 1 0\nsend 1 0 1 move a b 4\nend\n";
 
 const CONDITIONS: &[u8] =
-    b"cluster 1\nsend 1 0 1 put a 1\nflush 1 0\napply 1 0\nsend 1 0 1 cput a none 2\nsend 1 0 1 cput a 1 2\nflush 1 0\napply 1 0\nsend 1 0 1 wipe a b\nflush 1 0\napply 1 0\nsend 1 0 1 del a\nflush 1 0\napply 1 0\nend\n";
+    b"cluster 1\nsend 1 0 1 put a 1\nflush 1 0\napply 1 0\nsend 1 0 1 cput a none 2\nsend 1 0 1 cput a 1 2\nflush 1 0\napply 1 0\nsend 1 0 1 wipe a b\nflush 1 0\napply 1 0\nsend 1 0 1 del a\nflush 1 0\napply 1 0\npeek 1 0 a\nend\n";
 
 const OTHER_RANGE: &[u8] =
     b"cluster 1\nsend 1 3 2 put a 1\nflush 1 3\napply 1 3\npeek 1 3 a\nend\n";
@@ -116,6 +116,7 @@ fn conditions_wipe_and_delete(rt: HostRuntime) -> Result<(), Fail> {
         ok(Reply::Old(None)),
     ];
     assert!(rt; ends_are(&view, ends.as_slice()));
+    assert!(rt; notes_are(&view, &[(15, "peek a none applied 4")]));
     assert!(rt; stands_at(&view, 4, 4, &[]));
     Ok(())
 }

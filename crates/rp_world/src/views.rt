@@ -3,7 +3,6 @@ ghost use Rattle.std.specs.FinMap.{entries};
 ghost use Rattle.rp_world.specs.Views.{answer_of, range_view, replica_view, row_of, view_of};
 
 use crate::worlds::World;
-use rp_apply::ApplyState;
 use rp_base::{CmdId, NoMemory, Seq, Text, push_word};
 use rp_report::{RangeView, ReplicaView, Row, View};
 use rp_request::{Answer, End, Note, Notes, Outcome, Replies};
@@ -79,6 +78,15 @@ impl World {
         })
     }
 
+    /// The applied index of the first record.
+    fn first_record(&self) -> u64
+        requires { self.now.replica.applied.records.first < 2 ^ 64 }
+        ensures { result ≡ self.now.replica.applied.records.first }
+    {
+        self.replica.applied().before() + 1
+    }
+
+    /// The range: its description, its lease, its records and its one replica.
     fn range_view(&self) -> Result<RangeView, NoMemory>
         requires { self.now.replica.applied.index < 2 ^ 64 - 1 }
         ensures { IfOk result (λ view. view ≡ range_view self.now.replica) }
@@ -90,7 +98,7 @@ impl World {
         Ok(RangeView {
             desc: applied.desc(),
             lease: applied.lease(),
-            first: applied.before() + 1,
+            first: self.first_record(),
             records: Seq::from_vec(records),
             replicas: Seq::from_vec(replicas),
         })
