@@ -70,7 +70,7 @@ fn line_fits(line: &NumberedLine)
     }
 }
 
-/// The lines have numbers of their widths, and their keys are keys. It costs nothing at run.
+/// The lines have numbers of their widths, and their keys are keys. A law: there is nothing to do.
 pub fn lines_fit(lines: &[NumberedLine])
     ensures { AllByRecursion LineFits lines.now }
 {
