@@ -1,4 +1,4 @@
-ghost use Rattle.std.specs.Prelude.{◌≡◌, ◌+◌, ◌-◌, ◌<◌, ◌^◌, None, OnOk, slice_index};
+ghost use Rattle.std.specs.Prelude.{◌≡◌, ◌+◌, ◌-◌, ◌<◌, ◌^◌, None, IfOk, OnOk, slice_index};
 ghost use Rattle.rp_pending.specs.Proposals.{proposal_of};
 ghost use Rattle.rp_replica.specs.Allows.{MayFlush, MayApply};
 ghost use Rattle.rp_replica.specs.Writes.{WritesFit};
@@ -129,12 +129,10 @@ impl World {
         self.note_words(line, "no-replica")
     }
 
-    /// Plays a line. A line that is not built yet, `cluster` and `end` change nothing. Where memory is
-    /// wanting, what was done before it stands.
-    pub fn play(&mut self, number: u32, line: &ScriptLine) -> Result<(), NoMemory>
+    /// Plays a line. Where memory is wanting, what was done before it stands.
+    fn play_line(&mut self, number: u32, line: &ScriptLine) -> Result<(), NoMemory>
         requires { MayPlay self.old line.now }
         ensures played { OnOk result (self.new ≡ played self.old number line.now) }
-        // What a flush wrote holds numbers of their widths.
         ensures fits { OnOk result (FlushFits self.old line.now) }
     {
         match *line {
@@ -164,5 +162,17 @@ impl World {
             }
             _ => Ok(()),
         }
+    }
+
+    /// Plays a line. A line that is not built yet, `cluster` and `end` change nothing. Want of memory
+    /// consumes the node, so that none is seen that has played half a line.
+    pub fn play(mut self, number: u32, line: &ScriptLine) -> Result<World, NoMemory>
+        requires { MayPlay self line.now }
+        ensures played { IfOk result (λ w. w ≡ played self number line.now) }
+        // What a flush wrote holds numbers of their widths.
+        ensures fits { OnOk result (FlushFits self line.now) }
+    {
+        self.play_line(number, line)?;
+        Ok(self)
     }
 }

@@ -28,7 +28,7 @@ pub fn play_lines(alloc: Global, lines: &[NumberedLine]) -> Result<World, NoMemo
     lines_fit(lines);
     let mut world = World::start(alloc);
     for line in lines {
-        world.play(line.number, &line.line)?;
+        world = world.play(line.number, &line.line)?;
     }
     Ok(world)
 }

@@ -31,15 +31,15 @@ loop-line-preserved c =
     let i = c.loop-line.line-index in
     let l = c.line-item.result in
     let p = first_playable c.args.lines.now i l c.loop-line-test.true c.line-item.is c.loop-line.invariant.taken in
-    let sound : IsSound c.play.new.self (i + 1) (i + 1) = subst (λ w. IsSound w (i + 1) (i + 1)) (sym c.in_ok-play.ensures.played)
-    (stays_sound c.loop-line.world i i l.number l.line c.loop-line.invariant.sound p.0.bounded p.0.built c.in_ok-play.ensures.fits) in
-    let showing : IsShowing c.play.new.self = subst IsShowing (sym c.in_ok-play.ensures.played)
+    let sound : IsSound c.in_ok-world.world (i + 1) (i + 1) = subst (λ w. IsSound w (i + 1) (i + 1)) (sym c.in_ok-world.ensures.played)
+    (stays_sound c.loop-line.world i i l.number l.line c.loop-line.invariant.sound p.0.bounded p.0.built c.in_ok-world.ensures.fits) in
+    let showing : IsShowing c.in_ok-world.world = subst IsShowing (sym c.in_ok-world.ensures.played)
     (stays_showing c.loop-line.world i i l.number l.line c.loop-line.invariant.sound c.loop-line.invariant.showing) in
     record {
       showing = showing;
-      shown = is_shown c.play.new.self (i + 1) (i + 1) sound (omega (arith, c.loop-line-test.true, c.requires.few)) showing;
-      leads = leads_on c.args.lines.now i l c.loop-line.world c.play.new.self _ c.loop-line-test.true c.line-item.is c.in_ok-play.ensures.played c.loop-line.invariant.leads;
+      shown = is_shown c.in_ok-world.world (i + 1) (i + 1) sound (omega (arith, c.loop-line-test.true, c.requires.few)) showing;
+      leads = leads_on c.args.lines.now i l c.loop-line.world c.in_ok-world.world _ c.loop-line-test.true c.line-item.is c.in_ok-world.ensures.played c.loop-line.invariant.leads;
       sound = sound;
       taken = p.1;
-      small = may_show c.play.new.self (i + 1) (i + 1) sound (omega (arith, c.loop-line-test.true, c.requires.few));
+      small = may_show c.in_ok-world.world (i + 1) (i + 1) sound (omega (arith, c.loop-line-test.true, c.requires.few));
     }
