@@ -1,6 +1,7 @@
 -- What is found in a list of outcomes once one more is put into it.
 use Rattle.std.proofs.Common.{◌≡◌, Bool, true, false, cond, [], ◌∷◌, Option, None, Some, refl, sym, ap, ◌∙◌}
 use Rattle.std.specs.BTreeMap.{insert_entry, is_at}
+use Rattle.std.specs.Cmp.{IsTotalOrder, nat_cmp_total, on_total, then_total}
 use Rattle.std.specs.List.{AllByRecursion}
 use Rattle.std.specs.Map.{lookup}
 use Rattle.std.specs.Ordering.{is_eq, match_ordering, ordering_reverse}
@@ -8,11 +9,15 @@ use Rattle.std.specs.declared.cmp.Ordering.{Ordering}
 use Rattle.std.specs.declared.cmp.Ordering.TheVariants.{Less, Equal, Greater}
 use Rattle.rp_base.specs.declared.ids.CmdId.{CmdId}
 use Rattle.rp_request.specs.declared.outcomes.Outcome.{Outcome}
-use Rattle.rp_latch.proofs.Ids.{id_total}
 use Rattle.rp_flush.proofs.Finds.{at_same, same_is}
 use Rattle.rp_refine.proofs.Stands.{apart}
 use Rattle.rp_flush.specs.Assigns.{same_id}
 use Rattle.rp_world.specs.Worlds.{Outcomes, cmd_cmp}
+
+cmd_total : IsTotalOrder cmd_cmp
+cmd_total =
+    then_total (on_total (λ (id : CmdId). id.client) nat_cmp_total)
+    (then_total (on_total (λ (id : CmdId). id.seq) nat_cmp_total) (on_total (λ (id : CmdId). id.attempt) nat_cmp_total))
 
 -- the outcome of an attempt in a list of them
 abbrev pub found : Outcomes → CmdId → Option Outcome
@@ -76,7 +81,7 @@ after_put a id v (e ∷ es) l h = go (cmd_cmp id e.0) (after_put a id v es l h.1
 
 after_less : (a b : CmdId) (es : Outcomes) → cmd_cmp a b ≡ Less → AllByRecursion (IsAfter b) es → AllByRecursion (IsAfter a) es
 after_less a b [] l h = tt
-after_less a b (e ∷ es) l h = (id_total.trans a b e.0 l h.0, after_less a b es l h.1)
+after_less a b (e ∷ es) l h = (cmd_total.trans a b e.0 l h.0, after_less a b es l h.1)
 
 pub put_rising : (es : Outcomes) (id : CmdId) (v : Outcome) → IsRising es → IsRising (insert_entry cmd_cmp es id v)
 put_rising [] id v h = (tt, tt)
@@ -85,7 +90,7 @@ put_rising (e ∷ es) id v h = go (cmd_cmp id e.0) refl (put_rising es id v h.1)
       → IsRising (match_ordering o ((id, v) ∷ e ∷ es) ((e.0, v) ∷ es) (e ∷ insert_entry cmd_cmp es id v))
   go Less is ih = ((is, after_less id e.0 es is h.0), h)
   go Equal is ih = h
-  go Greater is ih = (after_put e.0 id v es (id_total.antisymm e.0 id ∙ ap ordering_reverse is) h.0, ih)
+  go Greater is ih = (after_put e.0 id v es (cmd_total.antisymm e.0 id ∙ ap ordering_reverse is) h.0, ih)
 
 -- so each entry is what is found of its attempt
 abbrev pub IsFoundIn : Outcomes → CmdId × Outcome → Type 0
@@ -94,7 +99,7 @@ IsFoundIn es e = found es e.0 ≡ Some e.1
 found_behind : (e : CmdId × Outcome) (es fs : Outcomes) → AllByRecursion (IsAfter e.0) fs → AllByRecursion (IsFoundIn es) fs → AllByRecursion (IsFoundIn (e ∷ es)) fs
 found_behind e es [] h k = tt
 found_behind e es (f ∷ fs) h k =
-    (ap (λ o. cond (is_eq o) (Some e.1) (found es f.0)) (id_total.antisymm f.0 e.0 ∙ ap ordering_reverse h.0) ∙ k.0, found_behind e es fs h.1 k.1)
+    (ap (λ o. cond (is_eq o) (Some e.1) (found es f.0)) (cmd_total.antisymm f.0 e.0 ∙ ap ordering_reverse h.0) ∙ k.0, found_behind e es fs h.1 k.1)
 
 pub each_found : (es : Outcomes) → IsRising es → AllByRecursion (IsFoundIn es) es
 each_found [] h = tt
