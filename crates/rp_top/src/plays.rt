@@ -21,5 +21,5 @@ pub fn view_played(alloc: Global, lines: &[NumberedLine]) -> Result<View, NoMemo
     ensures headline { OnOk result (IsHeadline lines.now) }
 {
     let world = play_lines(alloc, lines)?;
-    world.view()
+    world.into_view()
 }

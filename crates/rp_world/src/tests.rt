@@ -26,7 +26,7 @@ fn shown(alloc: Global, script: &[u8]) -> Result<View, Fail> {
         return Err(Fail::new("the script is refused"));
     };
     let world = play_lines(alloc, lines.as_slice())?;
-    Ok(world.view()?)
+    Ok(world.into_view()?)
 }
 
 /// The outcomes are these, in order.

@@ -3,9 +3,9 @@ ghost use Rattle.std.specs.FinMap.{entries};
 ghost use Rattle.rp_world.specs.Views.{answer_of, range_view, replica_view, row_of, view_of};
 
 use crate::worlds::World;
-use rp_base::{CmdId, NoMemory, Seq, Text, push_word};
+use rp_base::{CmdId, NoMemory, Seq};
 use rp_report::{RangeView, ReplicaView, Row, View};
-use rp_request::{Answer, End, Note, Notes, Outcome, Replies};
+use rp_request::{Answer, End, Outcome, Replies};
 use rp_table::Table;
 use std::alloc::Global;
 use std::collections::BTreeMap;
@@ -39,28 +39,6 @@ fn answers_of(alloc: Global, outcomes: &BTreeMap<CmdId, Outcome>) -> Result<Repl
         })?;
     }
     Ok(Seq::from_vec(answers))
-}
-
-fn copy_note(alloc: Global, note: &Note) -> Result<Note, NoMemory>
-    ensures { IfOk result (λ copy. copy ≡ note.now) }
-{
-    let mut text = Text::new(alloc);
-    push_word(&mut text, note.text.as_str())?;
-    Ok(Note {
-        line: note.line,
-        text,
-    })
-}
-
-fn copy_notes(alloc: Global, notes: &[Note]) -> Result<Notes, NoMemory>
-    ensures { IfOk result (λ copy. copy ≡ notes.now) }
-{
-    let mut copies = Notes::new(alloc);
-    for note in notes {
-        let copy = copy_note(alloc, note)?;
-        copies.push(copy)?;
-    }
-    Ok(copies)
 }
 
 impl World {
@@ -104,18 +82,18 @@ impl World {
         })
     }
 
-    /// What the node shows.
-    pub fn view(&self) -> Result<View, NoMemory>
-        requires { self.now.replica.applied.index < 2 ^ 64 - 1 }
-        ensures { IfOk result (λ view. view ≡ view_of self.now) }
+    /// What the node shows, which is what is left of it.
+    pub fn into_view(self) -> Result<View, NoMemory>
+        requires { self.replica.applied.index < 2 ^ 64 - 1 }
+        ensures { IfOk result (λ view. view ≡ view_of self) }
     {
         let range = self.range_view()?;
         let ranges = Vec::from_array(self.alloc, [range])?;
-        let notes = copy_notes(self.alloc, &self.notes)?;
         let replies = answers_of(self.alloc, &self.outcomes)?;
+        let World { notes, .. } = self;
         Ok(View {
             nodes: 1,
-            notes,
+            notes: Seq::from_vec(notes),
             replies,
             ranges: Seq::from_vec(ranges),
             messages: 0,
