@@ -32,6 +32,7 @@ pub trait Source {
         ensures end { IfOk result (λ n. n ≡ 0 → 0 < length buf.new → IsAtEnd (left self.new)) }
         ensures failed { OnErr result (Comes (left self.old) [] (left self.new)) }
         ensures faults { faults self.old ≤ faults self.new }
+        ensures calm { OnOk result (faults self.new ≡ faults self.old) }
         ensures cause { OnErr result (Rose (faults self.old) (faults self.new)) };
 }
 
@@ -50,6 +51,7 @@ pub trait Sink {
         ensures adds { IfOk result (λ n. Adds (held self.old) (take n piece.now) (held self.new)) }
         ensures failed { OnErr result (Adds (held self.old) [] (held self.new)) }
         ensures faults { faults self.old ≤ faults self.new }
+        ensures calm { OnOk result (faults self.new ≡ faults self.old) }
         ensures cause { OnErr result (Rose (faults self.old) (faults self.new)) };
 }
 
@@ -58,6 +60,7 @@ pub fn put_all<K: Sink>(sink: &mut K, bytes: &[u8]) -> Result<(), Failed>
     ensures ok { OnOk result (Adds (K.held sink.old) bytes.now (K.held sink.new)) }
     ensures front { OnErr result (AddsFront (K.held sink.old) bytes.now (K.held sink.new)) }
     ensures faults { K.faults sink.old ≤ K.faults sink.new }
+    ensures calm { OnOk result (K.faults sink.new ≡ K.faults sink.old) }
     ensures cause { OnErr result (Rose (K.faults sink.old) (K.faults sink.new)) }
 {
     let mut done = 0;

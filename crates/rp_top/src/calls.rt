@@ -81,6 +81,7 @@ fn put_report<K: Sink>(alloc: Global, sink: &mut K, lines: &[NumberedLine], form
     ensures headline { result ≡ Status.Ok → IsHeadline lines.now }
     ensures faults { K.faults sink.old ≤ K.faults sink.new }
     ensures cause { result ≡ Status.WriteFault → Rose (K.faults sink.old) (K.faults sink.new) }
+    ensures calm { result ≢ Status.WriteFault → K.faults sink.new ≡ K.faults sink.old }
     ensures reads { result ≢ Status.ReadFault }
 {
     let Ok(text) = report_of(alloc, lines, form) else {
@@ -97,6 +98,7 @@ fn put_fault<K: Sink>(alloc: Global, sink: &mut K, fault: ScriptFault) -> Status
     ensures answers { Writes result (status_of (Err fault)) (fault_line fault) (K.held sink.old) (K.held sink.new) }
     ensures faults { K.faults sink.old ≤ K.faults sink.new }
     ensures cause { result ≡ Status.WriteFault → Rose (K.faults sink.old) (K.faults sink.new) }
+    ensures calm { result ≢ Status.WriteFault → K.faults sink.new ≡ K.faults sink.old }
     ensures reads { result ≢ Status.ReadFault }
     ensures fails { result ≢ Status.Ok }
 {
@@ -120,6 +122,8 @@ fn call<S: Source, K: Sink>(alloc: Global, source: &mut S, sink: &mut K, form: F
     ensures sink { K.faults sink.old ≤ K.faults sink.new }
     ensures read_fault { result ≡ Status.ReadFault → Rose (S.faults source.old) (S.faults source.new) }
     ensures write_fault { result ≡ Status.WriteFault → Rose (K.faults sink.old) (K.faults sink.new) }
+    ensures source_calm { result ≢ Status.ReadFault → S.faults source.new ≡ S.faults source.old }
+    ensures sink_calm { result ≢ Status.WriteFault → K.faults sink.new ≡ K.faults sink.old }
 {
     match read_script(alloc, source) {
         Ok(lines) => put_report(alloc, sink, lines.as_slice(), form),
@@ -145,7 +149,7 @@ pub fn run_call<S: Source, K: Sink>(
         × IsShownRun form bytes (K.held sink.old) (K.held sink.new) }
     ensures end { result ≡ Status.Ok → IsAtEnd (S.left source.new) }
 
-    // Each other answer has its cause.
+    // Each other answer has its cause, and a fault has its answer.
     ensures usage { result ≢ Status.Usage }
     ensures refused { (line word : ℕ) (kind : LineKind) → result ≡ Status.Refused line word kind
         → (bytes : List ℕ) × IsAll (S.left source.old) bytes × (script_of bytes ≡ Err (Refused line word kind)) }
@@ -155,6 +159,8 @@ pub fn run_call<S: Source, K: Sink>(
     ensures sink { K.faults sink.old ≤ K.faults sink.new }
     ensures read_fault { result ≡ Status.ReadFault → Rose (S.faults source.old) (S.faults source.new) }
     ensures write_fault { result ≡ Status.WriteFault → Rose (K.faults sink.old) (K.faults sink.new) }
+    ensures source_calm { result ≢ Status.ReadFault → S.faults source.new ≡ S.faults source.old }
+    ensures sink_calm { result ≢ Status.WriteFault → K.faults sink.new ≡ K.faults sink.old }
 
     // With no fault the answer is the script's, or want of memory.
     ensures complete { ¬ (Rose (S.faults source.old) (S.faults source.new)) → ¬ (Rose (K.faults sink.old) (K.faults sink.new))
@@ -169,6 +175,7 @@ fn put_usage<K: Sink>(sink: &mut K) -> Status
     ensures answers { Writes result Status.Usage usage_line (K.held sink.old) (K.held sink.new) }
     ensures faults { K.faults sink.old ≤ K.faults sink.new }
     ensures cause { result ≡ Status.WriteFault → Rose (K.faults sink.old) (K.faults sink.new) }
+    ensures calm { result ≢ Status.WriteFault → K.faults sink.new ≡ K.faults sink.old }
     ensures known { (result ≡ Status.Usage) ⊎ (result ≡ Status.WriteFault) }
 {
     match put_all(sink, USAGE.as_bytes()) {
@@ -194,7 +201,7 @@ pub fn top_call<S: Source, K: Sink>(
         × (form : Form) × (form_asked (map string_bytes words.now) ≡ Some form) × IsShownRun form bytes (K.held sink.old) (K.held sink.new) }
     ensures end { result ≡ 0 → IsAtEnd (S.left source.new) }
 
-    // Each other answer has its cause.
+    // Each other answer has its cause, and a fault has its answer.
     ensures usage { result ≡ 2 → form_asked (map string_bytes words.now) ≡ None }
     ensures unread { form_asked (map string_bytes words.now) ≡ None → S.left source.new ≡ S.left source.old }
     ensures refused { result ≡ 3 → (bytes : List ℕ) × IsAll (S.left source.old) bytes × IsRefused (script_of bytes) }
@@ -203,6 +210,8 @@ pub fn top_call<S: Source, K: Sink>(
     ensures sink { K.faults sink.old ≤ K.faults sink.new }
     ensures read_fault { result ≡ 5 → Rose (S.faults source.old) (S.faults source.new) }
     ensures write_fault { result ≡ 6 → Rose (K.faults sink.old) (K.faults sink.new) }
+    ensures source_calm { result ≢ 5 → S.faults source.new ≡ S.faults source.old }
+    ensures sink_calm { result ≢ 6 → K.faults sink.new ≡ K.faults sink.old }
 
     // With no fault the answer is the one that is due, or want of memory.
     ensures complete { ¬ (Rose (S.faults source.old) (S.faults source.new)) → ¬ (Rose (K.faults sink.old) (K.faults sink.new))

@@ -1,4 +1,4 @@
-ghost use Rattle.std.specs.Prelude.{◌≡◌, ℕ, ◌+◌, ◌≤◌, List, Err, length, IfOk, OnOk};
+ghost use Rattle.std.specs.Prelude.{◌≡◌, ◌≢◌, ℕ, ◌+◌, ◌≤◌, List, Err, length, IfOk, OnOk};
 ghost use Rattle.rp_outside.specs.Devices.{Rose, IsAtEnd, IsAll};
 ghost use Rattle.std.specs.List.{AllByRecursion};
 ghost use Rattle.rp_script.specs.Bounds.{IsTaken};
@@ -47,6 +47,7 @@ pub fn read_script<S: Source>(alloc: Global, source: &mut S) -> Result<Seq<Numbe
     ensures taken { IfOk result (λ lines. AllByRecursion (IsTaken OneNode) lines) }
     ensures faults { S.faults source.old ≤ S.faults source.new }
     ensures cause { result ≡ Err Stop.ReadFault → Rose (S.faults source.old) (S.faults source.new) }
+    ensures calm { result ≢ Err Stop.ReadFault → S.faults source.new ≡ S.faults source.old }
 {
     let mut reader = ScriptReader::new(alloc, false, Forms::OneNode);
     let mut buffer = [0u8; 4096];

@@ -1,4 +1,4 @@
-use Rattle.std.proofs.Common.{rules}
+use Rattle.std.proofs.Common.{◌∙◌, rules}
 use Rattle.std.proofs.Math.Seq.{take-add}
 use Rattle.std.proofs.lemmas.List.{take_rest}
 use Rattle.rp_outside.proofs.Told.{adds_more}
@@ -12,5 +12,5 @@ loop-done-preserved g c =
     record {
       within = search rules;
       added = rw seam (adds_more _ _ _ _ _ c.loop-done.invariant.added added);
-      faults = search rules;
+      calm = c.in_ok-done.ensures.calm ∙ c.loop-done.invariant.calm;
     }

@@ -16,5 +16,5 @@ pub loop-n-preserved : goal.loop-n-preserved
 loop-n-preserved g c = record {
   came = came_further _ _ _ _ _ _ c.loop-n.invariant.came c.in-Ok.ensures.comes c.in-Ok-feed.ensures.gives;
   forms = c.in-Ok-feed.ensures.forms ∙ c.loop-n.invariant.forms;
-  faults = omega arith;
+  calm = c.in-Ok.ensures.calm ∙ c.loop-n.invariant.calm;
 }

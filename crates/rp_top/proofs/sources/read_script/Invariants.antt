@@ -8,7 +8,7 @@ abbrev pub invariant-loop-n : goal.invariant-loop-n
 invariant-loop-n g l = record {
   came : HasCome (g.S.Source.left l.fn.source) (g.S.Source.left l.source) l.reader;
   forms : l.reader.forms ≡ OneNode;
-  faults : g.S.Source.faults l.fn.source ≤ g.S.Source.faults l.source;
+  calm : g.S.Source.faults l.source ≡ g.S.Source.faults l.fn.source;
 }
 
 abbrev pub decreases-loop-n : goal.decreases-loop-n
