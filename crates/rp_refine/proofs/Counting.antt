@@ -34,7 +34,8 @@ use Rattle.rp_replica.specs.Admissions.{guarded, admitted_by}
 use Rattle.rp_replica.specs.Applications.{payload_of, next_payload, recorded, turn_of, turned, applied_where}
 use Rattle.rp_replica.specs.Flushes.{command_of, write_of, payloads_of, entry_of, flushed}
 use Rattle.rp_replica.specs.Events.{event}
-use Rattle.rp_refine.specs.Runs.{Input, Run, begun, assigning, LawfulEvent, AllLawful, next, play}
+use Rattle.rp_replica.specs.Writes.{assigning}
+use Rattle.rp_refine.specs.Runs.{Input, Run, begun, LawfulEvent, AllLawful, next, play}
 use Rattle.rp_refine.specs.Laws.{IsReached}
 use Rattle.rp_refine.proofs.Flushing.{IsReadBack}
 use Rattle.rp_refine.proofs.Fitted.{Fitted, fitted_begun, fitted_event, fit_writes, seq_after, fewer_filtered, fewer_once, fewer_ids}

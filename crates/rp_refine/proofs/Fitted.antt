@@ -38,7 +38,8 @@ use Rattle.rp_replica.specs.Admissions.{guarded, admitted_by}
 use Rattle.rp_replica.specs.Applications.{payload_of, next_payload, recorded, turn_of, turned, applied_where}
 use Rattle.rp_replica.specs.Flushes.{command_of, write_of, payloads_of, entry_of, without_all, proposed_all, flushed}
 use Rattle.rp_replica.specs.Events.{event}
-use Rattle.rp_refine.specs.Runs.{Input, Run, begun, FitsItem, assigning, LawfulEvent, AllLawful, next, play}
+use Rattle.rp_replica.specs.Writes.{assigning}
+use Rattle.rp_refine.specs.Runs.{Input, Run, begun, FitsItem, LawfulEvent, AllLawful, next, play}
 use Rattle.rp_refine.proofs.Admitting.{passed}
 use Rattle.rp_refine.proofs.Fitting.{FitsTable, fits_after, fits_evaluated}
 use Rattle.rp_refine.proofs.Flushing.{IsReadBack, MayWrite}

@@ -32,7 +32,8 @@ use Rattle.rp_rangesafe.specs.Places.{IsLater}
 use Rattle.rp_rangesafe.specs.Ranges.{Owner, Ranges, first_applied}
 use Rattle.rp_rangesafe.proofs.Tables.{at_same, at_other, id_cases}
 use Rattle.rp_rangesafe.proofs.Runs.{later_state}
-use Rattle.rp_refine.specs.Runs.{Outcomes, Run, with_outcome, with_ended, assigning, left_by}
+use Rattle.rp_replica.specs.Writes.{assigning}
+use Rattle.rp_refine.specs.Runs.{Outcomes, Run, with_outcome, with_ended, left_by}
 use Rattle.rp_refine.proofs.Stands.{IsMade, AllHold, stands_drop, stands_turn}
 use Rattle.rp_refine.proofs.Ghosts.{ArePlain, IsPlain}
 use Rattle.rp_refine.proofs.Shadows.{Carries, Base, Agrees, Tells, Shadow, Follows, Turns, follows, agrees_told, agrees_staged, told_pending}

@@ -1,6 +1,6 @@
 -- A run of one replica whose whole log is committed: events one after the other, and what each attempt was told
 -- (this project).
-use Rattle.std.specs.Prelude.{◌≡◌, ℕ, ◌≤◌, ◌<◌, ◌-◌, ◌^◌, max, if◌then◌else◌, ◌⊎◌, List, [], ◌∷◌, length, Option, None, Some}
+use Rattle.std.specs.Prelude.{◌≡◌, ℕ, ◌≤◌, ◌<◌, ◌-◌, ◌^◌, if◌then◌else◌, ◌⊎◌, List, [], ◌∷◌, length, Option, None, Some}
 use Rattle.std.specs.List.{AllByRecursion}
 use Rattle.rp_base.specs.declared.ids.CmdId.{CmdId}
 use Rattle.rp_base.specs.declared.items.Item.{Item}
@@ -10,9 +10,6 @@ use Rattle.rp_request.specs.declared.outcomes.Outcome.{Outcome}
 use Rattle.rp_request.specs.declared.outcomes.Outcome.TheVariants.{Success, Refused, Ambiguous, Pending}
 use Rattle.rp_request.specs.declared.requests.Request.{Request}
 use Rattle.rp_codec.specs.Fits.{FitsId, FitsRequest, FitsAsk}
-use Rattle.rp_flush.specs.Assigns.{assigned_of}
-use Rattle.rp_flush.specs.declared.assigns.Assigned.{Assigned}
-use Rattle.rp_pending.specs.Refreshes.{waiting_of}
 use Rattle.rp_replica.specs.declared.events.Ended.{Ended}
 use Rattle.rp_replica.specs.declared.events.EventAnswer.{EventAnswer}
 use Rattle.rp_replica.specs.declared.events.EventAnswer.TheVariants as answers
@@ -90,10 +87,6 @@ pub record MayAsk (x : Run) (id : CmdId) (request : Request) : Type 0 where
   pub keys : HasKeys request
   pub fits_id : FitsId id
   pub fits : FitsRequest request
-
--- what a flush assigns here
-abbrev pub assigning : Replica → Assigned
-assigning r = assigned_of r.inbox (waiting_of r.pending) r.applied.state.lease.seq (max r.assigned r.applied.state.lai)
 
 -- the numbers of an item have their widths
 abbrev pub FitsItem : Item → Type 0
