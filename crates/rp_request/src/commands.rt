@@ -2,7 +2,7 @@ ghost use Rattle.std.specs.Prelude.{◌≡◌, ◌≤◌, ◌<◌, [], ◌∷◌
 
 use crate::outcomes::Reply;
 use crate::requests::Request;
-use rp_base::{CmdId, Key, LeaseAsk, LeaseIndex, LeaseSeq, NoMemory};
+use rp_base::{CmdId, Key, LeaseAsk, LeaseIndex, LeaseSeq, NoMemory, Seq};
 use std::alloc::Global;
 use std::marker::Model;
 
@@ -95,3 +95,6 @@ pub struct Waiting {
     pub id: CmdId,
     pub seq: LeaseSeq,
 }
+
+/// The commands that wait for a lease index, each with the lease sequence under which it was evaluated.
+pub type WaitList = Seq<Waiting>;
