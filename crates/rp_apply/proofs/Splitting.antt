@@ -3,7 +3,7 @@ use Rattle.std.proofs.Common.{◌≡◌, ℕ, Result, Ok, sym, ap, ◌∙◌}
 use Rattle.rp_base.specs.Splits.{split_of}
 use Rattle.rp_base.specs.declared.ranges.Desc.{Desc}
 use Rattle.rp_base.specs.declared.ranges.SplitFault.{SplitFault}
-use Rattle.rp_request.specs.Table.{Table, below}
+use Rattle.rp_base.specs.Tables.{Table, below}
 use Rattle.rp_request.specs.declared.commands.Command.{Command}
 use Rattle.rp_request.specs.declared.requests.Request.TheVariants.{Split}
 use Rattle.rp_request.specs.Applied.{AppliedState, left_of, desc_after, taken}

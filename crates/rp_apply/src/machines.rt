@@ -1,6 +1,6 @@
 ghost use Rattle.std.specs.Prelude.{◌≡◌, ◌+◌, ◌-◌, ◌^◌, ◌<◌, ◌≤◌, length, IsOk, OnOk};
 ghost use Rattle.rp_base.specs.Splits.{split_of};
-ghost use Rattle.rp_request.specs.Table.{below};
+ghost use Rattle.rp_base.specs.Tables.{below};
 ghost use Rattle.rp_request.specs.declared.verdicts.Verdict.TheVariants as verdicts;
 ghost use Rattle.rp_request.specs.Applied.{right_number, left_of, command_verdict, asked, ask_record, leased, item, command_record, taken, written, verdict, record_of, after};
 ghost use Rattle.rp_request.specs.Applicable.{MaySplit, Fits};
@@ -25,7 +25,7 @@ pub struct Machine {
 
 impl Model for Machine {
     ghost use Rattle.std.specs.Coded.{codes};
-    ghost use Rattle.rp_request.specs.Table.{table_code};
+    ghost use Rattle.rp_base.specs.Tables.{table_code};
     ghost use Rattle.rp_apply.specs.Rooms.{StateHeld};
 
     ghost Value = { StateHeld };

@@ -27,7 +27,7 @@ pub struct ApplyState {
 impl Model for ApplyState {
     ghost use Rattle.std.specs.Prelude.{◌≡◌, ◌+◌, ◌-◌, length, vec_len, vec_capacity};
     ghost use Rattle.std.specs.Coded.{codes};
-    ghost use Rattle.rp_request.specs.Table.{table_code};
+    ghost use Rattle.rp_base.specs.Tables.{table_code};
     ghost use Rattle.rp_apply.specs.Rooms.{Held};
 
     ghost Value = { Held };

@@ -8,7 +8,7 @@ use Rattle.rp_base.specs.declared.ranges.Desc.{Desc}
 use Rattle.rp_request.specs.declared.requests.Request.{Request}
 use Rattle.rp_request.specs.declared.requests.Request.TheVariants.{Wipe}
 use Rattle.rp_request.specs.declared.evaluations.Evaluated.{Evaluated}
-use Rattle.rp_request.specs.Table.{Table, part}
+use Rattle.rp_base.specs.Tables.{Table, part}
 use Rattle.rp_request.specs.Effect.{wipe}
 use Rattle.rp_request.specs.Batches.{removes}
 use Rattle.rp_request.specs.Evaluations.{with_batch, evaluated, Does}

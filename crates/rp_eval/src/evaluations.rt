@@ -1,7 +1,7 @@
 ghost use Rattle.std.specs.Prelude.{◌≡◌, ◌+◌, ◌≤◌, [], ◌∷◌, nat_lt, nat_le, ◌&&◌, if◌then◌else◌, unwrap_or, length, map, Ok, Err, IfOk, IfErr};
 ghost use Rattle.std.specs.FinMap.{get, keys};
 ghost use Rattle.rp_base.specs.Spans.{span_of};
-ghost use Rattle.rp_request.specs.Table.{greatest, value_at, part};
+ghost use Rattle.rp_base.specs.Tables.{greatest, value_at, part};
 ghost use Rattle.rp_request.specs.Effect as effects;
 ghost use Rattle.rp_request.specs.Batches.{removes};
 ghost use Rattle.rp_base.specs.declared.ranges.Desc.{Desc};

@@ -13,7 +13,7 @@ use Rattle.rp_request.specs.declared.commands.Command.{Command}
 use Rattle.rp_request.specs.declared.outcomes.Refusal.{Refusal}
 use Rattle.rp_request.specs.declared.requests.Request.{Request}
 use Rattle.rp_request.specs.declared.requests.Request.TheVariants.{Put, Add, CPut, Del, Wipe, Move, Split}
-use Rattle.rp_request.specs.Table.{Table}
+use Rattle.rp_base.specs.Tables.{Table}
 use Rattle.rp_request.specs.Effect.{Effect, effect, split}
 use Rattle.rp_request.specs.Items.{State, left_by, after_request, after_item, fold}
 use Rattle.rp_request.specs.Records.{item_of, applied}

@@ -15,7 +15,7 @@ use Rattle.rp_request.specs.declared.requests.Request.{Request}
 use Rattle.rp_request.specs.declared.requests.Request.TheVariants.{Put, Add, CPut, Del, Wipe, Move, Split}
 use Rattle.rp_request.specs.declared.items.Place.{Place}
 use Rattle.rp_request.specs.declared.items.Place.TheVariants as places
-use Rattle.rp_request.specs.Table.{from_on}
+use Rattle.rp_base.specs.Tables.{from_on}
 use Rattle.rp_request.specs.Records.{applied}
 use Rattle.rp_request.specs.Starts.{left_range, IsRightStart, SplitsOff, IsStart, first, split_off}
 use Rattle.rp_request.specs.Applied.{AppliedState, command_verdict, record_of, item_by, command_record, right_number}

@@ -6,7 +6,7 @@ use Rattle.rp_base.specs.Splits.{first_desc}
 use Rattle.rp_base.specs.declared.ids.CmdId.{CmdId}
 use Rattle.rp_base.specs.declared.ranges.Desc.{Desc}
 use Rattle.rp_request.specs.declared.outcomes.Refusal.TheVariants.{Overflow}
-use Rattle.rp_request.specs.Table.{Table, greatest, from_on}
+use Rattle.rp_base.specs.Tables.{Table, greatest, from_on}
 use Rattle.rp_request.specs.Effect.{writes}
 use Rattle.rp_request.proofs.Tables.{get_kept, get_inserted}
 use Rattle.rp_request.specs.Evaluations.{evaluated, with_batch}

@@ -11,7 +11,7 @@ use Rattle.rp_request.specs.declared.requests.Request.{Request}
 use Rattle.rp_request.specs.declared.requests.Request.TheVariants.{Put, Add, CPut, Del, Wipe, Move, Split}
 use Rattle.rp_request.specs.declared.items.Place.{Place}
 use Rattle.rp_request.specs.declared.outcomes.Reply.{Reply}
-use Rattle.rp_request.specs.Table.{from_on}
+use Rattle.rp_base.specs.Tables.{from_on}
 use Rattle.rp_request.specs.Starts.{first_state}
 use Rattle.rp_request.specs.Applied.{AppliedState, command_verdict}
 use Rattle.rp_request.specs.declared.verdicts.Verdict.{Verdict}

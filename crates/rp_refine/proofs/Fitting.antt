@@ -15,7 +15,7 @@ use Rattle.rp_request.specs.declared.commands.Op.{Op}
 use Rattle.rp_request.specs.declared.commands.Op.TheVariants.{Set, Remove}
 use Rattle.rp_request.specs.declared.requests.Request.{Request}
 use Rattle.rp_request.specs.declared.requests.Request.TheVariants.{Put, Add, CPut, Del, Wipe, Move, Split}
-use Rattle.rp_request.specs.Table.{Table, greatest, value_at, part, is_between, count_in}
+use Rattle.rp_base.specs.Tables.{Table, greatest, value_at, part, is_between, count_in}
 use Rattle.rp_request.specs.Effect.{Effect, effect, split, pass_on, writes}
 use Rattle.rp_request.specs.declared.outcomes.Refusal.{Refusal}
 use Rattle.rp_request.specs.declared.outcomes.Reply.TheVariants.{Now}

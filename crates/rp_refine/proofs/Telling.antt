@@ -23,7 +23,7 @@ use Rattle.rp_request.specs.Items.{fold}
 use Rattle.rp_request.specs.Places.{IsOnce, places_of}
 use Rattle.rp_request.specs.Records.{applied}
 use Rattle.rp_request.specs.Starts.{first_state}
-use Rattle.rp_request.specs.Table.{Table}
+use Rattle.rp_base.specs.Tables.{Table}
 use Rattle.rp_request.specs.Effect.{split}
 use Rattle.rp_request.proofs.Once.{places_further}
 use Rattle.rp_request.specs.Evaluations.{Does, evaluated, with_batch}

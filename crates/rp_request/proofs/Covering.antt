@@ -8,7 +8,7 @@ use Rattle.rp_base.specs.declared.spans.Span.{Span}
 use Rattle.rp_request.specs.declared.requests.Request.{Request}
 use Rattle.rp_request.specs.declared.requests.Request.TheVariants.{Put, Add, CPut, Del, Wipe, Move, Split}
 use Rattle.rp_request.specs.Covers.{alone, both, covers, is_split, spans_of, HasKeys, Apart, any_meet}
-use Rattle.rp_request.specs.Table.{is_between}
+use Rattle.rp_base.specs.Tables.{is_between}
 
 same_key : (k : ℕ) → IsTrue (k == k)
 same_key k = grind (arith, nat_tests)

@@ -1,5 +1,5 @@
 -- The batch of a request does what its effect does.
-use Rattle.std.proofs.Common.{◌≡◌, ℕ, ◌+◌, ◌-◌, ◌≤◌, Bool, true, false, cond, not, ◌||◌, ◌==◌, nat_lt, List, [], ◌∷◌, length, is_some, IfOk, Option, Some, None, Result, Ok, Err, nat_eq, refl, sym, ap, subst, ◌∙◌, arith}
+use Rattle.std.proofs.Common.{◌≡◌, ℕ, ◌+◌, ◌-◌, ◌≤◌, Bool, true, false, cond, not, ◌||◌, ◌==◌, nat_lt, List, [], ◌∷◌, length, is_some, IfOk, Option, Some, None, Result, Ok, Err, refl, sym, ap, subst, ◌∙◌, arith}
 use Rattle.std.proofs.lemmas.List.{length-map}
 use Rattle.std.specs.Option.{option_eq}
 use Rattle.std.specs.Ordering.{nat_cmp, eq_by_cmp}
@@ -10,19 +10,22 @@ use Rattle.rp_base.specs.Splits.{split_of}
 use Rattle.rp_base.specs.declared.ranges.Desc.{Desc}
 use Rattle.rp_base.specs.declared.ranges.SplitFault.{SplitFault}
 use Rattle.rp_base.specs.declared.ranges.SplitFault.TheVariants.{NotInside, SplitLimit}
+use Rattle.rp_base.specs.Values.{value_eq}
+use Rattle.rp_base.specs.declared.values.Value.{Value}
+use Rattle.rp_base.specs.declared.values.Value.TheVariants.{Number}
 use Rattle.rp_request.specs.declared.commands.Op.TheVariants.{Set}
 use Rattle.rp_request.specs.declared.requests.Request.{Request}
 use Rattle.rp_request.specs.declared.requests.Request.TheVariants.{Put, Add, CPut, Del, Wipe, Move, Split}
 use Rattle.rp_request.specs.declared.outcomes.Refusal.{Refusal}
 use Rattle.rp_request.specs.declared.outcomes.Reply.TheVariants.{Now}
-use Rattle.rp_request.specs.Table.{Table, greatest, value_at, is_between, part, count_in, without, below}
+use Rattle.rp_base.specs.Tables.{Table, greatest, value_at, holds_text, is_between, part, count_in, without, below}
 use Rattle.rp_request.specs.Effect.{Effect, effect, writes, wipe, pass_on, split}
 use Rattle.rp_request.proofs.Tables.{same_table, get_kept, get_removed}
 use Rattle.rp_request.specs.declared.evaluations.Evaluated.{Evaluated}
 use Rattle.rp_request.specs.Batches.{write_all, after_batch, removes, batch_of}
 use Rattle.rp_request.specs.Evaluations.{with_batch, evaluated, Does}
 
-either_none : (a b : Bool) (o : Option ℕ) → cond b None (cond a None o) ≡ cond (a || b) None o
+either_none : (a b : Bool) (o : Option Value) → cond b None (cond a None o) ≡ cond (a || b) None o
 either_none true true o = refl
 either_none true false o = refl
 either_none false b o = refl
@@ -35,7 +38,7 @@ get_all_removed (k ∷ ks) t q =
     ∙ ap (cond (list_any (eq_by_cmp nat_cmp q) ks) None) (get_removed t k q)
     ∙ either_none (eq_by_cmp nat_cmp q k) (list_any (eq_by_cmp nat_cmp q) ks) (get t q)
 
-gone : (b : Bool) (o : Option ℕ) → cond (is_some (cond b o None)) None o ≡ cond (not b) o None
+gone : (b : Bool) (o : Option Value) → cond (is_some (cond b o None)) None o ≡ cond (not b) o None
 gone true None = refl
 gone true (Some x) = refl
 gone false o = refl
@@ -56,8 +59,8 @@ one_of P false x y h k = k
 
 module _ (t : Table) (d : Desc) where
   moved : (from to by : ℕ) (b : Bool)
-      → IfOk (cond b (writes (insert t from (value_at t from)) d (Now (value_at t from))) (pass_on t d from to by))
-      (λ e. write_all t (cond b (Set from (value_at t from) ∷ []) (Set from (value_at t from - by) ∷ Set to (value_at t to + by) ∷ [])) ≡ e.table)
+      → IfOk (cond b (writes (insert t from (Number (value_at t from))) d (Now (value_at t from))) (pass_on t d from to by))
+      (λ e. write_all t (cond b (Set from (Number (value_at t from)) ∷ []) (Set from (Number (value_at t from - by)) ∷ Set to (Number (value_at t to + by)) ∷ [])) ≡ e.table)
   moved from to by true = refl
   moved from to by false = one_of _ (nat_lt greatest (value_at t to + by)) _ _ tt refl
 
@@ -68,11 +71,13 @@ module _ (t : Table) (d : Desc) where
 
   pub batch_does : (r : Request) → IfOk (effect t d r) (λ e. after_batch t r (batch_of t r) ≡ e.table)
   batch_does (Put key value) = refl
-  batch_does (Add key by) = one_of _ (nat_lt greatest (value_at t key + by)) _ _ tt refl
-  batch_does (CPut key expect value) = one_of _ (option_eq nat_eq (get t key) expect) _ _ refl tt
+  batch_does (Add key by) = one_of _ (holds_text t key) _ _ tt (one_of _ (nat_lt greatest (value_at t key + by)) _ _ tt refl)
+  batch_does (CPut key expect value) = one_of _ (option_eq value_eq (get t key) expect) _ _ refl tt
   batch_does (Del key) = refl
   batch_does (Wipe span) = one_of _ (nat_lt 16 (count_in t span.start (end_of span.end))) _ _ tt (all_gone t span.start (end_of span.end))
-  batch_does (Move from to by) = one_of _ (nat_lt (value_at t from) by) _ _ tt (moved from to by (from == to))
+  batch_does (Move from to by) =
+      one_of _ (holds_text t from) _ _ tt (one_of _ (holds_text t to) _ _ tt
+      (one_of _ (nat_lt (value_at t from) by) _ _ tt (moved from to by (from == to))))
   batch_does (Split key) = cut key (split_of d key)
 
   pub evaluated_does : (r : Request) (e : Evaluated) → evaluated t d r ≡ Ok e → Does t d r e

@@ -10,7 +10,7 @@ use Rattle.rp_request.specs.declared.commands.Op.TheVariants.{Remove}
 use Rattle.rp_request.specs.declared.requests.Request.{Request}
 use Rattle.rp_request.specs.declared.requests.Request.TheVariants.{Put, Add, CPut, Del, Wipe, Move, Split}
 use Rattle.rp_request.specs.declared.outcomes.Refusal.{Refusal}
-use Rattle.rp_request.specs.Table.{Table, part, count_in}
+use Rattle.rp_base.specs.Tables.{Table, part, count_in}
 use Rattle.rp_request.specs.Effect.{Effect, effect}
 use Rattle.rp_request.specs.declared.evaluations.Evaluated.{Evaluated}
 use Rattle.rp_request.specs.Batches.{removes, batch_of}

@@ -3,6 +3,7 @@ pub mod Does
 pub mod Few
 pub mod Folds
 pub mod Inside
+pub mod KeyTests
 pub mod Locality
 pub mod Numbers
 pub mod Once

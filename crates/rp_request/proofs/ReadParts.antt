@@ -3,45 +3,31 @@ use Rattle.std.proofs.Common.{◌≡◌, ℕ, ◌+◌, ◌-◌, Bool, cond, ◌|
 use Rattle.std.proofs.lemmas.Bool.Decides.{nat_tests}
 use Rattle.std.specs.FinMap.{get, retain_keys, keys}
 use Rattle.rp_base.specs.declared.ranges.Desc.{Desc}
+use Rattle.rp_base.specs.declared.values.Value.TheVariants.{Number}
 use Rattle.rp_request.specs.declared.commands.Op.{Op}
 use Rattle.rp_request.specs.declared.commands.Op.TheVariants.{Set}
 use Rattle.rp_request.specs.declared.requests.Request.{Request}
 use Rattle.rp_request.specs.declared.requests.Request.TheVariants.{Put, Add, CPut, Del, Wipe, Move, Split}
 use Rattle.rp_request.specs.declared.outcomes.Refusal.{Refusal}
-use Rattle.rp_request.specs.Table.{Table, value_at}
+use Rattle.rp_base.specs.Tables.{Table, value_at}
 use Rattle.rp_request.specs.Covers.{covers}
 use Rattle.rp_request.specs.Effect.{Effect, effect, seen}
-use Rattle.rp_request.proofs.Locality.{reads}
-use Rattle.rp_request.proofs.Tables.{get_kept}
+use Rattle.rp_request.proofs.KeyTests.{itself, covers_from, covers_to}
+use Rattle.rp_request.proofs.Locality.{reads, value_alike}
 use Rattle.rp_request.specs.declared.evaluations.Evaluated.{Evaluated}
 use Rattle.rp_request.specs.Batches.{removes, batch_of}
 use Rattle.rp_request.specs.Evaluations.{with_batch, evaluated, Does}
 use Rattle.rp_request.proofs.Does.{evaluated_does}
 
--- the same part has the same value at a key that it has
-value_alike : (p : ℕ → Bool) (s t : Table) → retain_keys s p ≡ retain_keys t p → (k : ℕ) → IsTrue (p k) → value_at s k ≡ value_at t k
-value_alike p s t e k h =
-    let at : cond (p k) (get s k) None ≡ cond (p k) (get t k) None = sym (get_kept s p k) ∙ ap (λ m. get m k) e ∙ get_kept t p k in
-    ap (λ o. unwrap_or o 0) (sym (ap (λ b. cond b (get s k) None) h) ∙ at ∙ ap (λ b. cond b (get t k) None) h)
-
-itself : (k : ℕ) → IsTrue (k == k)
-itself k = grind (arith, nat_tests)
-
-covers_from : (from to : ℕ) → IsTrue (from == from || from == to)
-covers_from from to = grind (arith, nat_tests)
-
-covers_to : (from to : ℕ) → IsTrue (to == from || to == to)
-covers_to from to = grind (arith, nat_tests)
-
 pub batch_reads : (s t : Table) (r : Request) → retain_keys s (covers r) ≡ retain_keys t (covers r) → batch_of s r ≡ batch_of t r
 batch_reads s t (Put key value) e = refl
-batch_reads s t (Add key by) e = ap (λ v. Set key (v + by) ∷ []) (value_alike (covers (Add key by)) s t e key (itself key))
+batch_reads s t (Add key by) e = ap (λ v. Set key (Number (v + by)) ∷ []) (value_alike (covers (Add key by)) s t e key (itself key))
 batch_reads s t (CPut key expect value) e = refl
 batch_reads s t (Del key) e = refl
 batch_reads s t (Wipe span) e = ap (λ m. removes (keys m)) e
 batch_reads s t (Move from to by) e =
-    ap (λ v. cond (from == to) (Set from v ∷ []) (Set from (v - by) ∷ Set to (value_at s to + by) ∷ [])) (value_alike (covers (Move from to by)) s t e from (covers_from from to))
-    ∙ ap (λ w. cond (from == to) (Set from (value_at t from) ∷ []) (Set from (value_at t from - by) ∷ Set to (w + by) ∷ [])) (value_alike (covers (Move from to by)) s t e to (covers_to from to))
+    ap (λ v. cond (from == to) (Set from (Number v) ∷ []) (Set from (Number (v - by)) ∷ Set to (Number (value_at s to + by)) ∷ [])) (value_alike (covers (Move from to by)) s t e from (covers_from from to))
+    ∙ ap (λ w. cond (from == to) (Set from (Number (value_at t from)) ∷ []) (Set from (Number (value_at t from - by)) ∷ Set to (Number (w + by)) ∷ [])) (value_alike (covers (Move from to by)) s t e to (covers_to from to))
 batch_reads s t (Split key) e = refl
 
 -- the reply and the refusal are seen through any part

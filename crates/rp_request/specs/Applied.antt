@@ -7,7 +7,7 @@ use Rattle.rp_base.specs.declared.leases.Lease as leases
 use Rattle.rp_base.specs.declared.leases.LeaseAsk.{LeaseAsk}
 use Rattle.rp_base.specs.declared.ranges.Desc.{Desc}
 use Rattle.rp_base.specs.declared.ranges.SplitFault.{SplitFault}
-use Rattle.rp_request.specs.Table.{Table}
+use Rattle.rp_base.specs.Tables.{Table}
 use Rattle.rp_request.specs.declared.commands.Command.{Command}
 use Rattle.rp_request.specs.declared.commands.Payload.{Payload}
 use Rattle.rp_request.specs.declared.commands.Payload.TheVariants as payloads

@@ -2,11 +2,12 @@
 use Rattle.std.specs.Prelude.{ℕ, ◌+◌, ◌-◌, ◌==◌, if◌then◌else◌, List, [], ◌∷◌, map}
 use Rattle.std.specs.FinMap.{insert, remove, keys}
 use Rattle.rp_base.specs.Keys.{end_of}
+use Rattle.rp_base.specs.declared.values.Value.TheVariants.{Number}
 use Rattle.rp_request.specs.declared.commands.Op.{Op}
 use Rattle.rp_request.specs.declared.commands.Op.TheVariants.{Set, Remove}
 use Rattle.rp_request.specs.declared.requests.Request.{Request}
 use Rattle.rp_request.specs.declared.requests.Request.TheVariants.{Put, Add, CPut, Del, Wipe, Move, Split}
-use Rattle.rp_request.specs.Table.{Table, value_at, part, below}
+use Rattle.rp_base.specs.Tables.{Table, value_at, part, below}
 
 -- the table after one write
 abbrev pub write : Table → Op → Table
@@ -33,16 +34,16 @@ after_batch t (Split key) ops = below t key
 abbrev pub removes : List ℕ → List Op
 removes ks = map Remove ks
 
--- the values of both keys of a move, which may be one key
+-- the numbers of both keys of a move, which may be one key
 abbrev pub moves : Table → ℕ → ℕ → ℕ → List Op
 moves t from to by = if from == to
-    then Set from (value_at t from) ∷ []
-    else Set from (value_at t from - by) ∷ Set to (value_at t to + by) ∷ []
+    then Set from (Number (value_at t from)) ∷ []
+    else Set from (Number (value_at t from - by)) ∷ Set to (Number (value_at t to + by)) ∷ []
 
 -- the batch of a request, by the table on which it is evaluated
 abbrev pub batch_of : Table → Request → List Op
 batch_of t (Put key value) = Set key value ∷ []
-batch_of t (Add key by) = Set key (value_at t key + by) ∷ []
+batch_of t (Add key by) = Set key (Number (value_at t key + by)) ∷ []
 batch_of t (CPut key expect value) = Set key value ∷ []
 batch_of t (Del key) = Remove key ∷ []
 batch_of t (Wipe span) = removes (keys (part t span.start (end_of span.end)))

@@ -8,7 +8,7 @@ use Rattle.rp_base.specs.declared.spans.Span.{Span}
 use Rattle.rp_base.specs.declared.spans.Spans.{Spans}
 use Rattle.rp_request.specs.declared.requests.Request.{Request}
 use Rattle.rp_request.specs.declared.requests.Request.TheVariants.{Put, Add, CPut, Del, Wipe, Move, Split}
-use Rattle.rp_request.specs.Table.{is_between}
+use Rattle.rp_base.specs.Tables.{is_between}
 
 -- one span
 abbrev pub alone : Span → Spans

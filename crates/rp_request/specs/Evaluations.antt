@@ -5,7 +5,7 @@ use Rattle.rp_request.specs.declared.commands.Op.{Op}
 use Rattle.rp_request.specs.declared.evaluations.Evaluated.{Evaluated}
 use Rattle.rp_request.specs.declared.requests.Request.{Request}
 use Rattle.rp_request.specs.declared.outcomes.Refusal.{Refusal}
-use Rattle.rp_request.specs.Table.{Table}
+use Rattle.rp_base.specs.Tables.{Table}
 use Rattle.rp_request.specs.Effect.{Effect, effect}
 use Rattle.rp_request.specs.Batches.{batch_of, after_batch}
 

@@ -2,9 +2,11 @@
 use Rattle.std.specs.Prelude.{ℕ, ◌^◌, ◌<◌, ◌≤◌, List, length, slice_index, Option, None, Some}
 use Rattle.std.specs.List.{AllByRecursion}
 use Rattle.rp_base.specs.Keys.{IsKey}
+use Rattle.rp_base.specs.Values.{IsValue}
 use Rattle.rp_base.specs.declared.CmdId.{CmdId}
 use Rattle.rp_base.specs.declared.KeySpan.{KeySpan}
 use Rattle.rp_base.specs.declared.LeaseAsk.{LeaseAsk}
+use Rattle.rp_base.specs.declared.values.Value.{Value}
 use Rattle.rp_request.specs.declared.commands.Command.{Command}
 use Rattle.rp_request.specs.declared.commands.Op.{Op}
 use Rattle.rp_request.specs.declared.commands.Op.TheVariants as ops
@@ -19,14 +21,12 @@ use Rattle.rp_request.specs.declared.requests.Request.TheVariants as requests
 abbrev pub AreBytes : List ℕ → Type 0
 AreBytes bytes = (i : ℕ) → slice_index bytes i < 256
 
--- a value: a number of 8 bytes
-abbrev pub FitsValue : ℕ → Type 0
-FitsValue v = v < 2 ^ 64
-
-abbrev pub FitsOption : Option ℕ → Type 0
+-- a value or none
+abbrev pub FitsOption : Option Value → Type 0
 FitsOption None = Unit {0}
-FitsOption (Some v) = FitsValue v
+FitsOption (Some v) = IsValue v
 
+-- the end of a span
 abbrev pub FitsEnd : Option ℕ → Type 0
 FitsEnd None = Unit {0}
 FitsEnd (Some k) = IsKey k
@@ -35,9 +35,9 @@ abbrev pub FitsSpan : KeySpan → Type 0
 FitsSpan s = IsKey s.start × FitsEnd s.end
 
 abbrev pub FitsRequest : Request → Type 0
-FitsRequest (requests.Put k v) = IsKey k × FitsValue v
+FitsRequest (requests.Put k v) = IsKey k × IsValue v
 FitsRequest (requests.Add k n) = IsKey k × (n < 2 ^ 64)
-FitsRequest (requests.CPut k o v) = IsKey k × FitsOption o × FitsValue v
+FitsRequest (requests.CPut k o v) = IsKey k × FitsOption o × IsValue v
 FitsRequest (requests.Del k) = IsKey k
 FitsRequest (requests.Wipe s) = FitsSpan s
 FitsRequest (requests.Move k l n) = IsKey k × IsKey l × (n < 2 ^ 64)
@@ -51,7 +51,7 @@ FitsReply (replies.Count n) = n < 2 ^ 64
 FitsReply (replies.Range r) = r ≤ 7
 
 abbrev pub FitsOp : Op → Type 0
-FitsOp (ops.Set k v) = IsKey k × FitsValue v
+FitsOp (ops.Set k v) = IsKey k × IsValue v
 FitsOp (ops.Remove k) = IsKey k
 
 abbrev pub FitsBatch : List Op → Type 0

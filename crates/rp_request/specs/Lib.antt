@@ -11,4 +11,3 @@ pub mod Onward
 pub mod Places
 pub mod Records
 pub mod Starts
-pub mod Table

@@ -6,7 +6,7 @@ ghost use Rattle.rp_base.specs.Spans.{span_list};
 ghost use Rattle.rp_base.specs.declared.ranges.Desc.{Desc};
 ghost use Rattle.rp_request.specs.declared.requests.Request.{Request};
 ghost use Rattle.rp_request.specs.declared.items.Place.{Place};
-ghost use Rattle.rp_request.specs.Table.{Table, is_between, below, from_on};
+ghost use Rattle.rp_base.specs.Tables.{Table, is_between, below, from_on};
 ghost use Rattle.rp_request.specs.Covers.{covers, is_split, spans_of, HasKeys, Apart, any_meet};
 ghost use Rattle.rp_request.specs.Effect.{effect, seen};
 ghost use Rattle.rp_request.specs.Items.{State, fold};

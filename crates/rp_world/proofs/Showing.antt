@@ -19,7 +19,7 @@ use Rattle.rp_base.specs.declared.ranges.SplitFault.{SplitFault}
 use Rattle.rp_base.specs.declared.ranges.SplitFault.TheVariants as faults
 use Rattle.rp_request.specs.Covers.{is_split, in_bounds, spans_of}
 use Rattle.rp_request.specs.Effect.{Effect, effect, pass_on, split, writes}
-use Rattle.rp_request.specs.Table.{Table, count_in, greatest, value_at, without}
+use Rattle.rp_base.specs.Tables.{Table, count_in, greatest, value_at, without}
 use Rattle.rp_request.specs.declared.commands.Command.{Command}
 use Rattle.rp_request.specs.declared.commands.Op.{Op}
 use Rattle.rp_request.specs.declared.commands.Payload.TheVariants as payloads
