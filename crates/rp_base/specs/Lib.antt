@@ -1,6 +1,9 @@
+pub mod Gives
+pub mod Ids
 pub mod Kept
 pub mod Keys
 pub mod Leases
+pub mod Limits
 pub mod Numbers
 pub mod Spans
 pub mod Splits

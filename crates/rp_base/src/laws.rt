@@ -8,12 +8,15 @@ ghost use Rattle.rp_base.specs.Keys.{is_key_byte, key_of, key_text, IsKey, IsBad
 ghost use Rattle.rp_base.specs.Numbers.{number_of, u64_of};
 ghost use Rattle.rp_base.specs.Spans.{Holds, Overlaps, meets, LiesWithin, within, one_key};
 ghost use Rattle.rp_base.specs.Splits.{InBounds, split_of, ComesFrom};
-ghost use Rattle.rp_base.specs.Leases.{lease_after};
+ghost use Rattle.rp_base.specs.Leases.{lease_after, Follows};
+ghost use Rattle.rp_base.specs.Limits.{buffer_capacity, batch_most, first_term};
 ghost use Rattle.rp_base.specs.declared.keys.BadKey.{BadKey};
 ghost use Rattle.rp_base.specs.declared.spans.Span.{Span};
 ghost use Rattle.rp_base.specs.declared.ranges.Desc.{Desc};
 ghost use Rattle.rp_base.specs.declared.leases.Lease.{Lease};
 ghost use Rattle.rp_base.specs.declared.leases.LeaseAsk.{LeaseAsk};
+
+use crate::limits::{BATCH_MOST, BUFFER_CAPACITY, FIRST_TERM};
 
 /// A key that is read is so spelled.
 #[tactic(auto, using(crate::proofs::KeyLaws::spelled_as_read))]
@@ -121,10 +124,20 @@ pub fn lease_seq_never_falls()
     ensures { (old : Lease) (ask : LeaseAsk) (new : Lease) → lease_after old ask ≡ Some new → old.seq ≤ new.seq }
 {}
 
-/// Either holder and sequence stay and the expiry does not fall, or the holder is another and the
-/// sequence rises by one.
+/// Holder and sequence stay and the expiry does not fall, or the sequence rises by one.
 #[tactic(auto, using(crate::proofs::LeaseLaws::lease_follows))]
 pub fn lease_stays_or_moves()
-    ensures { (old : Lease) (ask : LeaseAsk) (new : Lease) → lease_after old ask ≡ Some new
-        → ((new.holder ≡ old.holder) × (new.seq ≡ old.seq) × (old.expires ≤ new.expires)) ⊎ ((new.holder ≢ old.holder) × (new.seq ≡ old.seq + 1)) }
+    ensures { (old : Lease) (ask : LeaseAsk) (new : Lease) → lease_after old ask ≡ Some new → Follows old new }
+{}
+
+/// Of two leases that follow each other under one sequence the holder is the same.
+pub fn one_sequence_has_one_holder()
+    ensures { (old : Lease) (new : Lease) → Follows old new → new.seq ≡ old.seq → new.holder ≡ old.holder }
+{}
+
+/// The constants are the numbers that definitions name.
+pub fn constants_as_named()
+    ensures buffer { BUFFER_CAPACITY ≡ buffer_capacity }
+    ensures batch { BATCH_MOST ≡ batch_most }
+    ensures term { FIRST_TERM ≡ first_term }
 {}

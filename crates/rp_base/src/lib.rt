@@ -20,7 +20,7 @@ pub use ids::{CmdId, NodeId, RangeId};
 pub use items::{Item, Items};
 pub use keys::{BadKey, Key, push_bound, push_key};
 pub use leases::{Lease, LeaseAsk, LeaseIndex, LeaseSeq, Tick};
-pub use limits::Which;
+pub use limits::{BATCH_MOST, BUFFER_CAPACITY, FIRST_TERM, Which};
 pub use lists::{Bytes, Calls, Grown, Seq};
 pub use memory::NoMemory;
 pub use numbers::{NumberFault, read_u64};
