@@ -31,7 +31,7 @@ onward_written s c verdicts.Nothing h = stays s
 onward_leased : (s : AppliedState) (ask : LeaseAsk) (new : Option leases.Lease) → asked s ask ≡ new → IsOnward s (leased s new)
 onward_leased s ask (Some new) h = elim (asked_tells s ask new h) [
   | inl same ↦ record { lai = omega arith; seq = omega (arith, same.1); holder = λ _. same.0 }
-  | inr other ↦ record { lai = omega arith; seq = omega (arith, other.1); holder = λ e. absurd (omega (arith, other.1, e)) }
+  | inr next ↦ record { lai = omega arith; seq = omega (arith, next); holder = λ e. absurd (omega (arith, next, e)) }
 ]
 onward_leased s ask None h = stays s
 

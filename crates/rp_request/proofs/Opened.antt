@@ -3,6 +3,7 @@ use Rattle.std.proofs.Common.{◌≡◌, ◌≢◌, ℕ, ◌≤◌, ◌<◌, ◌
 use Rattle.std.proofs.lemmas.Bool.Decides.{nat_tests}
 use Rattle.rp_base.specs.declared.leases.Lease.{Lease}
 use Rattle.rp_base.specs.declared.leases.LeaseAsk.{LeaseAsk}
+use Rattle.rp_base.specs.Leases.{Follows}
 use Rattle.rp_base.proofs.LeaseLaws.{lease_follows}
 use Rattle.rp_request.specs.declared.commands.Command.{Command}
 use Rattle.rp_request.specs.declared.commands.Payload.TheVariants as payloads
@@ -49,11 +50,8 @@ pub takes : (s : AppliedState) (c : Command) → c.seq ≡ s.lease.seq → s.lai
 unfolding command_verdict
 takes s c same above = grind (arith, nat_tests)
 
--- the lease that an ask makes: holder and sequence stay and the expiry does not fall, or the holder is
--- another and the sequence rises by one
-pub asked_tells : (s : AppliedState) (ask : LeaseAsk) (new : Lease) → asked s ask ≡ Some new
-    → ((new.holder ≡ s.lease.holder) × (new.seq ≡ s.lease.seq) × (s.lease.expires ≤ new.expires))
-    ⊎ ((new.holder ≢ s.lease.holder) × (new.seq ≡ s.lease.seq + 1))
+-- the lease that an ask makes follows the present one
+pub asked_tells : (s : AppliedState) (ask : LeaseAsk) (new : Lease) → asked s ask ≡ Some new → Follows s.lease new
 unfolding asked
 asked_tells s ask new h = lease_follows s.lease ask new h
 
@@ -63,8 +61,7 @@ item_is (Some l) lease h = cc
 item_is None lease h = absurd cc
 
 pub item_tells : (s : AppliedState) (ask : LeaseAsk) (new : Lease) → record_of s (payloads.Lease ask) ≡ kept.Took (places.Lease new)
-    → ((new.holder ≡ s.lease.holder) × (new.seq ≡ s.lease.seq) × (s.lease.expires ≤ new.expires))
-    ⊎ ((new.holder ≢ s.lease.holder) × (new.seq ≡ s.lease.seq + 1))
+    → Follows s.lease new
 item_tells s ask new h = asked_tells s ask new (item_is (asked s ask) new h)
 
 pub taken_where : (s : AppliedState) (c : Command) → (verdict s (payloads.Write c) ≡ Took) ↔ ((c.seq ≡ s.lease.seq) × (s.lai < c.max))

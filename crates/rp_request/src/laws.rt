@@ -2,12 +2,13 @@
 ghost use Rattle.std.specs.Prelude.{◌≡◌, ℕ, ◌<◌, ◌+◌, ◌-◌, ◌^◌, Bool, nat_lt, if◌then◌else◌, IsTrue, IsFalse, IfOk, List, ◌++◌, option_and_then, ◌≤◌, length, Ok, ◌≢◌, ◌↔◌, ◌⊎◌};
 ghost use Rattle.std.specs.FinMap.{get, retain_keys};
 ghost use Rattle.std.specs.List.{list_any, All};
-ghost use Rattle.rp_base.specs.Spans.{span_list};
+ghost use Rattle.rp_base.specs.Leases.{Follows};
+ghost use Rattle.rp_base.specs.Spans.{span_list, any_meet};
 ghost use Rattle.rp_base.specs.declared.ranges.Desc.{Desc};
 ghost use Rattle.rp_request.specs.declared.requests.Request.{Request};
 ghost use Rattle.rp_request.specs.declared.items.Place.{Place};
 ghost use Rattle.rp_base.specs.Tables.{Table, is_between, below, from_on};
-ghost use Rattle.rp_request.specs.Covers.{covers, is_split, spans_of, HasKeys, Apart, any_meet};
+ghost use Rattle.rp_request.specs.Covers.{covers, is_split, spans_of, HasKeys, Apart};
 ghost use Rattle.rp_request.specs.Effect.{effect, seen};
 ghost use Rattle.rp_request.specs.Items.{State, fold};
 ghost use Rattle.rp_request.specs.Places.{places_of, IsPlaceOf, IsOnce};
@@ -141,12 +142,10 @@ pub fn a_command_is_taken_exactly_where()
         → (verdict s (payloads.Write c) ≡ Took) ↔ ((c.seq ≡ s.lease.seq) × (s.lai < c.max)) }
 {}
 
-/// The lease of an ask that is taken: holder and sequence stay and the expiry does not fall, or the
-/// holder is another and the sequence rises by one.
-pub fn a_taken_ask_keeps_or_moves_the_lease()
-    ensures { (s : AppliedState) (ask : LeaseAsk) (new : Lease) → record_of s (payloads.Lease ask) ≡ records.Took (places.Lease new)
-        → ((new.holder ≡ s.lease.holder) × (new.seq ≡ s.lease.seq) × (s.lease.expires ≤ new.expires))
-        ⊎ ((new.holder ≢ s.lease.holder) × (new.seq ≡ s.lease.seq + 1)) }
+/// The lease of an ask that is taken follows the one before it.
+pub fn a_taken_ask_gives_the_lease_that_follows()
+    ensures { (s : AppliedState) (ask : LeaseAsk) (new : Lease)
+        → record_of s (payloads.Lease ask) ≡ records.Took (places.Lease new) → Follows s.lease new }
 {}
 
 /// Along a list of payloads neither the lease applied index nor the lease sequence falls, and where
