@@ -2,5 +2,8 @@ pub mod Kept
 pub mod Keys
 pub mod Leases
 pub mod Numbers
+pub mod ShortTexts
 pub mod Spans
 pub mod Splits
+pub mod Tables
+pub mod Values
