@@ -7,3 +7,5 @@ pub mod Powers
 mod Rows
 pub mod SpanLaws
 pub mod SplitLaws
+pub mod TextLaws
+pub mod ValueLaws
