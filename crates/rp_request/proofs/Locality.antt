@@ -88,7 +88,7 @@ module _ (p : ℕ → Bool) (s t : Table) (e : retain_keys s p ≡ retain_keys t
   reads_put key value h = written p d _ _ _ _ (insert_alike p s t e key value) (ap Old (read p s t key e h))
 
   reads_add : (key by : ℕ) → IsTrue (p key) → seen p (add s d key by) ≡ seen p (add t d key by)
-  unfolding added, raised
+  unfolding added raised
   reads_add key by h =
       let o = get s key in
       let v = number_in o in
@@ -117,7 +117,7 @@ module _ (p : ℕ → Bool) (s t : Table) (e : retain_keys s p ≡ retain_keys t
       ∙ ap (λ m. seen p (wiped d t start end m)) (ap len h)
 
   reads_move : (from to by : ℕ) → IsTrue (p from) → IsTrue (p to) → seen p (move s d from to by) ≡ seen p (move t d from to by)
-  unfolding moved, given
+  unfolding moved given
   reads_move from to by h k =
       let o = get s from in
       let q = get s to in

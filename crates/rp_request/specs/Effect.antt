@@ -57,7 +57,7 @@ abbrev pub pass_on : Table → Desc → ℕ → ℕ → ℕ → Result Effect Re
 pass_on t d from to by = if nat_lt greatest (value_at t to + by)
     then Err (Overflow (value_at t to))
     else writes (insert (insert t from (Number (value_at t from - by))) to (Number (value_at t to + by))) d
-        (Now (value_at t from - by))
+    (Now (value_at t from - by))
 
 -- so much goes from one key's number to another's, which may be the same key
 abbrev pub give : Table → Desc → ℕ → ℕ → ℕ → Result Effect Refusal

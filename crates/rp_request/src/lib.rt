@@ -14,7 +14,7 @@ mod verdicts;
 pub use commands::{Batch, Command, Op, Payload, WaitList, Waiting};
 pub use evaluations::Evaluated;
 pub use items::{Place, Record, Why};
-pub use notes::{ReplyLine, Note, Notes, Replies};
+pub use notes::{Note, Notes, Replies, ReplyLine};
 pub use outcomes::{Ambiguity, End, Outcome, Refusal, Reply};
 pub use requests::{Request, RequestList};
 pub use verdicts::Verdict;
