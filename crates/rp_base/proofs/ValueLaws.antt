@@ -1,9 +1,13 @@
 -- Values: each is spelled apart from all others.
 use Rattle.std.proofs.Common.{◌≡◌, ℕ, ◌^◌, ◌<◌, inl, inr, List, get_or, ap, sym, arith}
 use Rattle.std.proofs.lemmas.Bool.{cases_lt}
+use Rattle.std.proofs.lemmas.Bool.Decides.{Decides-eqb}
+use Rattle.std.proofs.lemmas.Slice.Eq.{bytes_eq-Decides}
+use Rattle.std.specs.Bool.{Decides, nat_eq}
+use Rattle.std.specs.Cmp.Lexicographic.{pointwise}
 use Rattle.std.proofs.lemmas.Fmt.{decimal_digit, decimal_injective, first_decimal}
 use Rattle.std.specs.Fmt.{decimal}
-use Rattle.rp_base.specs.Values.{IsValue, value_text}
+use Rattle.rp_base.specs.Values.{IsValue, value_eq, value_text}
 use Rattle.rp_base.specs.declared.values.Value.{Value}
 use Rattle.rp_base.specs.declared.values.Value.TheVariants.{Number, Text}
 
@@ -25,3 +29,12 @@ one_value (Number m) (Number n) hm hn same = ap Number (decimal_injective m n hm
 one_value (Number m) (Text text) hm ht same = absurd (number_no_text m text hm same)
 one_value (Text text) (Number n) ht hn same = absurd (number_no_text n text hn (sym same))
 one_value (Text one) (Text other) ho ht same = let text : one ≡ other = cc in ap Text text
+
+-- the test of two values says whether they are the same
+pub value_eq-Decides : (v w : Value) → Decides (value_eq v w) (v ≡ w)
+value_eq-Decides (Number m) (Number n) = (λ yes. ap Number ((Decides-eqb m n).0 yes), λ same. (Decides-eqb m n).1 (cc))
+value_eq-Decides (Number m) (Text text) = (λ yes. cc, λ same. cc)
+value_eq-Decides (Text text) (Number n) = (λ yes. cc, λ same. cc)
+value_eq-Decides (Text one) (Text other) =
+    let bytes : Decides (pointwise nat_eq one other) (one ≡ other) = bytes_eq-Decides one other in
+    (λ yes. ap Text (bytes.0 yes), λ same. bytes.1 (cc))

@@ -22,7 +22,8 @@ pub record IsText (bs : List ℕ) : Type 0 where
 
 -- the place keeps the bytes from being a text: a byte that no text has, or one past the 64th
 abbrev pub IsBadTextPlace : List ℕ → ℕ → Type 0
-IsBadTextPlace bs place = (place < length bs) × ((is_text_byte (slice_index bs place) ≡ false) ⊎ (64 ≤ place))
+IsBadTextPlace bs place =
+    (place < length bs) × ((is_text_byte (slice_index bs place) ≡ false) ⊎ (64 ≤ place))
 
 -- the bytes in front of zero bytes, 64 together
 abbrev pub padded : List ℕ → List ℕ

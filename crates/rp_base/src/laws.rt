@@ -1,5 +1,5 @@
 //! Laws of the definitions, for the proofs above. No program calls these functions.
-ghost use Rattle.std.specs.Prelude.{◌≡◌, ◌≢◌, ℕ, ◌+◌, ◌^◌, ◌<◌, ◌≤◌, ◌↔◌, ◌⊎◌, IsTrue, List, length, Some, Ok, Err};
+ghost use Rattle.std.specs.Prelude.{◌≡◌, ◌≢◌, ℕ, ◌+◌, ◌^◌, ◌<◌, ◌≤◌, ◌↔◌, ◌⊎◌, IsTrue, true, List, length, Some, Ok, Err};
 ghost use Rattle.std.specs.List.{prefix_len};
 ghost use Rattle.std.specs.Fmt.{decimal};
 ghost use Rattle.std.specs.Ordering.{nat_cmp};
@@ -11,7 +11,7 @@ ghost use Rattle.rp_base.specs.Splits.{InBounds, split_of, ComesFrom};
 ghost use Rattle.rp_base.specs.Leases.{lease_after, Follows};
 ghost use Rattle.rp_base.specs.Limits.{buffer_capacity, batch_most, first_term};
 ghost use Rattle.rp_base.specs.ShortTexts.{text_of, IsText, IsBadTextPlace};
-ghost use Rattle.rp_base.specs.Values.{IsValue, value_text};
+ghost use Rattle.rp_base.specs.Values.{IsValue, value_eq, value_text};
 ghost use Rattle.rp_base.specs.declared.keys.BadKey.{BadKey};
 ghost use Rattle.rp_base.specs.declared.spans.Span.{Span};
 ghost use Rattle.rp_base.specs.declared.ranges.Desc.{Desc};
@@ -172,8 +172,14 @@ pub fn numbers_shown_unlike_texts()
         → ¬ (value_text (Number n) ≡ value_text (Text text)) }
 {}
 
+/// The test of two values says whether they are the same.
+pub fn values_equal_where_same()
+    ensures { (v : Value) (w : Value) → (value_eq v w ≡ true) ↔ (v ≡ w) }
+{}
+
 /// Values that are spelled alike are the same.
 #[tactic(auto, using(crate::proofs::ValueLaws::one_value))]
 pub fn values_shown_apart()
-    ensures { (v : Value) (w : Value) → IsValue v → IsValue w → value_text v ≡ value_text w → v ≡ w }
+    ensures { (v : Value) (w : Value) → IsValue v → IsValue w
+        → value_text v ≡ value_text w → v ≡ w }
 {}
