@@ -1,3 +1,4 @@
+//! One call of each kind, and want of memory.
 use crate::{
     BadKey, Calls, Grown, Item, Items, Key, KeySpan, LeaseAsk, LeaseSeq, NodeId, NumberFault, Seq,
     Text, Tick, push_bound, push_key, push_number, push_word, read_u64,
