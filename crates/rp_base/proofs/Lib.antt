@@ -11,3 +11,5 @@ pub mod Powers
 mod Rows
 pub mod SpanLaws
 pub mod SplitLaws
+pub mod TextLaws
+pub mod ValueLaws

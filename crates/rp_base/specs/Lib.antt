@@ -6,5 +6,8 @@ pub mod Keys
 pub mod Leases
 pub mod Limits
 pub mod Numbers
+pub mod ShortTexts
 pub mod Spans
 pub mod Splits
+pub mod Tables
+pub mod Values

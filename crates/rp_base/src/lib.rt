@@ -12,10 +12,12 @@ mod lists;
 mod memory;
 mod numbers;
 mod ranges;
+mod short_texts;
 mod spans;
 #[cfg(test)]
 mod tests;
 mod texts;
+mod values;
 
 pub use client_counts::ClientCounts;
 pub use ids::{CmdId, NodeId, RangeId};
@@ -27,5 +29,7 @@ pub use lists::{Bytes, Calls, Grown, Seq};
 pub use memory::NoMemory;
 pub use numbers::{NumberFault, read_u64};
 pub use ranges::{Desc, SplitFault};
+pub use short_texts::{BadText, ShortText, push_text};
 pub use spans::{KeySpan, Span, Spans};
 pub use texts::{Text, push_number, push_word};
+pub use values::{Value, push_value};
