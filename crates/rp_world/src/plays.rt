@@ -73,7 +73,7 @@ impl World {
     {
         let id = CmdId {
             client,
-            seq: self.sent.count(client),
+            seq: self.sent.add_one(client),
             attempt: 1,
         };
         if !self.has_replica(range) {
