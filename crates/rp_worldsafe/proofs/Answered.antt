@@ -20,7 +20,7 @@ use Rattle.rp_replica.specs.Applications.{applied_where, next_payload}
 use Rattle.rp_replica.specs.Flushes.{flushed}
 use Rattle.rp_replica.specs.declared.events.Ended.{Ended}
 use Rattle.rp_replica.specs.declared.events.ReplicaEvent.TheVariants as events
-use Rattle.rp_rangesafe.proofs.Tables.{id_cases}
+use Rattle.rp_base.proofs.IdLaws.{id_cases}
 use Rattle.rp_refine.specs.Laws.{IsReached}
 use Rattle.rp_refine.specs.Runs.{Input, Run, begun, next, play, AllLawful}
 use Rattle.rp_refine.specs.Runs as runs
