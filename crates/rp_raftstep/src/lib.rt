@@ -1,4 +1,4 @@
-//! One replica's part in Raft: elections, the log, and what is sent (Raft 2014).
+//! One event of a replica's part in Raft, as a definition, and the types that it speaks of (Raft 2014).
 #![tactic(auto)]
 
 mod events;

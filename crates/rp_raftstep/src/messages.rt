@@ -1,8 +1,10 @@
+//! What replicas send to one another.
+
 use rp_base::Bytes;
 use rp_raftlog::Entries;
 
 /// What one replica of a range sends to another. `S` is the type of snapshots.
-/// The requests are those of Raft (2014), sections 5.2, 5.3 and 7, each answered by a message of its own.
+/// The requests are those of Raft (2014), sections 5.2, 5.3 and 7; each has an answer of its own.
 #[derive(Drop)]
 pub enum Message<S> {
     /// A candidate asks for a vote, and says with which entry its log ends.
@@ -24,8 +26,8 @@ pub enum Message<S> {
         entries: Entries,
         commit: u64,
     },
-    /// The answer to an `Append` or a `Snap`: up to `index` the log is as the leader's, or, where `ok` is
-    /// false, `index` is the commit index of the replica that answers.
+    /// The answer to an `Append` or a `Snap`: up to `index` the log is as the leader's, or, where
+    /// `ok` is false, `index` is the commit index of the replica that answers.
     AppendReply {
         term: u64,
         ok: bool,

@@ -1,3 +1,5 @@
+//! The numbers of a replica beside its log.
+
 use rp_base::NodeId;
 
 /// What a replica is in its term (Raft 2014, section 5.1).
@@ -8,7 +10,8 @@ pub enum Role {
     Leader,
 }
 
-/// The Raft state of a replica but for its log. The tables have a place for each node, that of node n at n - 1.
+/// The Raft state of a replica but for its log. The tables have a place for each node, that of node
+/// n at n - 1.
 #[derive(Clone, Copy, Debug, PartialEq, Eq)]
 pub struct Head {
     /// The node of this replica.
