@@ -1,0 +1,9 @@
+//! One replica's part in Raft: elections, the log, and what is sent (Raft 2014).
+#![tactic(auto)]
+
+mod heads;
+mod plans;
+mod rafts;
+
+pub use plans::RaftPlan;
+pub use rafts::Raft;
