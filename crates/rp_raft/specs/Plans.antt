@@ -1,10 +1,11 @@
 -- What a plan is: a change of the head, an edit of the log, and messages that are made already.
-use Rattle.std.specs.Prelude.{◌≡◌, ℕ, ◌+◌, ◌^◌, ◌<◌, ◌≤◌, true, false, List, [], length, take}
+use Rattle.std.specs.Prelude.{◌≡◌, ℕ, ◌+◌, ◌^◌, ◌<◌, ◌≤◌, true, false, None, List, [], ◌∷◌, length, take}
 use Rattle.rp_raftlog.specs.declared.entries.Entry.{Entry}
 use Rattle.rp_raftlog.specs.LogState.{LogState, log_at, last_index, matches, appended, accepted, cut}
 use Rattle.rp_raftstep.specs.declared.heads.Due.{Due}
 use Rattle.rp_raftstep.specs.declared.heads.Due.TheVariants.{Nobody}
 use Rattle.rp_raftstep.specs.declared.heads.Head.{Head}
+use Rattle.rp_raftstep.specs.declared.messages.Message.{Message}
 use Rattle.rp_raftstep.specs.declared.events.RaftEvent.{RaftEvent}
 use Rattle.rp_raftstep.specs.declared.events.RaftEvent.TheVariants.{Tick, Receive, Propose, Cut}
 use Rattle.rp_raftstep.specs.RaftState.{RaftState, is_leader}
@@ -70,6 +71,13 @@ ahead head log added = record { head = head; log = appended log added }
 -- the state that a head and an edit lead to
 abbrev pub leads_to : Head → LogState → LogEdit → RaftState
 leads_to head log edit = record { head = head; log = edited log edit }
+
+-- a draft that sends nothing, and one that sends one message
+abbrev pub quiet_draft : {S : Type 0} → Head → RaftDraft S
+quiet_draft head = record { head = head; edit = Stays; messages = []; due = Nobody; taken = None }
+
+abbrev pub answered_draft : {S : Type 0} → Head → ℕ → Message S → RaftDraft S
+answered_draft head to message = record { head = head; edit = Stays; messages = (to, message) ∷ []; due = Nobody; taken = None }
 
 -- what a draft means over the log that it was made of
 abbrev pub draft_of : {S : Type 0} → LogState → RaftDraft S → Draft S

@@ -70,8 +70,8 @@ pub(crate) fn patience(node: NodeId) -> u64
 }
 
 /// Whether the vote of this term is free for the node, or is its own already.
-pub(crate) fn may_vote(head: Head, node: NodeId) -> bool
-    ensures { result ≡ may_vote head node }
+pub(crate) fn may_vote(head: &Head, node: NodeId) -> bool
+    ensures { result ≡ may_vote head.now node }
 {
     match head.vote {
         Some(vote) => vote == node,

@@ -1,6 +1,8 @@
 //! One replica's part in Raft: elections, the log, and what is sent (Raft 2014).
 #![tactic(auto)]
 
+mod drafts;
+mod elections;
 mod heads;
 mod plans;
 mod rafts;
