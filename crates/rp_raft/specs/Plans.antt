@@ -64,6 +64,10 @@ behind_of (Accepts prev_index prev_term entries) = []
 behind_of (Cuts to) = []
 behind_of (Resets index term) = []
 
+-- the state with another head
+abbrev pub with_head : RaftState → Head → RaftState
+with_head st head = record { head = head; log = st.log }
+
 -- a leader's state with these entries behind its log
 abbrev pub ahead : Head → LogState → List Entry → RaftState
 ahead head log added = record { head = head; log = appended log added }

@@ -6,7 +6,7 @@ ghost use Rattle.rp_raftstep.specs.RaftState.{is_leader, nodes_to};
 ghost use Rattle.rp_raftstep.specs.Conditions.{CanRise};
 ghost use Rattle.rp_raftstep.specs.Step.{elected, is_up_to_date, on_vote, on_vote_reply, requests, stand, tick, tick_leading};
 ghost use Rattle.rp_raft.specs.Held.{IsSound};
-ghost use Rattle.rp_raft.specs.Plans.{Drafts};
+ghost use Rattle.rp_raft.specs.Plans.{Drafts, with_head};
 
 use crate::drafts::{answered, nothing, one_entry, quiet};
 use crate::heads::{candidate, is_elected, may_vote, patience, place};
@@ -20,7 +20,8 @@ use std::alloc::Global;
 fn push_peer(others: &mut Seq<NodeId>, own: NodeId, number: u8) -> Result<(), NoMemory>
     requires from_one { 1 ≤ number }
     requires to_five { number ≤ 5 }
-    ensures { OnOk result (others.new ≡ others.old ++ filter (λ node. not (node == own)) (number ∷ [])) }
+    ensures { OnOk result (others.new ≡ others.old
+        ++ filter (λ node. not (node == own)) (number ∷ [])) }
 {
     let node = NodeId::new(number).unwrap();
     if node != own {
@@ -45,9 +46,9 @@ pub(crate) fn others(alloc: Global, own: NodeId, nodes: u8) -> Result<Seq<NodeId
 impl<S: Drop> Raft<S> {
     /// A candidate leads where a majority has voted, and appends an entry Nothing.
     fn elected(&self, head: Head) -> Result<RaftDraft<S>, NoMemory>
-        requires sound { IsSound (record { head = head; log = self.now.raft.log }) }
+        requires sound { IsSound (with_head self.now.raft head) }
         requires last { last_index self.now.raft.log + 1 < 2 ^ 64 }
-        ensures { IfOk result (λ d. Drafts self.now.raft.log d (elected (record { head = head; log = self.now.raft.log }))) }
+        ensures { IfOk result (λ d. Drafts self.now.raft.log d (elected (with_head self.now.raft head))) }
     {
         if !is_elected(head) {
             return Ok(quiet(self.alloc, head));
@@ -73,7 +74,7 @@ impl<S: Drop> Raft<S> {
     /// The requests for votes, to all others.
     fn requests(&self, head: Head) -> Result<Messages<S>, NoMemory>
         requires { head.nodes ≤ 5 }
-        ensures { IfOk result (λ sent. sent ≡ requests (record { head = head; log = self.now.raft.log })) }
+        ensures { IfOk result (λ sent. sent ≡ requests (with_head self.now.raft head)) }
     {
         let (last_index, last_term) = self.log.last();
         let term = head.term;
@@ -163,8 +164,9 @@ impl<S: Drop> Raft<S> {
         index: u64,
         index_term: u64,
     ) -> Result<RaftDraft<S>, NoMemory>
-        requires { IsSound (record { head = head; log = self.now.raft.log }) }
-        ensures { IfOk result (λ d. Drafts self.now.raft.log d (on_vote (record { head = head; log = self.now.raft.log }) from term index index_term)) }
+        requires { IsSound (with_head self.now.raft head) }
+        ensures { IfOk result (λ d. Drafts self.now.raft.log d
+            (on_vote (with_head self.now.raft head) from term index index_term)) }
     {
         let is_free = may_vote(&head, from);
         let is_recent = self.is_up_to_date(index, index_term);
@@ -193,9 +195,10 @@ impl<S: Drop> Raft<S> {
         term: u64,
         granted: bool,
     ) -> Result<RaftDraft<S>, NoMemory>
-        requires sound { IsSound (record { head = head; log = self.now.raft.log }) }
+        requires sound { IsSound (with_head self.now.raft head) }
         requires last { last_index self.now.raft.log + 1 < 2 ^ 64 }
-        ensures { IfOk result (λ d. Drafts self.now.raft.log d (on_vote_reply (record { head = head; log = self.now.raft.log }) from term granted)) }
+        ensures { IfOk result (λ d. Drafts self.now.raft.log d
+            (on_vote_reply (with_head self.now.raft head) from term granted)) }
     {
         if granted && term == head.term && head.role == Role::Candidate {
             let mut votes = head.votes;

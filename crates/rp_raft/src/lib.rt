@@ -3,7 +3,9 @@
 
 mod drafts;
 mod elections;
+mod followers;
 mod heads;
+mod leaders;
 mod plans;
 mod rafts;
 
