@@ -1,13 +1,17 @@
 //! One replica's part in Raft: elections, the log, and what is sent (Raft 2014).
 #![tactic(auto)]
 
+mod ahead;
+mod commits;
 mod drafts;
 mod elections;
 mod followers;
 mod heads;
 mod leaders;
+mod messages;
 mod plans;
 mod rafts;
+mod sends;
 
 pub use plans::RaftPlan;
 pub use rafts::Raft;
