@@ -1,5 +1,5 @@
 -- What a plan is: a change of the head, an edit of the log, and messages that are made already.
-use Rattle.std.specs.Prelude.{◌≡◌, ℕ, ◌+◌, ◌^◌, ◌<◌, ◌≤◌, true, false, None, List, [], ◌∷◌, length, take}
+use Rattle.std.specs.Prelude.{◌≡◌, ℕ, ◌+◌, ◌^◌, ◌<◌, ◌≤◌, true, false, None, List, [], ◌∷◌, ◌++◌, length, take}
 use Rattle.rp_raftlog.specs.declared.entries.Entry.{Entry}
 use Rattle.rp_raftlog.specs.LogState.{LogState, log_at, last_index, matches, appended, accepted, cut}
 use Rattle.rp_raftstep.specs.declared.heads.Due.{Due}
@@ -55,6 +55,14 @@ IsSendable (Appends entries) head due = Unit {0}
 IsSendable (Accepts prev_index prev_term entries) head due = (is_leader head.role ≡ false) × (due ≡ Nobody)
 IsSendable (Cuts to) head due = due ≡ Nobody
 IsSendable (Resets index term) head due = (is_leader head.role ≡ false) × (due ≡ Nobody)
+
+-- the edit with more entries behind, where it leaves the log or puts entries behind it
+abbrev pub edit_behind : LogEdit → List Entry → LogEdit
+edit_behind Stays more = Appends more
+edit_behind (Appends entries) more = Appends (entries ++ more)
+edit_behind (Accepts prev_index prev_term entries) more = Accepts prev_index prev_term entries
+edit_behind (Cuts to) more = Cuts to
+edit_behind (Resets index term) more = Resets index term
 
 -- the entries that the edit puts behind the log's own
 abbrev pub behind_of : LogEdit → List Entry

@@ -10,6 +10,7 @@ mod heads;
 mod leaders;
 mod messages;
 mod plans;
+mod proposals;
 mod rafts;
 mod sends;
 
