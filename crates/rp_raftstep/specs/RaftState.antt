@@ -1,8 +1,8 @@
 -- What contracts see of a replica's Raft: its head and its log; and how it begins.
-use Rattle.std.specs.Prelude.{ℕ, zero, suc, ◌+◌, ◌-◌, ◌*◌, Bool, true, false, not, Some, None, List, [], ◌∷◌, ◌++◌, replicate, slice_index_or, slice_set, nat_lt, ◌==◌, if◌then◌else◌, filter}
-use Rattle.rp_raft.specs.declared.heads.Role.{Role}
-use Rattle.rp_raft.specs.declared.heads.Role.TheVariants.{Follower, Candidate, Leader}
-use Rattle.rp_raft.specs.declared.heads.Head.{Head}
+use Rattle.std.specs.Prelude.{ℕ, zero, suc, ◌+◌, ◌-◌, ◌*◌, Bool, true, false, not, Option, Some, None, List, [], ◌∷◌, ◌++◌, replicate, slice_index_or, slice_set, nat_lt, ◌==◌, if◌then◌else◌, filter}
+use Rattle.rp_raftstep.specs.declared.heads.Role.{Role}
+use Rattle.rp_raftstep.specs.declared.heads.Role.TheVariants.{Follower, Candidate, Leader}
+use Rattle.rp_raftstep.specs.declared.heads.Head.{Head}
 use Rattle.rp_raftlog.specs.LogState.{LogState, log_at}
 
 pub record RaftState : Type 0 where
@@ -84,22 +84,26 @@ made_by_snap node nodes term from index index_term = record {
   log = log_at index index_term;
 }
 
--- a replica after a restart: term, vote and log are kept, and of the commit index what is applied
-abbrev pub restarted : ℕ → RaftState → RaftState
-restarted applied st = record {
+-- a replica made of what is kept: node, number of nodes, term, vote, log, and what is applied
+abbrev pub revived : ℕ → ℕ → ℕ → Option ℕ → LogState → ℕ → RaftState
+revived node nodes term vote log applied = record {
   head = record {
-    node = st.head.node;
-    nodes = st.head.nodes;
-    term = st.head.term;
-    vote = st.head.vote;
+    node = node;
+    nodes = nodes;
+    term = term;
+    vote = vote;
     role = Follower;
     leader = None;
     commit = applied;
     votes = for_each_node false;
-    next = for_each_node (st.log.base + 1);
+    next = for_each_node (log.base + 1);
     matched = for_each_node 0;
     silent = 0;
     beat = 0;
   };
-  log = st.log;
+  log = log;
 }
+
+-- a replica after a restart: term, vote and log are kept, and of the commit index what is applied
+abbrev pub restarted : ℕ → RaftState → RaftState
+restarted applied st = revived st.head.node st.head.nodes st.head.term st.head.vote st.log applied

@@ -1,3 +1,5 @@
+//! Where a leader has its snapshots from.
+
 ghost use Rattle.std.specs.Prelude.{◌≡◌, ℕ, IfOk};
 
 use rp_base::NoMemory;

@@ -1,22 +1,22 @@
--- The Raft step: what an event makes of a replica's Raft, and what it sends. A definition for each row of
--- events and messages, and last the messages that are made from the state that the event leaves.
+-- The Raft step: what an event makes of a replica's Raft, and what it sends. A definition for each
+-- row of events and messages, and last the messages made from the state that the event leaves.
 use Rattle.std.specs.Prelude.{ℕ, zero, suc, ◌+◌, ◌-◌, ◌*◌, max, min, Bool, true, false, ◌&&◌, ◌||◌, Option, Some, None, List, [], ◌∷◌, ◌++◌, map, length, take, unwrap_or, nat_lt, nat_le, ◌==◌, if◌then◌else◌, count_by}
 use Rattle.std.specs.Option.{option_map_or}
 use Rattle.rp_raftlog.specs.declared.entries.Entry.{Entry}
 use Rattle.rp_raftlog.specs.LogState.{LogState, log_at, last_index, last_term, term_at, has_term, suffix, appended, accepted, accepted_to, matches, cut}
-use Rattle.rp_raft.specs.declared.heads.Role.TheVariants.{Follower, Candidate, Leader}
-use Rattle.rp_raft.specs.declared.heads.Due.{Due}
-use Rattle.rp_raft.specs.declared.heads.Due.TheVariants.{Nobody, One, Everyone}
-use Rattle.rp_raft.specs.declared.heads.Head.{Head}
-use Rattle.rp_raft.specs.declared.messages.Message.{Message}
-use Rattle.rp_raft.specs.declared.messages.Message.TheVariants.{Vote, VoteReply, Append, AppendReply, Forward, Snap}
-use Rattle.rp_raft.specs.declared.events.RaftEvent.{RaftEvent}
-use Rattle.rp_raft.specs.declared.events.RaftEvent.TheVariants.{Tick, Receive, Propose, Cut}
-use Rattle.rp_raft.specs.declared.events.RaftOut.{RaftOut}
-use Rattle.rp_raft.specs.RaftState.{RaftState, is_leader, is_candidate, of_node, with_node, for_each_node, peers, is_majority}
+use Rattle.rp_raftstep.specs.declared.heads.Role.TheVariants.{Follower, Candidate, Leader}
+use Rattle.rp_raftstep.specs.declared.heads.Due.{Due}
+use Rattle.rp_raftstep.specs.declared.heads.Due.TheVariants.{Nobody, One, Everyone}
+use Rattle.rp_raftstep.specs.declared.heads.Head.{Head}
+use Rattle.rp_raftstep.specs.declared.messages.Message.{Message}
+use Rattle.rp_raftstep.specs.declared.messages.Message.TheVariants.{Vote, VoteReply, Append, AppendReply, Forward, Snap}
+use Rattle.rp_raftstep.specs.declared.events.RaftEvent.{RaftEvent}
+use Rattle.rp_raftstep.specs.declared.events.RaftEvent.TheVariants.{Tick, Receive, Propose, Cut}
+use Rattle.rp_raftstep.specs.declared.events.RaftOut.{RaftOut}
+use Rattle.rp_raftstep.specs.RaftState.{RaftState, is_leader, is_candidate, of_node, with_node, for_each_node, peers, is_majority}
 
--- an event but for the messages that are made last: the state that it leaves, the votes and replies and
--- forwards, the peers that are sent to, and the snapshot that is taken in
+-- an event but for the messages that are made last: the state that it leaves, the votes and
+-- replies and forwards, the peers that are sent to, and the snapshot that is taken in
 pub record Draft (S : Type 0) : Type 0 where
   pub state : RaftState
   pub replies : List (ℕ × Message S)
@@ -44,7 +44,7 @@ abbrev pub with_payloads : RaftState → List (List ℕ) → RaftState
 with_payloads st payloads =
     record st { log = appended st.log (map (λ payload. record { term = st.head.term; payload = payload }) payloads) }
 
--- a majority has voted: the candidate leads, and appends an entry Nothing (Raft 2014, sections 5.2 and 8)
+-- a majority has voted: the candidate leads, and appends an entry Nothing (Raft 2014, 5.2 and 8)
 abbrev pub leading : RaftState → RaftState
 leading st = with_payloads
     (record st {
@@ -75,16 +75,14 @@ tick_leading st =
     else quiet (record st { head = record st.head { beat = st.head.beat + 1 } })
 
 -- a node that has heard of no leader for long enough stands for election in the next term
-abbrev pub candidate : RaftState → RaftState
-candidate st = record st {
-  head = record st.head {
-    term = st.head.term + 1;
-    vote = Some st.head.node;
-    role = Candidate;
-    leader = None;
-    votes = with_node (for_each_node false) st.head.node true;
-    silent = 0;
-  };
+abbrev pub candidate : Head → Head
+candidate head = record head {
+  term = head.term + 1;
+  vote = Some head.node;
+  role = Candidate;
+  leader = None;
+  votes = with_node (for_each_node false) head.node true;
+  silent = 0;
 }
 
 -- the requests for votes
@@ -93,7 +91,7 @@ requests st = map (λ peer. (peer, Vote st.head.term (last_index st.log) (last_t
 
 -- it asks all others for their votes; its own may be a majority
 abbrev pub stand : {S : Type 0} → RaftState → Draft S
-stand st = record (elected (candidate st)) { replies = requests (candidate st) }
+stand st = record (elected (record st { head = candidate st.head })) { replies = requests (record st { head = candidate st.head }) }
 
 -- how many ticks a node waits for a leader
 abbrev pub patience : ℕ → ℕ
@@ -111,13 +109,10 @@ abbrev pub tick : {S : Type 0} → RaftState → Draft S
 tick st = if is_leader st.head.role then tick_leading st else tick_waiting st
 
 -- any message but Forward with a higher term: that term comes first
-abbrev pub observed : RaftState → ℕ → RaftState
-observed st term =
-    if nat_lt st.head.term term
-    then record st { head = record st.head { term = term; vote = None; role = Follower; leader = None } }
-    else st
+abbrev pub observed : Head → ℕ → Head
+observed head term = if nat_lt head.term term then record head { term = term; vote = None; role = Follower; leader = None } else head
 
--- whether a log that ends so is at least as up to date as the replica's own (Raft 2014, section 5.4.1)
+-- whether a log that ends so is at least as up to date as the replica's (Raft 2014, 5.4.1)
 abbrev pub is_up_to_date : LogState → ℕ → ℕ → Bool
 is_up_to_date log index term = nat_lt (last_term log) term || ((last_term log == term) && nat_le (last_index log) index)
 
@@ -140,8 +135,8 @@ on_vote_reply st from term granted =
     else quiet st
 
 -- the sender leads the present term
-abbrev pub following : RaftState → ℕ → RaftState
-following st from = record st { head = record st.head { role = Follower; leader = Some from; silent = 0 } }
+abbrev pub following : Head → ℕ → Head
+following head from = record head { role = Follower; leader = Some from; silent = 0 }
 
 -- an Append or a Snap of a lower term
 abbrev pub refused_old : {S : Type 0} → RaftState → ℕ → Draft S
@@ -165,7 +160,7 @@ abbrev pub on_append : {S : Type 0} → RaftState → ℕ → ℕ → ℕ → �
 on_append st from term prev_index prev_term entries commit =
     if nat_lt term st.head.term
     then refused_old st from
-    else take_append (following st from) from prev_index prev_term entries commit
+    else take_append (record st { head = following st.head from }) from prev_index prev_term entries commit
 
 -- AppendReply, false: the peer is sent to from there on
 abbrev pub on_mismatch : {S : Type 0} → RaftState → ℕ → ℕ → Draft S
@@ -205,7 +200,8 @@ on_append_reply st from term ok index =
 abbrev pub on_forward : {S : Type 0} → RaftState → List ℕ → Draft S
 on_forward st payload = if is_leader st.head.role then sends_to (with_payloads st (payload ∷ [])) Everyone else quiet st
 
--- a snapshot of a committed index is known; one that the log shows is committed; else it is taken in
+-- a snapshot of a committed index is known; one that the log shows becomes committed; else it is
+-- taken in
 abbrev pub take_snap : {S : Type 0} → RaftState → ℕ → ℕ → ℕ → S → Draft S
 take_snap st from index index_term snapshot =
     if nat_le index st.head.commit
@@ -224,16 +220,16 @@ abbrev pub on_snap : {S : Type 0} → RaftState → ℕ → ℕ → ℕ → ℕ 
 on_snap st from term index index_term snapshot =
     if nat_lt term st.head.term
     then refused_old st from
-    else take_snap (following st from) from index index_term snapshot
+    else take_snap (record st { head = following st.head from }) from index index_term snapshot
 
 -- a message comes
 abbrev pub received : {S : Type 0} → RaftState → ℕ → Message S → Draft S
-received st from (Vote term index index_term) = on_vote (observed st term) from term index index_term
-received st from (VoteReply term granted) = on_vote_reply (observed st term) from term granted
-received st from (Append term prev_index prev_term entries commit) = on_append (observed st term) from term prev_index prev_term entries commit
-received st from (AppendReply term ok index) = on_append_reply (observed st term) from term ok index
+received st from (Vote term index index_term) = on_vote (record st { head = observed st.head term }) from term index index_term
+received st from (VoteReply term granted) = on_vote_reply (record st { head = observed st.head term }) from term granted
+received st from (Append term prev_index prev_term entries commit) = on_append (record st { head = observed st.head term }) from term prev_index prev_term entries commit
+received st from (AppendReply term ok index) = on_append_reply (record st { head = observed st.head term }) from term ok index
 received st from (Forward payload) = on_forward st payload
-received st from (Snap term index index_term snapshot) = on_snap (observed st term) from term index index_term snapshot
+received st from (Snap term index index_term snapshot) = on_snap (record st { head = observed st.head term }) from term index index_term snapshot
 
 -- the state after a Propose: a leader appends
 abbrev pub proposed : RaftState → List (List ℕ) → RaftState
@@ -259,12 +255,9 @@ then_proposed draft payloads = record {
   taken = draft.taken;
 }
 
--- an event
-abbrev pub drafted : {S : Type 0} → RaftState → RaftEvent S → Draft S
-drafted st Tick = tick st
-drafted st (Receive from message) = received st from message
-drafted st (Propose payloads) = then_proposed (quiet st) payloads
-drafted st (Cut to) = quiet (record st { log = cut st.log to })
+-- a Propose alone
+abbrev pub propose : {S : Type 0} → RaftState → List (List ℕ) → Draft S
+propose st payloads = then_proposed (quiet st) payloads
 
 -- how far the node's log is known to be as the leader's, for each node: a leader's own to its end
 abbrev pub matched_by : RaftState → List ℕ
@@ -279,11 +272,15 @@ abbrev pub greatest : (ℕ → Bool) → ℕ → ℕ
 greatest test zero = 0
 greatest test (suc n) = if test (suc n) then suc n else greatest test n
 
--- the greatest index of its own term that a majority has (Raft 2014, section 5.4.2)
-abbrev pub committable : RaftState → ℕ
-committable st = greatest (λ index. has_term st.log index st.head.term && is_on_majority st index) (last_index st.log)
+-- whether the entry there is of the present term, and a majority has it (Raft 2014, 5.4.2)
+abbrev pub is_committable : RaftState → ℕ → Bool
+is_committable st index = has_term st.log index st.head.term && is_on_majority st index
 
--- at the end of each event a leader moves its commit index on
+-- the greatest such index
+abbrev pub committable : RaftState → ℕ
+committable st = greatest (is_committable st) (last_index st.log)
+
+-- at the end of an event a leader moves its commit index on
 abbrev pub advanced : RaftState → RaftState
 advanced st =
     if is_leader st.head.role
@@ -294,7 +291,8 @@ advanced st =
 abbrev pub most_entries : ℕ
 most_entries = 8
 
--- what a leader sends to a peer: entries from the next index on, or its applied state where those are cut away
+-- what a leader sends to a peer: entries from the next index on, or its applied state where those
+-- are cut away
 abbrev pub to_peer : {S : Type 0} → ℕ → S → RaftState → ℕ → Message S
 to_peer applied snapshot st peer =
     let next = of_node st.head.next peer 0 in
@@ -308,9 +306,13 @@ due_peers head Nobody = []
 due_peers head (One peer) = peer ∷ []
 due_peers head Everyone = peers head
 
+-- what is sent to these nodes
+abbrev pub sends_among : {S : Type 0} → ℕ → S → RaftState → List ℕ → List (ℕ × Message S)
+sends_among applied snapshot st nodes = map (λ node. (node, to_peer applied snapshot st node)) nodes
+
 -- the messages that are made last
 abbrev pub last_sends : {S : Type 0} → ℕ → S → RaftState → Due → List (ℕ × Message S)
-last_sends applied snapshot st due = map (λ peer. (peer, to_peer applied snapshot st peer)) (due_peers st.head due)
+last_sends applied snapshot st due = sends_among applied snapshot st (due_peers st.head due)
 
 -- the state that an event leaves, and what it sends and takes in
 pub record Done (S : Type 0) : Type 0 where
@@ -327,13 +329,23 @@ sent applied snapshot draft = record {
   };
 }
 
--- the Raft step: an event of a replica that has applied its log up to an index, with the state there
-abbrev pub step : {S : Type 0} → ℕ → S → RaftState → RaftEvent S → Done S
-step applied snapshot st event = sent applied snapshot (drafted st event)
+-- a Cut: the log's base becomes this index, nothing is sent, and the commit index stays
+abbrev pub cut_away : {S : Type 0} → RaftState → ℕ → Done S
+cut_away st to = record {
+  state = record st { log = cut st.log to };
+  out = record { messages = []; taken = None };
+}
 
--- the same, in one event with a Propose of these payloads that follows
-abbrev pub step_then : {S : Type 0} → ℕ → S → RaftState → RaftEvent S → List (List ℕ) → Done S
-step_then applied snapshot st event again = sent applied snapshot (then_proposed (drafted st event) again)
+-- the Raft step: an event of a replica that has applied up to an index, with the state there
+abbrev pub step : {S : Type 0} → ℕ → S → RaftState → RaftEvent S → Done S
+step applied snapshot st Tick = sent applied snapshot (tick st)
+step applied snapshot st (Receive from message) = sent applied snapshot (received st from message)
+step applied snapshot st (Propose payloads) = sent applied snapshot (propose st payloads)
+step applied snapshot st (Cut to) = cut_away st to
+
+-- an event with a Propose of these payloads that follows, as one event
+abbrev pub step_then : {S : Type 0} → ℕ → S → Draft S → List (List ℕ) → Done S
+step_then applied snapshot draft again = sent applied snapshot (then_proposed draft again)
 
 -- what a node answers to an Append that has no replica and had none
 abbrev pub absent_answer : {S : Type 0} → ℕ → Message S → List (ℕ × Message S)

@@ -1,3 +1,5 @@
+//! Events of a replica, and what they send and take in.
+
 use crate::messages::Message;
 use rp_base::{Bytes, NodeId, Seq};
 

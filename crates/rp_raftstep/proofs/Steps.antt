@@ -1,13 +1,12 @@
 -- An event with a Propose of nothing behind it is the event.
 use Rattle.std.proofs.Common.{◌≡◌, ℕ, Bool, true, false, cond, ◌&&◌, Option, Some, None, List, [], ◌++◌, map, refl, ap, ◌∙◌, append-nil}
 use Rattle.std.specs.Option.{option_map_or}
-use Rattle.rp_raft.specs.declared.heads.Due.{Due}
-use Rattle.rp_raft.specs.declared.heads.Due.TheVariants.{Everyone}
-use Rattle.rp_raft.specs.declared.messages.Message.{Message}
-use Rattle.rp_raft.specs.declared.messages.Message.TheVariants.{Forward}
-use Rattle.rp_raft.specs.declared.events.RaftEvent.{RaftEvent}
-use Rattle.rp_raft.specs.RaftState.{RaftState, is_leader}
-use Rattle.rp_raft.specs.Step.{Draft, with_payloads, proposed, forwards, due_after, then_proposed, drafted, sent, step, step_then}
+use Rattle.rp_raftstep.specs.declared.heads.Due.{Due}
+use Rattle.rp_raftstep.specs.declared.heads.Due.TheVariants.{Everyone}
+use Rattle.rp_raftstep.specs.declared.messages.Message.{Message}
+use Rattle.rp_raftstep.specs.declared.messages.Message.TheVariants.{Forward}
+use Rattle.rp_raftstep.specs.RaftState.{RaftState, is_leader}
+use Rattle.rp_raftstep.specs.Step.{Draft, with_payloads, proposed, forwards, due_after, then_proposed, sent, step_then}
 
 pub proposed-nil : (st : RaftState) → proposed st [] ≡ st
 proposed-nil st = by_role (is_leader st.head.role)
@@ -37,5 +36,5 @@ then_proposed-nil draft =
     ∙ ap (λ z. record { state = draft.state; replies = z; due = due_after draft.state [] draft.due; taken = draft.taken }) (ap (λ z. draft.replies ++ z) (forwards-nil draft.state) ∙ append-nil draft.replies)
     ∙ ap (λ z. record { state = draft.state; replies = draft.replies; due = z; taken = draft.taken }) (due_after-nil draft.state draft.due)
 
-pub step_then-nil : {S : Type 0} (applied : ℕ) (snapshot : S) (st : RaftState) (event : RaftEvent S) → step_then applied snapshot st event [] ≡ step applied snapshot st event
-step_then-nil applied snapshot st event = ap (sent applied snapshot) (then_proposed-nil (drafted st event))
+pub step_then-nil : {S : Type 0} (applied : ℕ) (snapshot : S) (draft : Draft S) → step_then applied snapshot draft [] ≡ sent applied snapshot draft
+step_then-nil applied snapshot draft = ap (sent applied snapshot) (then_proposed-nil draft)
