@@ -1,3 +1,4 @@
+pub mod IdLaws
 pub mod KeyBytes
 pub mod KeyLaws
 pub mod LeaseLaws
@@ -6,3 +7,5 @@ pub mod Powers
 mod Rows
 pub mod SpanLaws
 pub mod SplitLaws
+pub mod TextLaws
+pub mod ValueLaws

@@ -84,10 +84,11 @@ impl Span {
 
 impl KeySpan {
     ghost use Rattle.std.specs.Prelude.{◌≡◌, ◌≤◌, ◌↔◌, IsNone, IfSome, IsSomeAnd};
-    ghost use Rattle.rp_base.specs.Spans.{span_of};
+    ghost use Rattle.rp_base.specs.Spans.{key_span_of, span_of};
 
     /// None exactly where the end is a key at or below the start.
     pub fn new(start: Key, end: Option<Key>) -> Option<KeySpan>
+        ensures span { result ≡ key_span_of start end }
         ensures none { IsNone result ↔ IsSomeAnd end (λ e. e ≤ start) }
         ensures start { IfSome result (λ s. s.start ≡ start) }
         ensures end { IfSome result (λ s. s.end ≡ end) }

@@ -1,6 +1,7 @@
 use crate::{
-    BadKey, Calls, Grown, Item, Items, Key, KeySpan, LeaseAsk, LeaseSeq, NodeId, NumberFault, Seq,
-    Text, Tick, push_bound, push_key, push_number, push_word, read_u64,
+    BadKey, BadText, Calls, Grown, Item, Items, Key, KeySpan, LeaseAsk, LeaseSeq, NodeId,
+    NumberFault, Seq, ShortText, Text, Tick, Value, push_bound, push_key, push_number, push_text,
+    push_value, push_word, read_u64,
 };
 use std::test::Fail;
 
@@ -102,5 +103,47 @@ fn keeps_items(rt: HostRuntime) -> Result<(), Fail> {
     });
     items.push(ask);
     assert_eq!(rt; items.as_slice(), [ask].as_slice());
+    Ok(())
+}
+
+#[test]
+fn reads_texts(rt: HostRuntime) {
+    let most = "0123456789abcdef0123456789ABCDEF!#$%&()*+,-./:;<=>?@[]^_`{|}~'xyz";
+    let cases = [
+        ("", Ok(0)),
+        ("'hi", Ok(3)),
+        (most, Err(64)),
+        (&most[..64], Ok(64)),
+        ("a b", Err(1)),
+        ("ab\u{e9}", Err(2)),
+        ("\u{7f}", Err(0)),
+    ];
+    for (text, want) in cases {
+        let read = match ShortText::read(text.as_bytes()) {
+            Ok(kept) => Ok(kept.len()),
+            Err(BadText { place }) => Err(place),
+        };
+        assert_eq!(rt; read, want, "of {text}");
+    }
+}
+
+#[test]
+fn tells_numbers_from_texts(rt: HostRuntime) -> Result<(), Fail> {
+    let five = ShortText::read(b"5")?;
+    assert!(rt; Value::Number(5) != Value::Text(five));
+    assert!(rt; Value::Text(five) == Value::Text(ShortText::read(b"5")?));
+    let mut out = Text::new(rt.alloc());
+    push_value(&mut out, &Value::Number(5))?;
+    push_value(&mut out, &Value::Text(five))?;
+    push_text(&mut out, &five)?;
+    assert_eq!(rt; out.as_str(), "5'55");
+    Ok(())
+}
+
+#[test]
+fn finds_keys_of_bounds(rt: HostRuntime) -> Result<(), Fail> {
+    let key = Key::read(b"m")?;
+    assert_eq!(rt; Key::of_bound(key.bound()), Some(key));
+    assert_eq!(rt; Key::of_bound(u128::MAX), None);
     Ok(())
 }

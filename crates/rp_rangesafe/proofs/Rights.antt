@@ -15,13 +15,13 @@ use Rattle.rp_request.specs.declared.requests.Request.{Request}
 use Rattle.rp_request.specs.declared.requests.Request.TheVariants.{Put, Add, CPut, Del, Wipe, Move, Split}
 use Rattle.rp_request.specs.declared.items.Place.{Place}
 use Rattle.rp_request.specs.declared.items.Place.TheVariants as places
-use Rattle.rp_request.specs.Table.{from_on}
+use Rattle.rp_base.specs.Tables.{from_on}
 use Rattle.rp_request.specs.Records.{applied}
 use Rattle.rp_request.specs.Starts.{left_range, IsRightStart, SplitsOff, IsStart, first, split_off}
-use Rattle.rp_apply.specs.Applied.{AppliedState, command_verdict, record_of, item_by, command_record, right_number}
-use Rattle.rp_apply.specs.declared.verdicts.Verdict.{Verdict}
-use Rattle.rp_apply.specs.declared.verdicts.Verdict.TheVariants.{Took, OldLease, OldIndex, LeaseMoved}
-use Rattle.rp_apply.specs.declared.verdicts.Verdict.TheVariants as verdicts
+use Rattle.rp_request.specs.Applied.{AppliedState, command_verdict, record_of, item_by, command_record, right_number}
+use Rattle.rp_request.specs.declared.verdicts.Verdict.{Verdict}
+use Rattle.rp_request.specs.declared.verdicts.Verdict.TheVariants.{Took, OldLease, OldIndex, LeaseMoved}
+use Rattle.rp_request.specs.declared.verdicts.Verdict.TheVariants as verdicts
 use Rattle.rp_rangesafe.specs.Along.{entry}
 use Rattle.rp_rangesafe.specs.World.{World, begin, state_at, Admit, Flush, Return, Refuse, Commit, Apply, Snapshot, Remove, Restart, happens, with_node}
 use Rattle.rp_rangesafe.specs.Places.{shown, items_to}

@@ -10,12 +10,12 @@ use Rattle.rp_request.specs.declared.requests.Request.TheVariants.{Put, Add, CPu
 use Rattle.rp_request.specs.declared.commands.Payload.{Payload}
 use Rattle.rp_request.specs.declared.commands.Payload.TheVariants.{Nothing, Write, Lease}
 use Rattle.rp_request.specs.declared.commands.Command.{Command}
-use Rattle.rp_apply.specs.Applied.{AppliedState, verdict, after, written, leased, desc_after, left_of, command_verdict, asked, IsBlocked}
-use Rattle.rp_apply.specs.declared.verdicts.Verdict.{Verdict}
-use Rattle.rp_apply.specs.declared.verdicts.Verdict.TheVariants.{Took, OldLease, OldIndex, LeaseMoved}
-use Rattle.rp_apply.specs.declared.verdicts.Verdict.TheVariants as verdicts
-use Rattle.rp_apply.proofs.Opened.{by_tests, took_tells, old_lease_tells, old_index_tells}
-use Rattle.rp_apply.proofs.Numbers.{onward_one}
+use Rattle.rp_request.specs.Applied.{AppliedState, verdict, after, written, leased, desc_after, left_of, command_verdict, asked, IsBlocked}
+use Rattle.rp_request.specs.declared.verdicts.Verdict.{Verdict}
+use Rattle.rp_request.specs.declared.verdicts.Verdict.TheVariants.{Took, OldLease, OldIndex, LeaseMoved}
+use Rattle.rp_request.specs.declared.verdicts.Verdict.TheVariants as verdicts
+use Rattle.rp_request.proofs.Opened.{by_tests, took_tells, old_lease_tells, old_index_tells}
+use Rattle.rp_request.proofs.Numbers.{onward_one}
 use Rattle.rp_rangesafe.specs.Places.{IsFurther}
 
 pub further_same : (s : AppliedState) → IsFurther s s

@@ -17,12 +17,12 @@ use Rattle.rp_request.specs.Effect.{Effect}
 use Rattle.rp_request.specs.declared.outcomes.Refusal.{Refusal}
 use Rattle.rp_request.proofs.Locality.{leaves}
 use Rattle.rp_request.proofs.Covering.{some_key}
-use Rattle.rp_eval.proofs.ReadParts.{evaluated_reads}
-use Rattle.rp_eval.proofs.Does.{evaluated_does}
-use Rattle.rp_apply.specs.Applied.{AppliedState, command_verdict, asked, written, leased, taken, after, desc_after}
-use Rattle.rp_apply.specs.declared.verdicts.Verdict.{Verdict}
-use Rattle.rp_apply.specs.declared.verdicts.Verdict.TheVariants.{Took, OldLease, OldIndex, LeaseMoved}
-use Rattle.rp_apply.specs.declared.verdicts.Verdict.TheVariants as verdicts
+use Rattle.rp_request.proofs.ReadParts.{evaluated_reads}
+use Rattle.rp_request.proofs.Does.{evaluated_does}
+use Rattle.rp_request.specs.Applied.{AppliedState, command_verdict, asked, written, leased, taken, after, desc_after}
+use Rattle.rp_request.specs.declared.verdicts.Verdict.{Verdict}
+use Rattle.rp_request.specs.declared.verdicts.Verdict.TheVariants.{Took, OldLease, OldIndex, LeaseMoved}
+use Rattle.rp_request.specs.declared.verdicts.Verdict.TheVariants as verdicts
 use Rattle.rp_rangesafe.specs.Attempts.{Attempt, IsBorn}
 use Rattle.rp_rangesafe.specs.Along.{state, Takes}
 use Rattle.rp_rangesafe.specs.World.{World, IsEvaluated}

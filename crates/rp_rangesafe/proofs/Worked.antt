@@ -6,10 +6,10 @@ use Rattle.rp_base.specs.Splits.{first_desc}
 use Rattle.rp_base.specs.declared.ids.CmdId.{CmdId}
 use Rattle.rp_base.specs.declared.ranges.Desc.{Desc}
 use Rattle.rp_request.specs.declared.outcomes.Refusal.TheVariants.{Overflow}
-use Rattle.rp_request.specs.Table.{Table, greatest, from_on}
+use Rattle.rp_base.specs.Tables.{Table, greatest, from_on}
 use Rattle.rp_request.specs.Effect.{writes}
 use Rattle.rp_request.proofs.Tables.{get_kept, get_inserted}
-use Rattle.rp_eval.specs.Evaluations.{evaluated, with_batch}
+use Rattle.rp_request.specs.Evaluations.{evaluated, with_batch}
 use Rattle.rp_request.specs.declared.commands.Op.TheVariants.{Set}
 use Rattle.rp_request.specs.declared.commands.Command.{Command}
 use Rattle.rp_request.specs.declared.commands.Payload.TheVariants.{Nothing, Write}
@@ -18,7 +18,7 @@ use Rattle.rp_request.specs.declared.items.Record.TheVariants as records
 use Rattle.rp_request.specs.declared.items.Why.TheVariants as reasons
 use Rattle.rp_request.specs.declared.outcomes.Reply.TheVariants.{Old, Now, Range}
 use Rattle.rp_request.specs.declared.requests.Request.TheVariants.{Put, Add, Split}
-use Rattle.rp_apply.specs.Applied.{command_verdict, records_of}
+use Rattle.rp_request.specs.Applied.{command_verdict, records_of}
 use Rattle.rp_rangesafe.specs.Attempts.{Body, Success, Overtaken, Attempt, Attempts, IsPending, with_attempt, at_node}
 use Rattle.rp_rangesafe.specs.World.{Admit, Flush, Commit, Apply, Snapshot, Restart, with_node}
 use Rattle.rp_rangesafe.specs.Ranges.{Ranges, Turned, at_first, Step, In, Turn_away, after_step, AreLawful, after_steps, AreReached, with_owner, lists}

@@ -18,13 +18,13 @@ use Rattle.rp_pending.specs.declared.proposals.Proposal.{Proposal}
 use Rattle.rp_pending.specs.declared.proposals.Stage as places
 use Rattle.rp_pending.specs.declared.proposals.Stage.TheVariants as stages
 use Rattle.rp_pending.specs.Proposals.{proposal_of, waiting_again}
-use Rattle.rp_apply.specs.Applied.{command_verdict, after, after_all, record_of, records_of}
-use Rattle.rp_apply.specs.declared.verdicts.Verdict.{Verdict}
-use Rattle.rp_apply.specs.declared.verdicts.Verdict.TheVariants.{Took, OldLease, OldIndex, LeaseMoved}
-use Rattle.rp_apply.specs.declared.verdicts.Verdict.TheVariants as verdicts
-use Rattle.rp_apply.specs.History.{History}
-use Rattle.rp_apply.specs.History as history
-use Rattle.rp_apply.proofs.Numbers.{records_further}
+use Rattle.rp_request.specs.Applied.{command_verdict, after, after_all, record_of, records_of}
+use Rattle.rp_request.specs.declared.verdicts.Verdict.{Verdict}
+use Rattle.rp_request.specs.declared.verdicts.Verdict.TheVariants.{Took, OldLease, OldIndex, LeaseMoved}
+use Rattle.rp_request.specs.declared.verdicts.Verdict.TheVariants as verdicts
+use Rattle.rp_request.specs.History.{History}
+use Rattle.rp_request.specs.History as history
+use Rattle.rp_request.proofs.Numbers.{records_further}
 use Rattle.rp_replica.specs.declared.events.ReplicaEvent.TheVariants.{Apply}
 use Rattle.rp_replica.specs.declared.plans.Turn.{Turn}
 use Rattle.rp_replica.specs.declared.plans.Turn.TheVariants as turns

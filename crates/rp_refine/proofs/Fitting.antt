@@ -15,16 +15,16 @@ use Rattle.rp_request.specs.declared.commands.Op.{Op}
 use Rattle.rp_request.specs.declared.commands.Op.TheVariants.{Set, Remove}
 use Rattle.rp_request.specs.declared.requests.Request.{Request}
 use Rattle.rp_request.specs.declared.requests.Request.TheVariants.{Put, Add, CPut, Del, Wipe, Move, Split}
-use Rattle.rp_request.specs.Table.{Table, greatest, value_at, part, is_between, count_in}
+use Rattle.rp_base.specs.Tables.{Table, greatest, value_at, part, is_between, count_in}
 use Rattle.rp_request.specs.Effect.{Effect, effect, split, pass_on, writes}
 use Rattle.rp_request.specs.declared.outcomes.Refusal.{Refusal}
 use Rattle.rp_request.specs.declared.outcomes.Reply.TheVariants.{Now}
 use Rattle.rp_request.proofs.Tables.{get_kept, get_inserted, get_removed}
-use Rattle.rp_eval.specs.Batches.{write_all, after_batch, removes, moves, batch_of}
-use Rattle.rp_eval.specs.Evaluations.{with_batch, evaluated}
-use Rattle.rp_eval.proofs.Few.{few_writes}
-use Rattle.rp_eval.specs.declared.evaluations.Evaluated.{Evaluated}
-use Rattle.rp_codec.specs.Fits.{FitsOption, FitsRequest, FitsReply, FitsOp, FitsBatch}
+use Rattle.rp_request.specs.Batches.{write_all, after_batch, removes, moves, batch_of}
+use Rattle.rp_request.specs.Evaluations.{with_batch, evaluated}
+use Rattle.rp_request.proofs.Few.{few_writes}
+use Rattle.rp_request.specs.declared.evaluations.Evaluated.{Evaluated}
+use Rattle.rp_request.specs.Fits.{FitsOption, FitsRequest, FitsReply, FitsOp, FitsBatch}
 
 -- each row has a key, and a value of its width
 abbrev pub FitsTable : Table → Type 0

@@ -18,8 +18,8 @@ use Rattle.rp_flush.specs.Assigns.{ids_of, once, waits_under}
 use Rattle.rp_pending.specs.declared.proposals.Proposal.{Proposal}
 use Rattle.rp_pending.specs.Proposals.{has_id, proposal_of, without, with_changed, proposed}
 use Rattle.rp_pending.specs.Refreshes.{waiting_of}
-use Rattle.rp_apply.specs.Applied.{records_of}
-use Rattle.rp_apply.specs.History.{History}
+use Rattle.rp_request.specs.Applied.{records_of}
+use Rattle.rp_request.specs.History.{History}
 use Rattle.rp_replica.proofs.Known.{one_id}
 use Rattle.rp_replica.specs.declared.events.ReplicaEvent.TheVariants as events
 use Rattle.rp_replica.specs.Replicas.{Replica}

@@ -11,9 +11,9 @@ use Rattle.rp_request.specs.declared.commands.Payload.TheVariants as payloads
 use Rattle.rp_request.specs.declared.outcomes.Outcome.TheVariants as outcomes
 use Rattle.rp_request.specs.declared.outcomes.Reply.TheVariants.{Old}
 use Rattle.rp_request.specs.declared.requests.Request.TheVariants.{Put}
-use Rattle.rp_codec.specs.Fits.{FitsOption, FitsPayload}
+use Rattle.rp_request.specs.Fits.{FitsOption, FitsPayload}
 use Rattle.rp_codec.specs.Worked.{key_a}
-use Rattle.rp_apply.specs.Applied.{command_verdict}
+use Rattle.rp_request.specs.Applied.{command_verdict}
 use Rattle.rp_replica.proofs.Carrying.{read_back}
 use Rattle.rp_replica.specs.declared.events.ReplicaEvent.TheVariants.{Admit, Collect, Flush, Apply}
 use Rattle.rp_replica.specs.Applications.{next_payload, applied_where}

@@ -9,7 +9,7 @@ use Rattle.rp_request.specs.Covers.{HasKeys}
 use Rattle.rp_request.specs.declared.outcomes.Outcome.{Outcome}
 use Rattle.rp_request.specs.declared.outcomes.Outcome.TheVariants.{Success, Refused, Ambiguous, Pending}
 use Rattle.rp_request.specs.declared.requests.Request.{Request}
-use Rattle.rp_codec.specs.Fits.{FitsId, FitsRequest, FitsAsk}
+use Rattle.rp_request.specs.Fits.{FitsId, FitsRequest, FitsAsk}
 use Rattle.rp_replica.specs.declared.events.Ended.{Ended}
 use Rattle.rp_replica.specs.declared.events.EventAnswer.{EventAnswer}
 use Rattle.rp_replica.specs.declared.events.EventAnswer.TheVariants as answers

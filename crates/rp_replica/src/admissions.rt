@@ -1,7 +1,8 @@
 ghost use Rattle.std.specs.Prelude.{◌≡◌, ◌≤◌, ◌==◌, IfOk, Result};
 ghost use Rattle.rp_request.specs.declared.outcomes.Refusal.{Refusal};
-ghost use Rattle.rp_eval.specs.Evaluations.{Gives, evaluated};
-ghost use Rattle.rp_eval.specs.declared.evaluations.Evaluated.{Evaluated};
+ghost use Rattle.rp_request.specs.Evaluations.{evaluated};
+ghost use Rattle.rp_eval.specs.Faults.{Gives};
+ghost use Rattle.rp_request.specs.declared.evaluations.Evaluated.{Evaluated};
 ghost use Rattle.rp_replica.specs.Replicas.{Replica};
 ghost use Rattle.rp_replica.specs.Admissions.{guarded, admitted, with_proposal, proposal};
 ghost use Rattle.rp_replica.specs.Plans.{Makes, AdmitFits};

@@ -8,7 +8,7 @@ ghost use Rattle.rp_replica.specs.Allows.{MayFlush};
 ghost use Rattle.rp_replica.specs.Plans.{Makes, FlushFits, ArePending, after_flush};
 ghost use Rattle.rp_replica.specs.Carried.{Carries, EachCarries};
 ghost use Rattle.rp_replica.specs.Writes.{WritesFit};
-ghost use Rattle.rp_codec.specs.Fits.{FitsPayload};
+ghost use Rattle.rp_request.specs.Fits.{FitsPayload};
 ghost use Rattle.std.specs.List.{AllByRecursion};
 
 use crate::events::{Effects, Ended, EventAnswer, Outcomes};

@@ -19,7 +19,7 @@ use Rattle.rp_base.specs.declared.ranges.SplitFault.{SplitFault}
 use Rattle.rp_base.specs.declared.ranges.SplitFault.TheVariants as faults
 use Rattle.rp_request.specs.Covers.{is_split, in_bounds, spans_of}
 use Rattle.rp_request.specs.Effect.{Effect, effect, pass_on, split, writes}
-use Rattle.rp_request.specs.Table.{Table, count_in, greatest, value_at, without}
+use Rattle.rp_base.specs.Tables.{Table, count_in, greatest, value_at, without}
 use Rattle.rp_request.specs.declared.commands.Command.{Command}
 use Rattle.rp_request.specs.declared.commands.Op.{Op}
 use Rattle.rp_request.specs.declared.commands.Payload.TheVariants as payloads
@@ -32,13 +32,13 @@ use Rattle.rp_request.specs.declared.requests.Request.{Request}
 use Rattle.rp_request.specs.declared.requests.Request.TheVariants.{Put, Add, CPut, Del, Wipe, Move, Split}
 use Rattle.rp_latch.specs.Holds.{answer}
 use Rattle.rp_latch.specs.declared.holds.Held.{Held}
-use Rattle.rp_eval.specs.Batches.{batch_of}
-use Rattle.rp_eval.specs.Evaluations.{evaluated, with_batch}
-use Rattle.rp_eval.specs.declared.evaluations.Evaluated.{Evaluated}
-use Rattle.rp_apply.specs.Applied.{AppliedState, command_verdict, desc_after, record_of, written}
-use Rattle.rp_apply.specs.History.{History}
-use Rattle.rp_apply.specs.declared.verdicts.Verdict.{Verdict}
-use Rattle.rp_apply.specs.declared.verdicts.Verdict.TheVariants as verdicts
+use Rattle.rp_request.specs.Batches.{batch_of}
+use Rattle.rp_request.specs.Evaluations.{evaluated, with_batch}
+use Rattle.rp_request.specs.declared.evaluations.Evaluated.{Evaluated}
+use Rattle.rp_request.specs.Applied.{AppliedState, command_verdict, desc_after, record_of, written}
+use Rattle.rp_request.specs.History.{History}
+use Rattle.rp_request.specs.declared.verdicts.Verdict.{Verdict}
+use Rattle.rp_request.specs.declared.verdicts.Verdict.TheVariants as verdicts
 use Rattle.rp_raftlog.specs.LogState.{entry_at}
 use Rattle.rp_raftlog.specs.declared.entries.Entry.{Entry}
 use Rattle.rp_report.specs.Shown.{IsShownDesc, IsShownRefusal, IsShownOutcome, IsShownAnswer, IsShownRange, IsShownView}

@@ -13,7 +13,7 @@ use Rattle.rp_request.specs.declared.outcomes.Refusal.{Refusal}
 use Rattle.rp_request.specs.declared.outcomes.Refusal.TheVariants.{NoReplica}
 use Rattle.rp_request.specs.declared.requests.Request.{Request}
 use Rattle.rp_request.specs.declared.requests.Request.TheVariants as requests
-use Rattle.rp_eval.specs.declared.evaluations.Evaluated.{Evaluated}
+use Rattle.rp_request.specs.declared.evaluations.Evaluated.{Evaluated}
 use Rattle.rp_pending.specs.Proposals.{has_id, proposal_of}
 use Rattle.rp_pending.specs.declared.proposals.Proposal.{Proposal}
 use Rattle.rp_raftlog.specs.LogState.{entry_at, last_index}

@@ -5,7 +5,7 @@ ghost use Rattle.rp_world.specs.Views.{answer_of, range_view, replica_view, row_
 use crate::worlds::World;
 use rp_base::{CmdId, NoMemory, Seq};
 use rp_report::{RangeView, ReplicaView, Row, View};
-use rp_request::{Answer, End, Outcome, Replies};
+use rp_request::{ReplyLine, End, Outcome, Replies};
 use rp_table::Table;
 use std::alloc::Global;
 use std::collections::BTreeMap;
@@ -31,7 +31,7 @@ fn answers_of(alloc: Global, outcomes: &BTreeMap<CmdId, Outcome>) -> Result<Repl
 {
     let mut answers = Vec::new(alloc);
     for (id, outcome) in outcomes {
-        answers.push(Answer {
+        answers.push(ReplyLine {
             client: id.client,
             seq: id.seq,
             attempt: id.attempt,

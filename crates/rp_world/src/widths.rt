@@ -1,7 +1,7 @@
 ghost use Rattle.std.specs.Prelude.{◌<◌, ◌^◌};
 ghost use Rattle.std.specs.List.{AllByRecursion};
 ghost use Rattle.rp_base.specs.Keys.{IsKey};
-ghost use Rattle.rp_codec.specs.Fits.{FitsValue, FitsOption, FitsEnd, FitsSpan, FitsRequest};
+ghost use Rattle.rp_request.specs.Fits.{FitsValue, FitsOption, FitsEnd, FitsSpan, FitsRequest};
 ghost use Rattle.rp_world.specs.Fits.{LineFits};
 
 use rp_base::{Key, KeySpan};

@@ -30,7 +30,7 @@ pub struct World {
 impl Model for World {
     ghost use Rattle.std.specs.Prelude.{◌≡◌, ◌≤◌, length};
     ghost use Rattle.std.specs.Coded.{codes};
-    ghost use Rattle.rp_request.specs.Table.{table_code};
+    ghost use Rattle.rp_base.specs.Tables.{table_code};
     ghost use Rattle.rp_world.specs.Worlds as worlds;
 
     ghost Value = { worlds.World };

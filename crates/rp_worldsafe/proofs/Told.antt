@@ -16,10 +16,10 @@ use Rattle.rp_request.specs.declared.outcomes.Outcome.TheVariants.{Refused, Pend
 use Rattle.rp_request.specs.declared.outcomes.Refusal.{Refusal}
 use Rattle.rp_request.specs.declared.outcomes.Refusal.TheVariants.{NoReplica}
 use Rattle.rp_request.specs.declared.requests.Request.{Request}
-use Rattle.rp_eval.specs.declared.evaluations.Evaluated.{Evaluated}
-use Rattle.rp_apply.specs.Applied.{command_verdict}
-use Rattle.rp_apply.specs.declared.verdicts.Verdict as verdict_type
-use Rattle.rp_apply.specs.declared.verdicts.Verdict.TheVariants as verdicts
+use Rattle.rp_request.specs.declared.evaluations.Evaluated.{Evaluated}
+use Rattle.rp_request.specs.Applied.{command_verdict}
+use Rattle.rp_request.specs.declared.verdicts.Verdict as verdict_type
+use Rattle.rp_request.specs.declared.verdicts.Verdict.TheVariants as verdicts
 use Rattle.rp_pending.specs.Proposals.{proposal_of}
 use Rattle.rp_pending.specs.declared.proposals.Proposal.{Proposal}
 use Rattle.rp_replica.specs.Admissions.{admitted_by, guarded}
