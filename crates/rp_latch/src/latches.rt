@@ -2,7 +2,8 @@ ghost use Rattle.std.specs.Prelude.{◌≡◌, ◌≢◌, ◌≤◌, ◌<◌, �
 ghost use Rattle.std.specs.List.{filter, list_any, count_by};
 ghost use Rattle.rp_latch.specs.declared.holds.Hold.{Hold};
 ghost use Rattle.rp_latch.specs.declared.index.Latch.{Latch};
-ghost use Rattle.rp_latch.specs.Holds.{any_meet, answer, conflict, is_of_other};
+ghost use Rattle.rp_base.specs.Spans.{any_meet};
+ghost use Rattle.rp_latch.specs.Holds.{answer, conflict, is_of_other};
 ghost use Rattle.rp_latch.specs.Indexes.{latch_meets, latch_meets_one, latch_at, passes, IsThere, IsClear, IsOldest};
 
 use crate::ages::{Numbered, place_of};
