@@ -1,3 +1,4 @@
+pub mod ClientCountLaws
 pub mod IdLaws
 pub mod KeyBytes
 pub mod KeyLaws
