@@ -1,8 +1,9 @@
 -- How holds are kept: numbered by age, with their spans and their ids in order beside them.
 use Rattle.std.specs.Prelude.{ℕ, ◌<◌, ◌≤◌, ◌≡◌, Bool, false, ◌&&◌, ◌==◌, nat_lt, min, List, Option, None, Some, IsTrue, IsFalse}
 use Rattle.std.specs.List.{AllPairs, list_any, count_by}
-use Rattle.std.specs.Ordering.{is_lt}
-use Rattle.rp_base.specs.Ids.{same_id, cmd_cmp}
+use Rattle.std.specs.Ordering.{nat_cmp, ordering_then, is_lt}
+use Rattle.std.specs.declared.cmp.Ordering.{Ordering}
+use Rattle.rp_base.specs.Ids.{same_id}
 use Rattle.rp_base.specs.Spans.{meets, meets_one}
 use Rattle.rp_base.specs.declared.ids.CmdId.{CmdId}
 use Rattle.rp_base.specs.declared.spans.Span.{Span}
@@ -67,9 +68,13 @@ abbrev pub IsOldest : (Latch → Bool) → List Latch → Option ℕ → Type 0
 IsOldest p ls None = IsFalse (list_any p ls)
 IsOldest p ls (Some n) = IsTrue (list_any (λ l. p l && l.number == n) ls) × IsFalse (list_any (λ l. p l && nat_lt l.number n) ls)
 
+-- ids stand by the command's number, then by client, then by the attempt's: later commands come last
+abbrev pub id_cmp : CmdId → CmdId → Ordering
+id_cmp x y = ordering_then (nat_cmp x.seq y.seq) (ordering_then (nat_cmp x.client y.client) (nat_cmp x.attempt y.attempt))
+
 -- whether the tag's id stands before this one, and whether it is this one
 abbrev pub is_before : CmdId → Tag → Bool
-is_before id t = is_lt (cmd_cmp t.id id)
+is_before id t = is_lt (id_cmp t.id id)
 
 abbrev pub has_id : CmdId → Tag → Bool
 has_id id t = same_id t.id id

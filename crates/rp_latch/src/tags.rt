@@ -15,7 +15,8 @@ pub struct Tag {
     pub number: u64,
 }
 
-/// Tags in the order of their ids. Contracts see the list, and apart from it the spare room.
+/// Tags in the order of their ids, later commands last, so that a tag mostly comes near the end.
+/// Contracts see the list, and apart from it the spare room.
 #[derive(Drop)]
 pub struct Tags {
     tags: VecDeque<Tag, Global>,
@@ -39,7 +40,7 @@ impl Model for Tags {
 fn is_before(id: CmdId, tag: &Tag) -> bool
     ensures { result ≡ is_before id tag.now }
 {
-    tag.id < id
+    (tag.id.seq, tag.id.client, tag.id.attempt) < (id.seq, id.client, id.attempt)
 }
 
 /// Whether the tag has this id.
