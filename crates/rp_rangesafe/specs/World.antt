@@ -74,7 +74,7 @@ pub data Event : Type 0 where
   Snapshot : (node to : ℕ) → Event
   -- a node's replica is removed
   Remove : (node : ℕ) → Event
-  -- a node restarts
+  -- a node restarts, and admits no more under the present lease sequence: its own ask of tick 0 gives it the next one
   Restart : (node : ℕ) → Event
 
 -- on this state the request lies in the bounds, and was evaluated so
