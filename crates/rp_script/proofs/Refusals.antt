@@ -10,7 +10,7 @@ use Rattle.rp_base.specs.declared.NumberFault.TheVariants as numbers
 use Rattle.rp_script.specs.Keywords.{request_word_of}
 use Rattle.rp_script.specs.Readers.{Reader, bad, going_on, behind, ◌>>=◌, whole, word_at, in_range, number_in, number_at, sent_of, seq_at, as_key, key_in, key_at, given, expect_at, bound_in, span_of, spanned, span_at}
 use Rattle.rp_script.specs.Requests.{put, add, cput, del, wipe, moving, split, request_of, request}
-use Rattle.rp_script.specs.Forms.{cluster, send, admit, again, draw, publish, ask, transfer, flush, apply, cut, remove, tick, deliver, peek, loss, settle, form}
+use Rattle.rp_script.specs.Forms.{cluster, send, admit, again, draw, publish, ask, transfer, flush, apply, cut, remove, restart, tick, deliver, peek, loss, settle, form}
 use Rattle.rp_script.specs.Causes.{IsNoNumber, IsNumber, IsCause, IsFront, Refuses}
 use Rattle.rp_script.specs.declared.faults.BadWord.{BadWord}
 use Rattle.rp_script.specs.declared.faults.LineKind.{LineKind}
@@ -328,6 +328,10 @@ tells_peek : (nodes : ℕ) → Tells 2 (peek nodes)
 unfolding peek
 tells_peek nodes = tells_number 2 _ _ _ (λ node. tells_number 3 _ _ _ (λ range. tells_key 4 _ (λ key. tells_whole 5 _)))
 
+tells_restart : (nodes : ℕ) → Tells 2 (restart nodes)
+unfolding restart
+tells_restart nodes = tells_number 2 _ _ _ (λ node. tells_whole 3 _)
+
 tells_settle : Tells 2 settle
 unfolding settle
 tells_settle = tells_number 2 _ _ _ (λ rounds. tells_whole 3 _)
@@ -350,6 +354,7 @@ tells_form keywords.Flush nodes commands h = tells_two _ _ _ _ _
 tells_form keywords.Apply nodes commands h = tells_two _ _ _ _ _
 tells_form keywords.Cut nodes commands h = tells_two _ _ _ _ _
 tells_form keywords.Remove nodes commands h = tells_two _ _ _ _ _
+tells_form keywords.Restart nodes commands h = tells_restart nodes
 tells_form keywords.Tick nodes commands h = tells_two _ _ _ _ _
 tells_form keywords.Deliver nodes commands h = tells_two _ _ _ _ _
 tells_form keywords.Peek nodes commands h = tells_peek nodes

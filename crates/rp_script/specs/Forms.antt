@@ -108,6 +108,12 @@ remove nodes = do
   range ← range_at 3
   whole 4 (lines.Remove node range)
 
+-- `restart N`
+unfoldable pub restart : ℕ → Reader ScriptLine
+restart nodes = do
+  node ← node_at 2 nodes
+  whole 3 (lines.Restart node)
+
 -- `tick N K`
 unfoldable pub tick : ℕ → Reader ScriptLine
 tick nodes = do
@@ -161,6 +167,7 @@ form keywords.Flush nodes commands = flush nodes
 form keywords.Apply nodes commands = apply nodes
 form keywords.Cut nodes commands = cut nodes
 form keywords.Remove nodes commands = remove nodes
+form keywords.Restart nodes commands = restart nodes
 form keywords.Tick nodes commands = tick nodes
 form keywords.Deliver nodes commands = deliver nodes
 form keywords.Peek nodes commands = peek nodes

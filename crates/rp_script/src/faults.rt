@@ -30,6 +30,8 @@ pub enum LineKind {
     OutOfRange,
     /// The word is no key.
     BadKey,
+    /// More than 64 bytes follow the apostrophe of a text.
+    BadText,
     /// The start of a wipe is not below its end.
     BadSpan,
     /// The client has not sent so many commands.
@@ -40,6 +42,10 @@ pub enum LineKind {
     BadByte,
     /// The form of the line is not built.
     NotBuilt,
+    /// A report is no JSON. No script is refused so.
+    NotJson,
+    /// A report's JSON is not that of a report. No script is refused so.
+    NotReport,
 }
 
 /// What a line of a script is refused for.

@@ -1,6 +1,6 @@
 ghost use Rattle.std.specs.Prelude.{◌≡◌, ◌≤◌, length, IfOk};
 ghost use Rattle.rp_script.specs.Bounds.{IsBounded};
-ghost use Rattle.rp_script.specs.Forms.{cluster, send, admit, again, draw, publish, ask, transfer, flush, apply, cut, remove, tick, deliver, peek, loss, settle, ending, form};
+ghost use Rattle.rp_script.specs.Forms.{cluster, send, admit, again, draw, publish, ask, transfer, flush, apply, cut, remove, restart, tick, deliver, peek, loss, settle, ending, form};
 
 use crate::faults::{BadWord, LineKind, bad_word};
 use crate::keywords::Keyword;
@@ -184,6 +184,18 @@ fn remove(words: &mut Words, nodes: u8) -> Result<ScriptLine, BadWord>
     Ok(ScriptLine::Remove { node, range })
 }
 
+/// `restart N`
+#[tactic(auto, unfolding(crate::specs::Forms::restart))]
+fn restart(words: &mut Words, nodes: u8) -> Result<ScriptLine, BadWord>
+    requires { nodes ≤ 5 }
+    ensures line { result ≡ restart nodes words.old }
+    ensures bounded { IfOk result IsBounded }
+{
+    let node = node_at(words, 2, nodes)?;
+    end_at(words, 3)?;
+    Ok(ScriptLine::Restart { node })
+}
+
 /// `tick N K`
 #[tactic(auto, unfolding(crate::specs::Forms::tick))]
 fn tick(words: &mut Words, nodes: u8) -> Result<ScriptLine, BadWord>
@@ -286,6 +298,7 @@ pub fn form(
         Keyword::Apply => apply(words, nodes),
         Keyword::Cut => cut(words, nodes),
         Keyword::Remove => remove(words, nodes),
+        Keyword::Restart => restart(words, nodes),
         Keyword::Tick => tick(words, nodes),
         Keyword::Deliver => deliver(words, nodes),
         Keyword::Peek => peek(words, nodes),

@@ -71,6 +71,10 @@ pub enum ScriptLine {
         node: NodeId,
         range: RangeId,
     },
+    /// The node starts again from what it keeps.
+    Restart {
+        node: NodeId,
+    },
     /// So many ticks, 1 to 10,000.
     Tick {
         node: NodeId,
