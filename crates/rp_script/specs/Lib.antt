@@ -9,4 +9,5 @@ pub mod Seen
 pub mod Meaning
 pub mod Reading
 pub mod Gives
+pub mod Wanted
 pub mod Causes

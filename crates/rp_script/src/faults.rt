@@ -4,7 +4,7 @@ ghost use Rattle.rp_script.specs.Seen.{line_fault};
 ghost use Rattle.rp_script.specs.declared.faults.ScriptStop.TheVariants.{Judged as judged_stop, NoMemory as no_memory};
 
 use rp_base::Which;
-use std::alloc::AllocFailed;
+use std::alloc::{AllocError, AllocFailed};
 use thiserror::Error;
 
 /// Why a line of a script is refused (this project).
@@ -100,6 +100,14 @@ impl<T: Drop> From<AllocFailed<T>> for ScriptStop {
     ghost from_gives = { λ _ e. e ≡ no_memory };
 
     fn from(_refused: AllocFailed<T>) -> ScriptStop {
+        ScriptStop::NoMemory
+    }
+}
+
+impl From<AllocError> for ScriptStop {
+    ghost from_gives = { λ _ e. e ≡ no_memory };
+
+    fn from(_refused: AllocError) -> ScriptStop {
         ScriptStop::NoMemory
     }
 }

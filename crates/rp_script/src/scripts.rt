@@ -1,6 +1,6 @@
 ghost use Rattle.std.specs.Prelude.{◌≡◌, ◌<◌, ◌≤◌, ◌+◌, ◌-◌, ◌==◌, [], length, IsTrue, None, Some, IfOk, IfSome, MatchResult, slice_index};
 ghost use Rattle.rp_script.specs.Words.{words_of};
-ghost use Rattle.rp_script.specs.Bounds.{IsBounded};
+ghost use Rattle.rp_script.specs.Bounds.{IsBounded, Follows};
 ghost use Rattle.rp_script.specs.Seen.{Seen, unseen, begins_send, limit_of, has_bad_byte, bad_byte_of, begins_comment, placed, said, judged, answer_of, counted, after, left, unended};
 
 use crate::faults::{BadWord, Excess, LineFault, LineKind, ScriptFault, bad_word, line_fault};
@@ -139,8 +139,7 @@ impl Script {
     /// Reads the words behind the first one, where a line that begins so may come.
     #[tactic(auto, unfolding(crate::specs::Seen::placed))]
     fn placed(&self, keyword: Keyword, words: &mut Words) -> Result<ScriptLine, BadWord>
-        ensures line { result ≡ placed self.now keyword words.old }
-        ensures bounded { IfOk result IsBounded }
+        ensures { result ≡ placed self.now keyword words.old }
     {
         match (self.nodes, keyword) {
             (None, Keyword::Cluster) => cluster(words),
@@ -158,8 +157,7 @@ impl Script {
     #[tactic(auto, unfolding(crate::specs::Seen::said))]
     fn said(&self, line: &[u8]) -> Result<Option<ScriptLine>, BadWord>
         requires { length line.now ≤ 256 }
-        ensures line { result ≡ said self.now (words_of line.now) }
-        ensures bounded { IfOk result (λ o. IfSome o IsBounded) }
+        ensures { result ≡ said self.now (words_of line.now) }
     {
         let bad = bad_byte_of(line);
         let mut words = Words::new(line);
@@ -184,10 +182,9 @@ impl Script {
 
     /// What the next line says; the script stays as it is.
     #[tactic(auto, unfolding(crate::specs::Seen::judged))]
-    pub(crate) fn judge(&self, line: &[u8]) -> Result<Option<ScriptLine>, ScriptFault>
+    fn judge_words(&self, line: &[u8]) -> Result<Option<ScriptLine>, ScriptFault>
         ensures line { result ≡ judged self.now line.now }
         ensures room { IfOk result (λ _. self.now.lines < 65536) }
-        ensures bounded { IfOk result (λ o. IfSome o IsBounded) }
     {
         if let Some(Excess { which, count }) = self.limit_of(line) {
             return Err(ScriptFault::Limit { which, count });
@@ -200,6 +197,17 @@ impl Script {
                 kind,
             }),
         }
+    }
+
+    /// The same, and that it may follow the lines that were taken.
+    #[tactic(auto, using(crate::proofs::Along::judged_follows, crate::proofs::Along::judged_bounded))]
+    pub(crate) fn judge(&self, line: &[u8]) -> Result<Option<ScriptLine>, ScriptFault>
+        ensures line { result ≡ judged self.now line.now }
+        ensures room { IfOk result (λ _. self.now.lines < 65536) }
+        ensures follows { IfOk result (λ o. IfSome o (Follows self.now)) }
+        ensures bounded { IfOk result (λ o. IfSome o IsBounded) }
+    {
+        self.judge_words(line)
     }
 
     /// Keeps what must be known of a line that was taken.
@@ -227,7 +235,7 @@ impl Script {
     pub fn take(&mut self, line: &[u8]) -> Result<Option<ScriptLine>, LineFault>
         ensures answer { result ≡ answer_of self.old line.now }
         ensures kept { self.new ≡ left self.old result }
-        ensures bounded { IfOk result (λ o. IfSome o IsBounded) }
+        ensures follows { IfOk result (λ o. IfSome o (Follows self.old)) }
     {
         match self.judge(line) {
             Ok(taken) => {

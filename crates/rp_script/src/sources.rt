@@ -1,6 +1,6 @@
 ghost use Rattle.std.specs.Prelude.{◌≡◌, ◌+◌, ◌≤◌, ◌<◌, length, IfOk, IfSome, OnOk};
 ghost use Rattle.rp_script.specs.Gives.{Gives};
-ghost use Rattle.rp_script.specs.Bounds.{IsBounded, IsTaken};
+ghost use Rattle.rp_script.specs.Bounds.{IsBounded, Follows, IsTaken, IsScript};
 ghost use Rattle.rp_script.specs.Built.{unbuilt_in};
 ghost use Rattle.std.specs.List.{AllByRecursion};
 ghost use Rattle.rp_script.specs.Meaning.{judged_in, meaning};
@@ -28,7 +28,7 @@ pub struct ScriptReader {
 impl Model for ScriptReader {
     ghost use Rattle.std.specs.Prelude.{◌+◌, ◌*◌, ◌≤◌, length};
     ghost use Rattle.std.specs.List.{AllByRecursion};
-    ghost use Rattle.rp_script.specs.Bounds.{IsTaken};
+    ghost use Rattle.rp_script.specs.Bounds.{IsTaken, IsAlong};
     ghost use Rattle.rp_script.specs.Reading.{Reading};
 
     ghost Value = { Reading };
@@ -38,7 +38,8 @@ impl Model for ScriptReader {
     ghost invariant = { λ r. (length r.line.items ≤ 256)
         × (r.script.lines * 257 + length r.line.items ≤ 16842752)
         × (length r.taken.items ≤ r.script.lines)
-        × AllByRecursion (IsTaken r.forms) r.taken.items };
+        × AllByRecursion (IsTaken r.forms) r.taken.items
+        × IsAlong r.script r.taken.items };
 }
 
 /// A limit is passed by this count.
@@ -81,6 +82,7 @@ impl ScriptReader {
     /// built.
     fn judge(&self) -> Result<Option<ScriptLine>, ScriptFault>
         ensures line { result ≡ judged_in self.now.forms self.now.seen self.now.line }
+        ensures follows { IfOk result (λ o. IfSome o (Follows self.now.seen)) }
         ensures bounded { IfOk result (λ o. IfSome o IsBounded) }
         ensures built { IfOk result (λ o. IfSome o (λ l. unbuilt_in self.now.forms l ≡ None)) }
     {
@@ -99,7 +101,7 @@ impl ScriptReader {
     }
 
     /// Ends the line that has begun.
-    #[tactic(auto, using(crate::proofs::Taken::taken_more))]
+    #[tactic(auto, using(crate::proofs::Taken::taken_more, crate::proofs::Along::along_more, crate::proofs::Along::along_skipped))]
     fn end_line(&mut self) -> Result<(), ScriptStop>
         requires { self.old.seen.lines < 65536 }
         ensures gives { Gives (λ _. self.new) result (line_ended self.old) }
@@ -109,10 +111,11 @@ impl ScriptReader {
     {
         let number = self.script.lines() + 1;
         let said = self.judge()?;
+        self.taken.reserve(1)?;
         self.script.keep(&said);
         self.line.clear();
         if let Some(line) = said {
-            self.taken.push(NumberedLine { number, line })?;
+            self.taken.push_reserved(NumberedLine { number, line });
         }
         Ok(())
     }
@@ -168,6 +171,7 @@ impl ScriptReader {
         ensures gives { Gives (λ lines. lines) result (finished self self.line) }
         ensures few { IfOk result (λ lines. length lines ≤ 65536) }
         ensures taken { IfOk result (λ lines. AllByRecursion (IsTaken self.forms) lines) }
+        ensures script { IfOk result IsScript }
     {
         if !self.line.is_empty() {
             self.end_line()?;
@@ -180,6 +184,7 @@ impl ScriptReader {
         ensures gives { Gives (λ lines. lines) result (closed self) }
         ensures few { IfOk result (λ lines. length lines ≤ 65536) }
         ensures taken { IfOk result (λ lines. AllByRecursion (IsTaken self.forms) lines) }
+        ensures script { IfOk result IsScript }
     {
         let ScriptReader {
             forms: _,
@@ -205,6 +210,7 @@ pub fn read_lines(
     ensures meaning { Gives (λ lines. lines) result (meaning forms race source.now) }
     ensures few { IfOk result (λ lines. length lines ≤ 65536) }
     ensures taken { IfOk result (λ lines. AllByRecursion (IsTaken forms) lines) }
+    ensures script { IfOk result IsScript }
 {
     let reader = match ScriptReader::new(alloc, race, forms).feed(source) {
         Ok(reader) => reader,
