@@ -15,8 +15,8 @@ pub enum Forms {
 }
 
 impl Forms {
-    /// The word, from 1, at which a line is not built: the number of a cluster of more than one node,
-    /// the request's word at a split, else the first word. `None` where the line is built.
+    /// The word, from 1, at which a line is not built: the number of a cluster of more than one
+    /// node, the request's word at a split, else the first word. `None` where the line is built.
     pub fn unbuilt_in(self, line: &ScriptLine) -> Option<u32>
         ensures { result ≡ unbuilt_in self line.now }
     {

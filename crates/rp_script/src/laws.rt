@@ -4,7 +4,8 @@ ghost use Rattle.rp_script.specs.Meaning.{AllAreBuilt};
 ghost use Rattle.rp_script.specs.Reading.{ReadsMeaning, ReadsPieces};
 ghost use Rattle.rp_script.specs.Causes.{RefusedExactly, LinesRefusedExactly, KindsOfRules, NotBuiltExactly};
 
-/// To read a script byte after byte, as the reader does, gives its meaning, which is said line by line.
+/// To read a script byte after byte, as the reader does, gives its meaning, which is said line by
+/// line.
 #[tactic(auto, using(crate::proofs::ReadsLines::reads_meaning))]
 pub fn reads_meaning()
     ensures { ReadsMeaning }
@@ -22,8 +23,8 @@ pub fn all_are_built()
     ensures { AllAreBuilt }
 {}
 
-/// A line that begins so is refused at its first word by a rule, or else at a later word that is wrong
-/// by its place, where all words in front of it are right; and so alone.
+/// A line that begins so is refused at its first word by a rule, or else at a later word that is
+/// wrong by its place, where all words in front of it are right; and so alone.
 #[tactic(auto, using(crate::proofs::Rules::refused_exactly))]
 pub fn refused_exactly()
     ensures { RefusedExactly }
@@ -41,8 +42,8 @@ pub fn kinds_of_rules()
     ensures { KindsOfRules }
 {}
 
-/// A line is refused as not built where the rules of the script take it and its form is not built, and
-/// nowhere else: where every form is built, no line is refused so.
+/// A line is refused as not built where the rules of the script take it and its form is not built,
+/// and nowhere else: where every form is built, no line is refused so.
 pub fn not_built_exactly()
     ensures { NotBuiltExactly }
 {}

@@ -43,7 +43,8 @@ fn bound_in(word: &[u8], at: u32) -> Result<Option<Key>, BadWord>
 
 /// Nothing follows the last word, which stands before word `at`.
 pub fn end_at(words: &mut Words, at: u32) -> Result<(), BadWord>
-    ensures { MatchResult result (λ _. is_whole words.old ≡ true) (λ e. (is_whole words.old ≡ false) × (e ≡ bad_word at LineKind.ExtraWord)) }
+    ensures whole { MatchResult result (λ _. is_whole words.old ≡ true)
+        (λ e. (is_whole words.old ≡ false) × (e ≡ bad_word at LineKind.ExtraWord)) }
 {
     match words.next() {
         None => Ok(()),

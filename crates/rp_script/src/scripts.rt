@@ -39,7 +39,11 @@ impl Model for Script {
       commands = s.commands;
     } };
 
-    ghost invariant = { λ s. (s.lines ≤ 65536) × (s.sends ≤ s.lines) × (length s.commands ≡ 64) × IfSome s.nodes (λ n. n ≤ 5) × ((k : ℕ) → slice_index s.commands k ≤ s.lines) };
+    ghost invariant = { λ s. (s.lines ≤ 65536)
+        × (s.sends ≤ s.lines)
+        × (length s.commands ≡ 64)
+        × IfSome s.nodes (λ n. n ≤ 5)
+        × ((k : ℕ) → slice_index s.commands k ≤ s.lines) };
 }
 
 /// Whether the first word of a line is `send`.
@@ -230,8 +234,8 @@ impl Script {
         self.lines += 1;
     }
 
-    /// Takes the next line, without its newline; None for a line without words or a comment. It takes
-    /// no memory. A refusal leaves the script as it was.
+    /// Takes the next line, without its newline; None for a line without words or a comment. It
+    /// takes no memory. A refusal leaves the script as it was.
     pub fn take(&mut self, line: &[u8]) -> Result<Option<ScriptLine>, LineFault>
         ensures answer { result ≡ answer_of self.old line.now }
         ensures kept { self.new ≡ left self.old result }
@@ -248,7 +252,8 @@ impl Script {
 
     /// Whether the source may end here: a line `cluster` and a line `end` were taken.
     pub fn finish(&self) -> Result<(), LineKind>
-        ensures { MatchResult result (λ _. unended self.now ≡ None) (λ kind. unended self.now ≡ Some kind) }
+        ensures { MatchResult result (λ _. unended self.now ≡ None)
+            (λ kind. unended self.now ≡ Some kind) }
     {
         match self.nodes {
             None => Err(LineKind::NoCluster),

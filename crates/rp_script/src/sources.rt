@@ -33,7 +33,12 @@ impl Model for ScriptReader {
 
     ghost Value = { Reading };
 
-    ghost view = { λ r. record { forms = r.forms; seen = r.script; line = r.line.items; taken = r.taken.items } };
+    ghost view = { λ r. record {
+      forms = r.forms;
+      seen = r.script;
+      line = r.line.items;
+      taken = r.taken.items;
+    } };
 
     ghost invariant = { λ r. (length r.line.items ≤ 256)
         × (r.script.lines * 257 + length r.line.items ≤ 16842752)
@@ -65,8 +70,8 @@ fn cut_off(line: u32, kind: LineKind) -> ScriptStop
 }
 
 impl ScriptReader {
-    /// Nothing was read. A race takes fewer forms of line, and a line of a form that is not built is
-    /// refused. It takes no memory.
+    /// Nothing was read. A race takes fewer forms of line, and a line of a form that is not built
+    /// is refused. It takes no memory.
     pub fn new(alloc: Global, race: bool, forms: Forms) -> ScriptReader
         ensures { result ≡ unread forms race }
     {
@@ -78,8 +83,8 @@ impl ScriptReader {
         }
     }
 
-    /// What the line that has begun says. Its own limit or refusal comes before that its form is not
-    /// built.
+    /// What the line that has begun says. Its own limit or refusal comes before that its form is
+    /// not built.
     fn judge(&self) -> Result<Option<ScriptLine>, ScriptFault>
         ensures line { result ≡ judged_in self.now.forms self.now.seen self.now.line }
         ensures follows { IfOk result (λ o. IfSome o (Follows self.now.seen)) }
@@ -101,7 +106,7 @@ impl ScriptReader {
     }
 
     /// Ends the line that has begun.
-    #[tactic(auto, using(crate::proofs::Taken::taken_more, crate::proofs::Along::along_more, crate::proofs::Along::along_skipped))]
+    #[tactic(auto, using(crate::proofs::Along::along_skipped))]
     fn end_line(&mut self) -> Result<(), ScriptStop>
         requires { self.old.seen.lines < 65536 }
         ensures gives { Gives (λ _. self.new) result (line_ended self.old) }
@@ -166,7 +171,8 @@ impl ScriptReader {
         Ok(self)
     }
 
-    /// Ends the source: a line that has begun ends with it. It gives the lines that are not skipped.
+    /// Ends the source: a line that has begun ends with it. It gives the lines that are not
+    /// skipped.
     pub fn finish(mut self) -> Result<Seq<NumberedLine>, ScriptStop>
         ensures gives { Gives (λ lines. lines) result (finished self self.line) }
         ensures few { IfOk result (λ lines. length lines ≤ 65536) }
@@ -199,8 +205,8 @@ impl ScriptReader {
     }
 }
 
-/// Reads a script that is at hand whole, where these forms of line are built: its lines that are not
-/// skipped, or what ends it.
+/// Reads a script that is at hand whole, where these forms of line are built: its lines that are
+/// not skipped, or what ends it.
 pub fn read_lines(
     alloc: Global,
     forms: Forms,

@@ -250,6 +250,7 @@ stays_showing w n most line (lines.Ask node range) s h = h
 stays_showing w n most line (lines.Transfer node range to) s h = h
 stays_showing w n most line (lines.Cut node range) s h = h
 stays_showing w n most line (lines.Remove node range) s h = h
+stays_showing w n most line (lines.Restart node) s h = h
 stays_showing w n most line (lines.Tick node count) s h = h
 stays_showing w n most line (lines.Deliver node number) s h = h
 stays_showing w n most line (lines.Loss percent salt) s h = h

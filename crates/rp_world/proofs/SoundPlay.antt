@@ -29,7 +29,7 @@ use Rattle.rp_script.specs.declared.lines.NumberedLine.{NumberedLine}
 use Rattle.rp_script.specs.declared.lines.ScriptLine.{ScriptLine}
 use Rattle.rp_script.specs.declared.lines.ScriptLine.TheVariants as lines
 use Rattle.rp_world.specs.Allows.{MayPlay, MaySend}
-use Rattle.rp_script.specs.Built.{unbuilt_request, unbuilt_word}
+use Rattle.rp_script.specs.Built.{unbuilt_in}
 use Rattle.rp_script.specs.Bounds.{IsTaken}
 use Rattle.rp_script.specs.declared.built.Forms.TheVariants.{OneNode}
 use Rattle.rp_world.specs.Notes.{absent_text, full_text}
@@ -218,22 +218,22 @@ either_sound w next n most line text false h k = noted_sound w n most line text 
 more_commands : (w : World) (n most : ℕ) → IsSound w n most → IsSound w (n + 1) most
 more_commands w n most h = record { clients = h.clients; counts = λ i. (let c = h.counts i in omega (arith, c)); waiting = h.waiting; replica = h.replica }
 
-built_plain : (q : Request) → unbuilt_request None q ≡ None → IsFalse (is_split q)
-built_plain (requests.Put key value) h = refl
-built_plain (requests.Add key by) h = refl
-built_plain (requests.CPut key expect value) h = refl
-built_plain (requests.Del key) h = refl
-built_plain (requests.Wipe span) h = refl
-built_plain (requests.Move from to by) h = refl
-built_plain (requests.Split key) h = cc
+built_plain : (node range client : ℕ) (q : Request) → unbuilt_in OneNode (lines.Send node range client q) ≡ None → IsFalse (is_split q)
+built_plain node range client (requests.Put key value) h = refl
+built_plain node range client (requests.Add key by) h = refl
+built_plain node range client (requests.CPut key expect value) h = refl
+built_plain node range client (requests.Del key) h = refl
+built_plain node range client (requests.Wipe span) h = refl
+built_plain node range client (requests.Move from to by) h = refl
+built_plain node range client (requests.Split key) h = cc
 
 peeked_sound : (w : World) (n most line key : ℕ) → IsSound w n most → IsSound (peeked w line key (happens w (events.Peek key)).answer) n most
 peeked_sound w n most line key h = noted_sound w n most line _ h
 
-pub stays_sound : (w : World) (n most line : ℕ) (l : ScriptLine) → IsSound w n most → IsBounded l → unbuilt_word l ≡ None → FlushFits w l
+pub stays_sound : (w : World) (n most line : ℕ) (l : ScriptLine) → IsSound w n most → IsBounded l → unbuilt_in OneNode l ≡ None → FlushFits w l
     → IsSound (played w line l) (n + 1) (most + 1)
 stays_sound w n most line (lines.Send node range client request) h bounded built fits =
-    sent_by w n most line client request (has_replica w range) bounded.0 bounded.1 (built_plain request built) h
+    sent_by w n most line client request (has_replica w range) bounded.0 bounded.1 (built_plain node range client request built) h
 stays_sound w n most line (lines.Flush node range) h bounded built fits =
     grown_sound _ n most (either_sound w (flushed (collected w)) n most line absent_text (has_replica w range) h
     (λ here. flushed_sound (collected w) n most (collected_sound w n most h) (fits here)))
@@ -253,6 +253,7 @@ stays_sound w n most line (lines.Ask node range) h bounded built fits = grown_so
 stays_sound w n most line (lines.Transfer node range to) h bounded built fits = grown_sound w n most h
 stays_sound w n most line (lines.Cut node range) h bounded built fits = grown_sound w n most h
 stays_sound w n most line (lines.Remove node range) h bounded built fits = grown_sound w n most h
+stays_sound w n most line (lines.Restart node) h bounded built fits = grown_sound w n most h
 stays_sound w n most line (lines.Tick node count) h bounded built fits = grown_sound w n most h
 stays_sound w n most line (lines.Deliver node number) h bounded built fits = grown_sound w n most h
 stays_sound w n most line (lines.Loss percent salt) h bounded built fits = grown_sound w n most h
@@ -295,6 +296,7 @@ may_play w n most (lines.Ask node range) h few small bounded = tt
 may_play w n most (lines.Transfer node range to) h few small bounded = tt
 may_play w n most (lines.Cut node range) h few small bounded = tt
 may_play w n most (lines.Remove node range) h few small bounded = tt
+may_play w n most (lines.Restart node) h few small bounded = tt
 may_play w n most (lines.Tick node count) h few small bounded = tt
 may_play w n most (lines.Deliver node number) h few small bounded = tt
 may_play w n most (lines.Loss percent salt) h few small bounded = tt

@@ -350,6 +350,7 @@ line_goes w f line (lines.Ask node range) bounded r lawful long k = went_none w 
 line_goes w f line (lines.Transfer node range to) bounded r lawful long k = went_none w f long k
 line_goes w f line (lines.Cut node range) bounded r lawful long k = went_none w f long k
 line_goes w f line (lines.Remove node range) bounded r lawful long k = went_none w f long k
+line_goes w f line (lines.Restart node) bounded r lawful long k = went_none w f long k
 line_goes w f line (lines.Tick node count) bounded r lawful long k = went_none w f long k
 line_goes w f line (lines.Deliver node number) bounded r lawful long k = went_none w f long k
 line_goes w f line (lines.Loss percent salt) bounded r lawful long k = went_none w f long k
