@@ -1,5 +1,5 @@
 ghost use Rattle.std.specs.Prelude.{IsTrue};
-ghost use Rattle.rp_apply.specs.Rooms.{Fits};
+ghost use Rattle.rp_request.specs.Applicable.{Fits};
 
 use crate::{ApplyState, Verdict, check};
 use rp_base::{CmdId, Key, Lease, LeaseAsk, LeaseIndex, LeaseSeq, NoMemory, NodeId, RangeId, Tick};

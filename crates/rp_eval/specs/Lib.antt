@@ -1,3 +1,2 @@
-pub mod Batches
-pub mod Evaluations
 pub mod Bounds
+pub mod Faults

@@ -1,26 +1,20 @@
 ghost use Rattle.std.specs.Prelude.{◌≡◌, ◌+◌, ◌≤◌, [], ◌∷◌, nat_lt, nat_le, ◌&&◌, if◌then◌else◌, unwrap_or, length, map, Ok, Err, IfOk, IfErr};
 ghost use Rattle.std.specs.FinMap.{get, keys};
 ghost use Rattle.rp_base.specs.Spans.{span_of};
-ghost use Rattle.rp_request.specs.Table.{greatest, value_at, part};
+ghost use Rattle.rp_base.specs.Tables.{greatest, value_at, part};
 ghost use Rattle.rp_request.specs.Effect as effects;
-ghost use Rattle.rp_eval.specs.Batches.{removes};
+ghost use Rattle.rp_request.specs.Batches.{removes};
 ghost use Rattle.rp_base.specs.declared.ranges.Desc.{Desc};
-ghost use Rattle.rp_eval.specs.Evaluations.{no_memory, split_fault, with_batch, evaluated, refusal_of, Gives, Does};
+ghost use Rattle.rp_request.specs.Evaluations.{with_batch, evaluated, Does};
+ghost use Rattle.rp_eval.specs.Faults.{no_memory, split_fault, refusal_of, Gives};
 
 use rp_base::{Desc, Key, NoMemory, Span, SplitFault};
 use rp_range::split_at;
-use rp_request::{Batch, Op, Refusal, Reply, Request};
+use rp_request::{Batch, Evaluated, Op, Refusal, Reply, Request};
 use rp_table::Table;
 use std::alloc::Global;
 use std::error::Error;
 use std::fmt;
-
-/// What a request writes, and its reply.
-#[derive(Drop)]
-pub struct Evaluated {
-    pub batch: Batch,
-    pub reply: Reply,
-}
 
 /// Why a request was not evaluated: a refusal, or want of memory.
 #[derive(Clone, Copy, Debug, PartialEq, Eq)]

@@ -4,8 +4,9 @@ ghost use Rattle.rp_base.specs.declared.ids.CmdId.{CmdId};
 ghost use Rattle.rp_flush.specs.Assigns.{assigned_of};
 ghost use Rattle.rp_flush.specs.Steps.{cmd_cmp, is_write_of, settled, with_item};
 
-use crate::waits::{WaitList, seqs_by_id};
+use crate::waits::seqs_by_id;
 use rp_base::{CmdId, Item, Items, Lease, LeaseAsk, LeaseIndex, LeaseSeq, NoMemory, Seq};
+use rp_request::WaitList;
 use std::alloc::Global;
 use std::collections::BTreeMap;
 

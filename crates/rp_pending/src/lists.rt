@@ -9,7 +9,7 @@ use crate::proposals::{Change, Proposal};
 use crate::refreshes::{self, Ids, Refresh};
 use crate::slots::{Slots, change, clear, get, put, take, tidy};
 use rp_base::{CmdId, LeaseIndex, NoMemory, Tick};
-use rp_flush::WaitList;
+use rp_request::WaitList;
 use std::alloc::Global;
 use std::marker::Model;
 

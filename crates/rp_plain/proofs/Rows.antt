@@ -6,7 +6,7 @@ use Rattle.std.specs.Ordering.{nat_cmp, eq_by_cmp}
 use Rattle.std.specs.Cmp.{nat_cmp_total}
 use Rattle.std.specs.FinMap.{get, remove, retain_keys, len, from_entries, get-from_entries, len-insert, len-empty}
 use Rattle.std.specs.FinMap.Entries.{find, where_key, find-where_key}
-use Rattle.rp_request.specs.Table.{Table, is_between, count_in}
+use Rattle.rp_base.specs.Tables.{Table, is_between, count_in}
 use Rattle.rp_request.proofs.Tables.{same_table, alike, get_kept, get_removed}
 
 -- the rows whose keys pass a test make the part that passes it

@@ -9,7 +9,7 @@ use Rattle.rp_base.specs.declared.ranges.SplitFault.{SplitFault}
 use Rattle.rp_base.specs.declared.ranges.SplitFault.TheVariants.{NotInside, SplitLimit}
 use Rattle.rp_request.specs.declared.items.Place.{Place}
 use Rattle.rp_request.specs.declared.items.Place.TheVariants.{Write, Split, Lease}
-use Rattle.rp_request.specs.Table.{Table, from_on}
+use Rattle.rp_base.specs.Tables.{Table, from_on}
 use Rattle.rp_request.specs.Items.{State, left_by, after_item, fold}
 use Rattle.rp_request.specs.Effect.{split}
 use Rattle.rp_request.specs.Starts.{IsRightStart, SplitsOff}

@@ -5,7 +5,7 @@ use Rattle.rp_base.specs.declared.ranges.Desc.{Desc}
 use Rattle.rp_base.specs.declared.ranges.SplitFault.{SplitFault}
 use Rattle.rp_request.specs.declared.items.Place.{Place}
 use Rattle.rp_request.specs.declared.items.Place.TheVariants.{Write, Split, Lease}
-use Rattle.rp_request.specs.Table.{from_on}
+use Rattle.rp_base.specs.Tables.{from_on}
 use Rattle.rp_request.specs.Items.{State, after_item}
 
 -- the state from the key on, with the right one of two descriptions

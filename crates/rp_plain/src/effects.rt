@@ -1,6 +1,6 @@
 ghost use Rattle.std.specs.Prelude.{◌≡◌, ◌≤◌, IfOk};
 ghost use Rattle.rp_base.specs.Splits.{split_of};
-ghost use Rattle.rp_request.specs.Table.{value_at};
+ghost use Rattle.rp_base.specs.Tables.{value_at};
 ghost use Rattle.rp_request.specs.Effect.{effect, writes, add, put_if, wipe, pass_on, move, split};
 
 use crate::tables::PlainTable;
@@ -19,7 +19,7 @@ pub struct PlainEffect {
 
 impl Model for PlainEffect {
     ghost use Rattle.std.specs.Coded.{codes};
-    ghost use Rattle.rp_request.specs.Table.{table_code};
+    ghost use Rattle.rp_base.specs.Tables.{table_code};
     ghost use Rattle.rp_request.specs.Effect.{Effect};
 
     ghost Value = { Effect };

@@ -22,7 +22,7 @@ pub struct PlainState {
 
 impl Model for PlainState {
     ghost use Rattle.std.specs.Coded.{codes};
-    ghost use Rattle.rp_request.specs.Table.{table_code};
+    ghost use Rattle.rp_base.specs.Tables.{table_code};
     ghost use Rattle.rp_request.specs.Items.{State};
 
     ghost Value = { State };

@@ -2,7 +2,7 @@ ghost use Rattle.std.specs.Prelude.{◌≡◌, ◌&&◌, is_none, IfOk, not, nat
 ghost use Rattle.std.specs.Ordering.{nat_cmp};
 ghost use Rattle.std.specs.FinMap as map;
 ghost use Rattle.std.specs.FinMap.Entries.{find, where_key};
-ghost use Rattle.rp_request.specs.Table.{is_between, value_at, count_in, without, below, from_on};
+ghost use Rattle.rp_base.specs.Tables.{is_between, value_at, count_in, without, below, from_on};
 
 use rp_base::{Key, NoMemory, Span};
 use std::alloc::Global;
@@ -16,7 +16,7 @@ pub struct PlainTable {
 
 impl Model for PlainTable {
     ghost use Rattle.std.specs.FinMap.{from_entries};
-    ghost use Rattle.rp_request.specs.Table.{Table, table_code};
+    ghost use Rattle.rp_base.specs.Tables.{Table, table_code};
 
     ghost Value = { Table };
 

@@ -8,7 +8,7 @@ use Rattle.rp_base.specs.declared.leases.Lease as leases
 use Rattle.rp_base.specs.declared.leases.LeaseAsk.{LeaseAsk}
 use Rattle.rp_request.specs.declared.commands.Payload.{Payload}
 use Rattle.rp_request.specs.declared.commands.Payload.TheVariants as payloads
-use Rattle.rp_codec.specs.Fits.{FitsPayload}
+use Rattle.rp_request.specs.Fits.{FitsPayload}
 use Rattle.rp_flush.specs.Assigns.{assigned_of}
 use Rattle.rp_flush.specs.declared.assigns.Assigned.{Assigned}
 use Rattle.rp_pending.specs.Refreshes.{waiting_of}

@@ -1,7 +1,7 @@
 -- What a flush writes holds numbers of their widths.
 use Rattle.std.specs.Prelude.{max}
 use Rattle.std.specs.List.{AllByRecursion}
-use Rattle.rp_codec.specs.Fits.{FitsPayload}
+use Rattle.rp_request.specs.Fits.{FitsPayload}
 use Rattle.rp_flush.specs.Assigns.{assigned_of}
 use Rattle.rp_flush.specs.declared.assigns.Assigned.{Assigned}
 use Rattle.rp_pending.specs.Refreshes.{waiting_of}

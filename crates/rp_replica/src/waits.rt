@@ -4,9 +4,9 @@ ghost use Rattle.rp_pending.specs.Refreshes.{waiting_of};
 ghost use Rattle.rp_replica.specs.Waits.{waiting_in, waits_in};
 
 use rp_base::{Item, Items, Lease, LeaseIndex, NoMemory};
-use rp_flush::{Assigned, WaitList, assign};
+use rp_flush::{Assigned, assign};
 use rp_pending::{Pending, Stage};
-use rp_request::Waiting;
+use rp_request::{WaitList, Waiting};
 use std::alloc::Global;
 
 /// The attempt that an item names, where it is pending and waits.

@@ -13,7 +13,7 @@ use Rattle.rp_request.specs.declared.outcomes.Refusal.{Refusal}
 use Rattle.rp_request.specs.declared.outcomes.Refusal.TheVariants.{NoReplica}
 use Rattle.rp_request.specs.declared.requests.Request.{Request}
 use Rattle.rp_request.specs.declared.requests.Request.TheVariants as requests
-use Rattle.rp_eval.specs.declared.evaluations.Evaluated.{Evaluated}
+use Rattle.rp_request.specs.declared.evaluations.Evaluated.{Evaluated}
 use Rattle.rp_pending.specs.Proposals.{has_id, proposal_of}
 use Rattle.rp_pending.specs.declared.proposals.Proposal.{Proposal}
 use Rattle.rp_raftlog.specs.LogState.{entry_at, last_index}
@@ -22,7 +22,7 @@ use Rattle.rp_replica.specs.Allows.{MayFlush}
 use Rattle.rp_replica.specs.Admissions.{admitted_by, guarded, proposal}
 use Rattle.rp_replica.specs.Applications.{applied_where, payload_of}
 use Rattle.rp_replica.specs.Replicas.{Replica}
-use Rattle.rp_replica.proofs.Known.{one_id}
+use Rattle.rp_base.proofs.IdLaws.{same_is}
 use Rattle.rp_replica.specs.declared.events.ReplicaEvent.TheVariants as events
 use Rattle.rp_script.specs.Bounds.{IsBounded}
 use Rattle.rp_script.specs.declared.lines.NumberedLine.{NumberedLine}
@@ -268,7 +268,7 @@ fresh : (counts : List ℕ) (id : CmdId) (ps : List Proposal) → AllByRecursion
 fresh counts id [] h new = refl
 fresh counts id (p ∷ ps) h new =
     fresh_by (has_id id p) p (proposal_of id ps)
-    (λ same. (let old = subst (λ (i : CmdId). i.seq ≤ get_or counts (i.client - 1) 0) (sym (one_id id p.id same)) h.0.count in absurd (omega (arith, old, new))))
+    (λ same. (let old = subst (λ (i : CmdId). i.seq ≤ get_or counts (i.client - 1) 0) (sym (same_is id p.id same)) h.0.count in absurd (omega (arith, old, new))))
     (fresh counts id ps h.1 new)
 
 may_flush : (w : World) (n most : ℕ) → IsSound w n most → most ≤ 65536 → MayFlush w.replica

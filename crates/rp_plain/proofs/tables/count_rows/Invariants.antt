@@ -1,6 +1,6 @@
 use Rattle.std.proofs.Common.{◌≡◌, ◌+◌, ◌≤◌, length}
 use Rattle.std.specs.FinMap.{from_entries}
-use Rattle.rp_request.specs.Table.{count_in}
+use Rattle.rp_base.specs.Tables.{count_in}
 use Rattle.rp_plain.proofs.tables.count_rows.Given as goal
 
 abbrev pub invariant-loop-rest : goal.invariant-loop-rest

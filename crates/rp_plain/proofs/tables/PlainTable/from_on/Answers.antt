@@ -1,7 +1,7 @@
 use Rattle.std.proofs.Common.{nat_le, ap, ◌∙◌}
 use Rattle.std.specs.Ordering.{nat_cmp}
 use Rattle.std.specs.FinMap.{from_entries}
-use Rattle.rp_request.specs.Table.{from_on}
+use Rattle.rp_base.specs.Tables.{from_on}
 use Rattle.rp_plain.proofs.Rows.{kept}
 use Rattle.rp_plain.proofs.tables.PlainTable.from_on.Goals as goal
 

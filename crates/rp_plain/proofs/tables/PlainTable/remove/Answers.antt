@@ -1,7 +1,7 @@
 use Rattle.std.proofs.Common.{◌+◌, not, ap, ◌∙◌}
 use Rattle.std.specs.Ordering.{nat_cmp}
 use Rattle.std.specs.FinMap.{from_entries, remove}
-use Rattle.rp_request.specs.Table.{is_between}
+use Rattle.rp_base.specs.Tables.{is_between}
 use Rattle.rp_plain.proofs.Rows.{kept, removed}
 use Rattle.rp_plain.proofs.tables.PlainTable.remove.Goals as goal
 

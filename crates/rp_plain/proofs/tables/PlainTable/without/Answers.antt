@@ -1,7 +1,7 @@
 use Rattle.std.proofs.Common.{not, ap, ◌∙◌}
 use Rattle.std.specs.Ordering.{nat_cmp}
 use Rattle.std.specs.FinMap.{from_entries}
-use Rattle.rp_request.specs.Table.{is_between, without}
+use Rattle.rp_base.specs.Tables.{is_between, without}
 use Rattle.rp_plain.proofs.Rows.{kept}
 use Rattle.rp_plain.proofs.tables.PlainTable.without.Goals as goal
 
