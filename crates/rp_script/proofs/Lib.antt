@@ -10,3 +10,4 @@ pub mod Rules
 pub mod NotBuilt
 pub mod Taken
 pub mod Along
+pub mod LongTexts

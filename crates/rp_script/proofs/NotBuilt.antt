@@ -3,7 +3,7 @@ use Rattle.std.proofs.Common.{◌≡◌, ◌⊎◌, inl, inr, ℕ, zero, suc, �
 use Rattle.std.specs.Prelude.{IfErr, if◌then◌else◌}
 use Rattle.rp_script.specs.Words.{words_of}
 use Rattle.rp_script.specs.Keywords.{keyword_of}
-use Rattle.rp_script.specs.Wanted.{Wanted, Number, CommandNumber, KeyName, Expected, EndFrom, RequestName}
+use Rattle.rp_script.specs.Wanted.{Wanted, Number, CommandNumber, KeyName, ValueWord, Expected, EndFrom, RequestName}
 use Rattle.rp_script.specs.Seen.{Seen, limit_of, bad_byte_of, begins_comment, placed, skipped, unless_bad, said, at_line, unless_limited, judged}
 use Rattle.rp_script.specs.Built.{unbuilt_in}
 use Rattle.rp_script.specs.Meaning.{◌>>=◌, unless_unbuilt, built_at, judged_in}
@@ -38,6 +38,10 @@ by_wrong KeyName kinds.NotBuilt word h = h
 by_wrong KeyName kinds.NotJson word h = h
 by_wrong KeyName kinds.NotReport word h = h
 by_wrong KeyName kind word h = tt
+by_wrong ValueWord kinds.NotBuilt word h = h
+by_wrong ValueWord kinds.NotJson word h = h
+by_wrong ValueWord kinds.NotReport word h = h
+by_wrong ValueWord kind word h = tt
 by_wrong Expected kinds.NotBuilt word h = h
 by_wrong Expected kinds.NotJson word h = h
 by_wrong Expected kinds.NotReport word h = h

@@ -3,10 +3,14 @@ use Rattle.std.proofs.Common.{◌≡◌, ◌≢◌, ◌⊎◌, inl, inr, ℕ, �
 use Rattle.std.specs.Prelude.{IfSome, IfOk, IsSome, IsNone, if◌then◌else◌}
 use Rattle.rp_script.specs.Keywords.{is_barred_in_race, keyword_of}
 use Rattle.rp_script.specs.Readers.{bad, bad_word}
+use Rattle.rp_request.specs.Fits.{FitsRequest}
+use Rattle.rp_request.specs.declared.requests.Request.{Request}
+use Rattle.rp_script.specs.Requests.{request}
+use Rattle.rp_script.specs.Wanted.{request as wanted_request}
 use Rattle.rp_script.specs.Forms.{form}
 use Rattle.rp_script.specs.Bounds.{IsFirst, Fits, FollowsIn, Follows}
 use Rattle.rp_script.specs.Seen.{Seen, bad_byte_of, begins_comment, skipped, unless_bad, placed_by, placed, said}
-use Rattle.rp_script.specs.Causes.{Refuses, wants_in, IsRule, IsTakenWord, IsRefusal, RefusedExactly, IsLineRefusal, LinesRefusedExactly}
+use Rattle.rp_script.specs.Causes.{Refuses, wants_in, IsRule, IsTakenWord, IsRefusal, RefusedExactly, IsLineRefusal, LinesRefusedExactly, RequestsRefusedExactly}
 use Rattle.rp_script.specs.declared.faults.BadWord.{BadWord}
 use Rattle.rp_script.specs.declared.faults.LineKind.{LineKind}
 use Rattle.rp_script.specs.declared.faults.LineKind.TheVariants as kinds
@@ -14,7 +18,7 @@ use Rattle.rp_script.specs.declared.keywords.Keyword.{Keyword}
 use Rattle.rp_script.specs.declared.keywords.Keyword.TheVariants as keywords
 use Rattle.rp_script.specs.declared.lines.ScriptLine.{ScriptLine}
 use Rattle.rp_script.proofs.FirstWrong.{first_wrong, refuses_first, first_refused}
-use Rattle.rp_script.proofs.Taking.{Agrees, reads_cluster, IsLater, reads_form}
+use Rattle.rp_script.proofs.Taking.{Agrees, reads_request, reads_cluster, IsLater, reads_form}
 
 abbrev is_cluster : Keyword → Bool
 is_cluster keywords.Cluster = true
@@ -257,3 +261,28 @@ takes s k words (Ok line) is (taken t agrees) = agrees.1
 
 pub placed_follows : (s : Seen) (k : Keyword) (words : List (List ℕ)) → IfOk (placed s k words) (Follows s)
 placed_follows s k words = takes s k words (placed s k words) refl (read_line s k words)
+
+-- the words of a request alone
+request_caused : (words : List (List ℕ)) (e : BadWord) (r : Result Request BadWord) → Agrees FitsRequest r (first_wrong 5 (wanted_request words) words) → r ≡ Err e
+    → Refuses 5 (wanted_request words) words e
+request_caused words e (Ok q) agrees err = absurd (cc)
+request_caused words e (Err d) agrees err =
+    subst (λ o. IfSome o (Refuses 5 (wanted_request words) words)) (agrees ∙ ap Some (same_bad d e err)) (refuses_first 5 (wanted_request words) words)
+
+request_refused : (words : List (List ℕ)) (e : BadWord) (r : Result Request BadWord) → Agrees FitsRequest r (first_wrong 5 (wanted_request words) words)
+    → Refuses 5 (wanted_request words) words e → r ≡ Err e
+request_refused words e (Ok q) agrees refuses =
+    let first : first_wrong 5 (wanted_request words) words ≡ Some e = first_refused 5 (wanted_request words) words refuses.0 e refuses.1 refuses.2 in
+    absurd (let none : first_wrong 5 (wanted_request words) words ≡ None = agrees.0 in cc)
+request_refused words e (Err d) agrees refuses =
+    ap (λ (x : BadWord). let r : Result Request BadWord = Err x in r) (one_first (first_wrong 5 (wanted_request words) words) d e agrees (first_refused 5 (wanted_request words) words refuses.0 e refuses.1 refuses.2))
+
+pub requests_refused_exactly : RequestsRefusedExactly
+requests_refused_exactly words e = (request_caused words e (request words) (reads_request.agrees words), request_refused words e (request words) (reads_request.agrees words))
+
+pub request_fits : (words : List (List ℕ)) → IfOk (request words) FitsRequest
+request_fits words = fits (request words) (reads_request.agrees words)
+  where
+    fits : (r : Result Request BadWord) → Agrees FitsRequest r (first_wrong 5 (wanted_request words) words) → IfOk r FitsRequest
+    fits (Ok q) h = h.1
+    fits (Err e) h = tt

@@ -1,19 +1,28 @@
 -- What each form of line takes, and what it refuses.
-use Rattle.std.proofs.Common.{◌≡◌, ℕ, suc, ◌+◌, ◌-◌, ◌^◌, ◌&&◌, ◌≤◌, ◌<◌, Bool, true, false, List, [], ◌∷◌, drop, Option, None, Some, Result, Ok, Err, refl, ap, ◌∙◌, sym, subst, arith, nat_le, nat_lt}
+use Rattle.std.proofs.Common.{◌≡◌, ℕ, suc, ◌+◌, ◌-◌, ◌^◌, ◌&&◌, ◌≤◌, ◌<◌, ◌==◌, Bool, true, false, List, [], ◌∷◌, drop, Option, None, Some, Result, Ok, Err, refl, ap, ◌∙◌, sym, subst, arith, nat_le, nat_lt}
 use Rattle.std.specs.Prelude.{IfSome, codes, if◌then◌else◌}
 use Rattle.std.specs.Str.{bytes_eq}
 use Rattle.std.proofs.lemmas.Bool.Decides.{nat_tests}
 use Rattle.rp_base.specs.Numbers.{number_of, u64_of}
 use Rattle.rp_base.specs.Keys.{key_of, end_of, IsKey}
+use Rattle.rp_base.specs.ClientCounts.{count_of}
+use Rattle.rp_base.specs.ShortTexts.{text_of, IsText}
+use Rattle.rp_base.specs.Values.{IsValue}
+use Rattle.rp_base.specs.Spans.{key_span_by}
+use Rattle.rp_base.proofs.TextLaws.{text_as_read}
 use Rattle.rp_base.specs.declared.BadKey.{BadKey}
+use Rattle.rp_base.specs.declared.BadText.{BadText}
+use Rattle.rp_base.specs.declared.Value.{Value}
+use Rattle.rp_base.specs.declared.Value.TheVariants as values
+use Rattle.rp_request.specs.Fits.{FitsRequest, FitsOption, FitsEnd}
 use Rattle.rp_base.specs.declared.KeySpan.{KeySpan}
 use Rattle.rp_request.specs.declared.requests.Request.{Request}
 use Rattle.rp_script.specs.Keywords.{request_word_of}
-use Rattle.rp_script.specs.Readers.{Reader, bad, bad_word, going_on, behind, ◌>>=◌, whole, word_at, in_range, number_in, number_at, sent, sent_of, seq_at, as_key, key_in, key_at, given, expect_at, bound_in, span_of, spanned, span_at}
+use Rattle.rp_script.specs.Readers.{Reader, bad, bad_word, going_on, behind, ◌>>=◌, whole, word_at, in_range, number_in, number_at, sent_of, seq_at, as_key, key_in, key_at, as_text, as_number, value_in, value_at, given, expect_at, bound_in, as_span, spanned, span_at}
 use Rattle.rp_script.specs.Requests.{put, add, cput, del, wipe, moving, split, request_of, request}
 use Rattle.rp_script.specs.Forms.{cluster, send, admit, again, draw, publish, ask, transfer, flush, apply, cut, remove, restart, tick, deliver, peek, loss, settle, form}
-use Rattle.rp_script.specs.Bounds.{IsFromTo, IsRequest, Fits, IsFirst}
-use Rattle.rp_script.specs.Wanted.{Wanted, Number, CommandNumber, KeyName, Expected, EndFrom, RequestName, request_wants, request as wanted_request, wants}
+use Rattle.rp_script.specs.Bounds.{IsFromTo, Fits, IsFirst}
+use Rattle.rp_script.specs.Wanted.{Wanted, Number, CommandNumber, KeyName, ValueWord, Expected, EndFrom, RequestName, request_wants, request as wanted_request, wants}
 use Rattle.rp_script.proofs.Wrong.{NumberView, none, fits, large, number_view, kind_in, end_wrong, name_wrong, wrong}
 use Rattle.rp_script.proofs.FirstWrong.{or_behind, first_wrong}
 use Rattle.rp_script.specs.declared.faults.BadWord.{BadWord}
@@ -117,11 +126,11 @@ reads_command at count f rest P goes = record {
 
 -- the command of a client whose word was read
 reads_command_of : {B : Type 0} (at : ℕ) (commands : List ℕ) (word : List ℕ) (client : ℕ) (f : ℕ → Reader B) (P : B → Type 0) → number_of word ≡ client
-    → ((n : ℕ) → IsFromTo 1 (sent commands client) n → Reads (at + 1) (λ words. []) (f n) P)
-    → Reads at (λ words. CommandNumber (sent commands (number_of word)) ∷ []) (seq_at at (sent commands client) >>= f) P
+    → ((n : ℕ) → IsFromTo 1 (count_of commands client) n → Reads (at + 1) (λ words. []) (f n) P)
+    → Reads at (λ words. CommandNumber (count_of commands (number_of word)) ∷ []) (seq_at at (count_of commands client) >>= f) P
 reads_command_of at commands word client f P same goes =
-    subst (λ (n : ℕ). Reads at (λ words. CommandNumber (sent commands n) ∷ []) (seq_at at (sent commands client) >>= f) P) (sym same)
-    (reads_command at (sent commands client) f (λ words. []) P (λ other n h. goes n h))
+    subst (λ (n : ℕ). Reads at (λ words. CommandNumber (count_of commands n) ∷ []) (seq_at at (count_of commands client) >>= f) P) (sym same)
+    (reads_command at (count_of commands client) f (λ words. []) P (λ other n h. goes n h))
 
 -- keys
 abbrev IsKeyOf : List ℕ → ℕ → Type 0
@@ -141,52 +150,75 @@ reads_key : {B : Type 0} (at : ℕ) (f : ℕ → Reader B) (rest : List (List �
 unfolding key_at
 reads_key at f rest P goes = record { agrees = word_reads at (key_in at) f KeyName IsKeyOf rest P (key_in_word at) goes }
 
+-- values
+is_value : (n : ℕ) → n ≤ 2 ^ 64 - 1 → n < 2 ^ 64
+is_value n h = omega (arith, h)
+
+numbered_word : (at : ℕ) (word : List ℕ) (r : Result ℕ BadWord) (kind : Option LineKind) (s : Result ℕ BadWord) → Word at (IsNumberFrom 0 (2 ^ 64 - 1) word) r (kind_in s)
+    → Word at IsValue (as_number r) (kind_in (as_number s))
+numbered_word at word (Ok n) kind (Ok m) h = (refl, is_value n h.1.1.1)
+numbered_word at word (Ok n) kind (Err e) h = absurd (let none : Some e.kind ≡ None = h.0 in cc)
+numbered_word at word (Err e) kind (Ok m) h = absurd (let none : None ≡ Some e.kind = h.1 in cc)
+numbered_word at word (Err e) kind (Err d) h = h
+
+plain_word : (at : ℕ) (word : List ℕ) → Word at IsValue (as_number (number_in at 0 (2 ^ 64 - 1) word)) (kind_in (as_number (number_in 0 0 (2 ^ 64 - 1) word)))
+plain_word at word = numbered_word at word _ None _ (number_word at 0 (2 ^ 64 - 1) word (number_view word))
+
+text_word : (at : ℕ) (bytes : List ℕ) (r : Result (List ℕ) BadText) → text_of bytes ≡ r → Word at IsValue (as_text at r) (kind_in (as_text 0 r))
+text_word at bytes (Ok text) is = (refl, (text_as_read bytes text is).1)
+text_word at bytes (Err e) is = (refl, refl)
+
+begun_word : (at b : ℕ) (bytes : List ℕ) (v : Bool)
+    → Word at IsValue (if v then as_text at (text_of bytes) else as_number (number_in at 0 (2 ^ 64 - 1) (b ∷ bytes)))
+    (kind_in (if v then as_text 0 (text_of bytes) else as_number (number_in 0 0 (2 ^ 64 - 1) (b ∷ bytes))))
+begun_word at b bytes true = text_word at bytes (text_of bytes) refl
+begun_word at b bytes false = plain_word at (b ∷ bytes)
+
+value_word : (at : ℕ) (word : List ℕ) → Word at IsValue (value_in at word) (wrong ValueWord word)
+unfolding value_in
+value_word at [] = plain_word at []
+value_word at (b ∷ bytes) = begun_word at b bytes (b == 39)
+
+reads_value : {B : Type 0} (at : ℕ) (f : Value → Reader B) (rest : List (List ℕ) → List Wanted) (P : B → Type 0)
+    → ((word : List ℕ) (v : Value) → IsValue v → Reads (at + 1) (λ words. rest (word ∷ words)) (f v) P)
+    → Reads at (λ words. ValueWord ∷ rest words) (value_at at >>= f) P
+unfolding value_at
+reads_value at f rest P goes = record { agrees = word_reads at (value_in at) f ValueWord (λ word. IsValue) rest P (value_word at) goes }
+
 -- an expected value
-given_word : (at : ℕ) (Q : ℕ → Type 0) (r s : Result ℕ BadWord) → Word at Q r (kind_in s) → Word at (λ o. IfSome o Q) (given r) (kind_in (given s))
-given_word at Q (Ok x) (Ok y) h = (h.0, h.1)
-given_word at Q (Ok x) (Err e) h = absurd (let none : Some e.kind ≡ None = h.0 in cc)
-given_word at Q (Err e) (Ok y) h = absurd (let none : None ≡ Some e.kind = h.1 in cc)
-given_word at Q (Err e) (Err d) h = h
+given_word : {A : Type 0} (at : ℕ) (Q : A → Type 0) (P : Option A → Type 0) → ((x : A) → Q x → P (Some x)) → (r s : Result A BadWord) → Word at Q r (kind_in s)
+    → Word at P (given r) (kind_in (given s))
+given_word at Q P some (Ok x) (Ok y) h = (refl, some x h.1)
+given_word at Q P some (Ok x) (Err e) h = absurd (let none : Some e.kind ≡ None = h.0 in cc)
+given_word at Q P some (Err e) (Ok y) h = absurd (let none : None ≡ Some e.kind = h.1 in cc)
+given_word at Q P some (Err e) (Err d) h = h
 
 unless_word : {A : Type 0} (at : ℕ) (x : A) (Q : A → Type 0) (r s : Result A BadWord) (v : Bool) → Q x → Word at Q r (kind_in s)
     → Word at Q (if v then Ok x else r) (kind_in (if v then Ok x else s))
 unless_word at x Q r s true q h = (refl, q)
 unless_word at x Q r s false q h = h
 
-is_value : (n : ℕ) → n ≤ 2 ^ 64 - 1 → n < 2 ^ 64
-is_value n h = omega (arith, h)
-
-value_word : (at : ℕ) (word : List ℕ) → Word at (λ n. n < 2 ^ 64) (number_in at 0 (2 ^ 64 - 1) word) (wrong (Number 0 (2 ^ 64 - 1)) word)
-value_word at word = weaker (number_in at 0 (2 ^ 64 - 1) word) (wrong (Number 0 (2 ^ 64 - 1)) word) (number_word at 0 (2 ^ 64 - 1) word (number_view word))
-  where
-    weaker : (r : Result ℕ BadWord) (kind : Option LineKind) → Word at (IsNumberFrom 0 (2 ^ 64 - 1) word) r kind → Word at (λ n. n < 2 ^ 64) r kind
-    weaker (Ok n) kind h = (h.0, is_value n h.1.1.1)
-    weaker (Err e) kind h = h
-
-reads_expected : {B : Type 0} (at : ℕ) (f : Option ℕ → Reader B) (rest : List (List ℕ) → List Wanted) (P : B → Type 0)
-    → ((word : List ℕ) (o : Option ℕ) → IfSome o (λ n. n < 2 ^ 64) → Reads (at + 1) (λ words. rest (word ∷ words)) (f o) P)
+reads_expected : {B : Type 0} (at : ℕ) (f : Option Value → Reader B) (rest : List (List ℕ) → List Wanted) (P : B → Type 0)
+    → ((word : List ℕ) (o : Option Value) → FitsOption o → Reads (at + 1) (λ words. rest (word ∷ words)) (f o) P)
     → Reads at (λ words. Expected ∷ rest words) (expect_at at >>= f) P
 unfolding expect_at
 reads_expected at f rest P goes = record {
-  agrees = word_reads at _ f Expected (λ word o. IfSome o (λ n. n < 2 ^ 64)) rest P
-      (λ word. unless_word at None (λ o. IfSome o (λ n. n < 2 ^ 64)) _ _ (bytes_eq word (codes "none")) tt (given_word at _ _ _ (value_word at word))) goes;
+  agrees = word_reads at _ f Expected (λ word. FitsOption) rest P
+      (λ word. unless_word at None FitsOption _ _ (bytes_eq word (codes "none")) tt
+      (given_word at IsValue FitsOption (λ v h. h) (value_in at word) (value_in 0 word) (value_word at word))) goes;
 }
 
 -- the end of a span
-end_word : (at : ℕ) (word : List ℕ) → Word at (λ o. IfSome o IsKey) (bound_in at word) (kind_in (bound_in 0 word))
+end_word : (at : ℕ) (word : List ℕ) → Word at FitsEnd (bound_in at word) (kind_in (bound_in 0 word))
 unfolding bound_in
-end_word at word = unless_word at None (λ o. IfSome o IsKey) _ _ (bytes_eq word (codes "~")) tt
-    (given_word at IsKey _ _ (named (key_in at word) (wrong KeyName word) (key_in_word at word)))
-  where
-    named : (r : Result ℕ BadWord) (kind : Option LineKind) → Word at (IsKeyOf word) r kind → Word at IsKey r kind
-    named (Ok key) kind h = (h.0, (word, h.1))
-    named (Err e) kind h = h
+end_word at word = unless_word at None FitsEnd _ _ (bytes_eq word (codes "~")) tt
+    (given_word at (IsKeyOf word) FitsEnd (λ key h. (word, h)) (key_in at word) (key_in 0 word) (key_in_word at word))
 
 abbrev IsSpanFrom : ℕ → KeySpan → Type 0
-IsSpanFrom start span = (span.start ≡ start) × IfSome span.end IsKey
+IsSpanFrom start span = (span.start ≡ start) × FitsEnd span.end
 
-tested_span : (at start : ℕ) (end : Option ℕ) (v : Bool) (test : nat_lt start (end_of end) ≡ v) → IfSome end IsKey
-    → Word at (IsSpanFrom start) (span_of at start end v test) (kind_in (span_of 0 start end v test))
+tested_span : (at start : ℕ) (end : Option ℕ) (v : Bool) (test : nat_lt start (end_of end) ≡ v) → FitsEnd end
+    → Word at (IsSpanFrom start) (as_span at (key_span_by start end v test)) (kind_in (as_span 0 (key_span_by start end v test)))
 tested_span at start end true test k = (refl, (refl, k))
 tested_span at start end false test k = (refl, refl)
 
@@ -210,7 +242,7 @@ ends_same : (at : ℕ) (word : List ℕ) → SameRead (bound_in at word) (bound_
 unfolding bound_in
 ends_same at word = ends_tested at word (bytes_eq word (codes "~"))
 
-spanned_word : (at start : ℕ) (r s : Result (Option ℕ) BadWord) → Word at (λ o. IfSome o IsKey) r (kind_in s) → SameRead r s
+spanned_word : (at start : ℕ) (r s : Result (Option ℕ) BadWord) → Word at FitsEnd r (kind_in s) → SameRead r s
     → Word at (IsSpanFrom start) (spanned at start r) (kind_in (spanned 0 start s))
 spanned_word at start (Ok end) (Ok other) h same =
     subst (λ (o : Option ℕ). Word at (IsSpanFrom start) (spanned at start (Ok end)) (kind_in (spanned 0 start (Ok o)))) same (tested_span at start end _ refl h.1)
@@ -234,38 +266,38 @@ reads_span at first start f rest P is goes = record {
 
 -- the requests
 abbrev ReadsRequest : RequestWord → Reader Request → Type 0
-ReadsRequest name reader = Reads 6 (λ words. request_wants name words) reader IsRequest
+ReadsRequest name reader = Reads 6 (λ words. request_wants name words) reader FitsRequest
 
 reads_put : ReadsRequest requests.Put put
 unfolding put
-reads_put = reads_key 6 _ _ _ (λ k key is. reads_number 7 _ _ _ _ _ (λ w value v. reads_whole 8 _ IsRequest ((k, is), is_value value v.1.1)))
+reads_put = reads_key 6 _ _ _ (λ k key is. reads_value 7 _ _ _ (λ w value v. reads_whole 8 _ FitsRequest ((k, is), v)))
 
 reads_add : ReadsRequest requests.Add add
 unfolding add
-reads_add = reads_key 6 _ _ _ (λ k key is. reads_number 7 _ _ _ _ _ (λ w by v. reads_whole 8 _ IsRequest ((k, is), is_value by v.1.1)))
+reads_add = reads_key 6 _ _ _ (λ k key is. reads_number 7 _ _ _ _ _ (λ w by v. reads_whole 8 _ FitsRequest ((k, is), is_value by v.1.1)))
 
 reads_cput : ReadsRequest requests.CPut cput
 unfolding cput
-reads_cput = reads_key 6 _ _ _ (λ k key is. reads_expected 7 _ _ _ (λ e expect x. reads_number 8 _ _ _ _ _ (λ w value v.
-    reads_whole 9 _ IsRequest ((k, is), x, is_value value v.1.1))))
+reads_cput = reads_key 6 _ _ _ (λ k key is. reads_expected 7 _ _ _ (λ e expect x. reads_value 8 _ _ _ (λ w value v.
+    reads_whole 9 _ FitsRequest ((k, is), x, v))))
 
 reads_del : ReadsRequest requests.Del del
 unfolding del
-reads_del = reads_key 6 _ _ _ (λ k key is. reads_whole 7 _ IsRequest (k, is))
+reads_del = reads_key 6 _ _ _ (λ k key is. reads_whole 7 _ FitsRequest (k, is))
 
 reads_wipe : ReadsRequest requests.Wipe wipe
 unfolding wipe
 reads_wipe = reads_key 6 _ _ _ (λ k start is. reads_span 7 k start _ _ _ is (λ e span h.
-    reads_whole 8 _ IsRequest (subst IsKey (sym h.0) (k, is), h.1)))
+    reads_whole 8 _ FitsRequest (subst IsKey (sym h.0) (k, is), h.1)))
 
 reads_moving : ReadsRequest requests.Move moving
 unfolding moving
 reads_moving = reads_key 6 _ _ _ (λ a from is. reads_key 7 _ _ _ (λ b to js. reads_number 8 _ _ _ _ _ (λ w by v.
-    reads_whole 9 _ IsRequest ((a, is), (b, js), is_value by v.1.1))))
+    reads_whole 9 _ FitsRequest ((a, is), (b, js), is_value by v.1.1))))
 
 reads_split : ReadsRequest requests.Split split
 unfolding split
-reads_split = reads_key 6 _ _ _ (λ k key is. reads_whole 7 _ IsRequest (k, is))
+reads_split = reads_key 6 _ _ _ (λ k key is. reads_whole 7 _ FitsRequest (k, is))
 
 abbrev IsKnownRequest : RequestWord → Type 0
 IsKnownRequest requests.Unknown = ⊥
@@ -283,7 +315,7 @@ reads_request_of requests.Split h = reads_split
 reads_request_of requests.Unknown h = absurd h
 
 named_request : (name : RequestWord) (words : List (List ℕ))
-    → Agrees IsRequest (request_of name words) (or_behind 5 (name_wrong name) (first_wrong 6 (request_wants name words) words))
+    → Agrees FitsRequest (request_of name words) (or_behind 5 (name_wrong name) (first_wrong 6 (request_wants name words) words))
 unfolding request_of
 named_request requests.Unknown words = refl
 named_request requests.Put words = (reads_request_of requests.Put tt).agrees words
@@ -294,12 +326,12 @@ named_request requests.Wipe words = (reads_request_of requests.Wipe tt).agrees w
 named_request requests.Move words = (reads_request_of requests.Move tt).agrees words
 named_request requests.Split words = (reads_request_of requests.Split tt).agrees words
 
-request_agrees : (words : List (List ℕ)) → Agrees IsRequest (request words) (first_wrong 5 (wanted_request words) words)
+request_agrees : (words : List (List ℕ)) → Agrees FitsRequest (request words) (first_wrong 5 (wanted_request words) words)
 unfolding request
 request_agrees [] = refl
 request_agrees (word ∷ words) = named_request (request_word_of word) words
 
-pub reads_request : Reads 5 wanted_request request IsRequest
+pub reads_request : Reads 5 wanted_request request FitsRequest
 reads_request = record { agrees = request_agrees }
 
 -- a request, and then no word
@@ -322,12 +354,12 @@ reads_cluster nodes commands = reads_number 2 _ _ _ _ _ (λ w n h. reads_whole 3
 reads_send : (nodes : ℕ) (commands : List ℕ) → ReadsForm keywords.Send nodes commands (send nodes)
 unfolding send
 reads_send nodes commands = reads_number 2 _ _ _ _ _ (λ a node n. reads_number 3 _ _ _ _ _ (λ b range r. reads_number 4 _ _ _ _ _ (λ c client h.
-    reads_last 5 wanted_request request IsRequest _ (Fits nodes commands) reads_request (λ q is. (n.1, r.1.1, h.1, is)))))
+    reads_last 5 wanted_request request FitsRequest _ (Fits nodes commands) reads_request (λ q is. (n.1, r.1.1, h.1, is)))))
 
 reads_admit : (nodes : ℕ) (commands : List ℕ) → ReadsForm keywords.Admit nodes commands (admit nodes)
 unfolding admit
 reads_admit nodes commands = reads_number 2 _ _ _ _ _ (λ a node n. reads_number 3 _ _ _ _ _ (λ b range r. reads_number 4 _ _ _ _ _ (λ c client h.
-    reads_last 5 wanted_request request IsRequest _ (Fits nodes commands) reads_request (λ q is. (n.1, r.1.1, h.1, is)))))
+    reads_last 5 wanted_request request FitsRequest _ (Fits nodes commands) reads_request (λ q is. (n.1, r.1.1, h.1, is)))))
 
 reads_again : (nodes : ℕ) (commands : List ℕ) → ReadsForm keywords.Again nodes commands (again nodes commands)
 unfolding again

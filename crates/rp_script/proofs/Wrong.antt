@@ -9,15 +9,19 @@ use Rattle.std.proofs.lemmas.List.Sums.{prefix_len-le-length}
 use Rattle.rp_base.specs.Numbers.{number_of, digits_len, u64_of}
 use Rattle.rp_base.proofs.NumberLaws.{u64_of_stops, u64_of_fits, u64_of_large}
 use Rattle.rp_base.specs.Keys.{key_of, end_of, IsKey}
+use Rattle.rp_base.specs.ShortTexts.{text_of}
+use Rattle.rp_base.specs.Spans.{key_span_by}
 use Rattle.rp_base.specs.declared.BadKey.{BadKey}
+use Rattle.rp_base.specs.declared.BadText.{BadText}
+use Rattle.rp_base.specs.declared.Value.{Value}
 use Rattle.rp_base.specs.declared.KeySpan.{KeySpan}
 use Rattle.rp_base.specs.declared.NumberFault.{NumberFault}
 use Rattle.rp_base.specs.declared.NumberFault.TheVariants.{NotNumber, TooLarge}
 use Rattle.rp_script.specs.Keywords.{request_word_of}
-use Rattle.rp_script.specs.Readers.{bad, in_range, number_in, sent_of, as_key, key_in, given, bound_in, span_of, spanned, below}
+use Rattle.rp_script.specs.Readers.{bad, in_range, number_in, sent_of, as_key, key_in, as_text, as_number, value_in, given, bound_in, as_span, spanned}
 use Rattle.rp_script.specs.Bounds.{IsFromTo}
-use Rattle.rp_script.specs.Wanted.{Wanted, Number, CommandNumber, KeyName, Expected, EndFrom, RequestName}
-use Rattle.rp_script.specs.Causes.{IsNumber, IsNoNumber, IsOutside, IsUnsent, IsEndOf, IsNotBelow, IsWrong, IsRight}
+use Rattle.rp_script.specs.Wanted.{Wanted, Number, CommandNumber, KeyName, ValueWord, Expected, EndFrom, RequestName}
+use Rattle.rp_script.specs.Causes.{IsNumber, IsNoNumber, IsOutside, IsUnsent, IsBadText, IsPlain, IsEndOf, IsNotBelow, IsWrong, IsRight}
 use Rattle.rp_script.specs.declared.faults.BadWord.{BadWord}
 use Rattle.rp_script.specs.declared.faults.LineKind.{LineKind}
 use Rattle.rp_script.specs.declared.faults.LineKind.TheVariants as kinds
@@ -43,7 +47,8 @@ abbrev pub wrong : Wanted → List ℕ → Option LineKind
 wrong (Number low high) word = kind_in (number_in 0 low high word)
 wrong (CommandNumber count) word = kind_in (sent_of 0 count (number_in 0 1 (2 ^ 64 - 1) word))
 wrong KeyName word = kind_in (key_in 0 word)
-wrong Expected word = kind_in (if bytes_eq word (codes "none") then Ok None else given (number_in 0 0 (2 ^ 64 - 1) word))
+wrong ValueWord word = kind_in (value_in 0 word)
+wrong Expected word = kind_in (if bytes_eq word (codes "none") then Ok None else given (value_in 0 word))
 wrong (EndFrom start) word = end_wrong (key_of start) word
 wrong RequestName word = name_wrong (request_word_of word)
 
@@ -180,37 +185,120 @@ told_other : (xs ys : List ℕ) → xs ≢ ys → (v : Bool) → bytes_eq xs ys 
 told_other xs ys other true e = absurd (other ((bytes_eq-Decides xs ys).0 e))
 told_other xs ys other false e = e
 
-kind_given : (r : Result ℕ BadWord) → kind_in (given r) ≡ kind_in r
+kind_given : {A : Type 0} (r : Result A BadWord) → kind_in (given r) ≡ kind_in r
 kind_given (Ok x) = refl
 kind_given (Err e) = refl
 
--- an expected value
-expected_number : (word : List ℕ) (kind : LineKind) → word ≢ codes "none" → IsWrong (Number 0 (2 ^ 64 - 1)) kind word → IsWrong Expected kind word
-expected_number word kinds.NotNumber other h = (other, h)
-expected_number word kinds.OutOfRange other h = (other, h)
-expected_number word kind other h = absurd h
+kind_numbered : (r : Result ℕ BadWord) → kind_in (as_number r) ≡ kind_in r
+kind_numbered (Ok x) = refl
+kind_numbered (Err e) = refl
 
 if_some : {A : Type 0} (P Q : A → Type 0) (o : Option A) → ((x : A) → P x → Q x) → IfSome o P → IfSome o Q
 if_some P Q None more h = tt
 if_some P Q (Some x) more h = more x h
 
+-- a value
+abbrev IsWrongNumber : LineKind → List ℕ → Type 0
+IsWrongNumber kind word = IsWrong (Number 0 (2 ^ 64 - 1)) kind word
+
+value_number : (word : List ℕ) (kind : LineKind) → IsPlain word → IsWrongNumber kind word → IsWrong ValueWord kind word
+value_number word kinds.NotNumber plain h = (plain, h)
+value_number word kinds.OutOfRange plain h = (plain, h)
+value_number word kind plain h = absurd h
+
+plain_wrong : (word : List ℕ) → IsPlain word → IfSome (kind_in (as_number (number_in 0 0 (2 ^ 64 - 1) word))) (λ kind. IsWrong ValueWord kind word)
+plain_wrong word plain =
+    subst (λ o. IfSome o (λ kind. IsWrong ValueWord kind word)) (sym (kind_numbered (number_in 0 0 (2 ^ 64 - 1) word)))
+    (if_some (λ kind. IsWrongNumber kind word) _ (kind_in (number_in 0 0 (2 ^ 64 - 1) word))
+    (λ kind. value_number word kind plain) (number_wrong 0 (2 ^ 64 - 1) word (number_view word)))
+
+text_wrong : (word bytes : List ℕ) (r : Result (List ℕ) BadText) → word ≡ 39 ∷ bytes → text_of bytes ≡ r
+    → IfSome (kind_in (as_text 0 r)) (λ kind. IsWrong ValueWord kind word)
+text_wrong word bytes (Ok text) begins is = tt
+text_wrong word bytes (Err e) begins is = (bytes, begins, subst (λ r. IsErr r) (sym is) refl)
+
+quoted : (b : ℕ) (bytes : List ℕ) → (b == 39) ≡ true → b ∷ bytes ≡ 39 ∷ bytes
+quoted b bytes e = let same : b ≡ 39 = grind (arith, nat_tests) in ap (λ c. c ∷ bytes) same
+
+head_of : List ℕ → ℕ
+head_of [] = 0
+head_of (b ∷ bytes) = b
+
+plain_begin : (b : ℕ) (bytes : List ℕ) → (b == 39) ≡ false → IsPlain (b ∷ bytes)
+unfolding head_of
+plain_begin b bytes e text same = let head : b ≡ 39 = ap head_of same in absurd (grind (arith, nat_tests))
+
+plain_none : IsPlain []
+plain_none text same = absurd (cc)
+
+begun_wrong : (b : ℕ) (bytes : List ℕ) (v : Bool) → (b == 39) ≡ v
+    → IfSome (kind_in (if v then as_text 0 (text_of bytes) else as_number (number_in 0 0 (2 ^ 64 - 1) (b ∷ bytes)))) (λ kind. IsWrong ValueWord kind (b ∷ bytes))
+begun_wrong b bytes true e = text_wrong (b ∷ bytes) bytes (text_of bytes) (quoted b bytes e) refl
+begun_wrong b bytes false e = plain_wrong (b ∷ bytes) (plain_begin b bytes e)
+
+value_wrong : (word : List ℕ) → IfSome (wrong ValueWord word) (λ kind. IsWrong ValueWord kind word)
+unfolding value_in
+value_wrong [] = plain_wrong [] plain_none
+value_wrong (b ∷ bytes) = begun_wrong b bytes _ refl
+
+no_text : (r : Result (List ℕ) BadText) → IsErr r → kind_in (as_text 0 r) ≡ Some kinds.BadText
+no_text (Ok text) h = absurd (cc)
+no_text (Err e) h = refl
+
+bad_text : (word text : List ℕ) → word ≡ 39 ∷ text → IsErr (text_of text) → wrong ValueWord word ≡ Some kinds.BadText
+unfolding value_in
+bad_text word text begins h = subst (λ (w : List ℕ). wrong ValueWord w ≡ Some kinds.BadText) (sym begins) (no_text (text_of text) h)
+
+number_of_plain : (word : List ℕ) (kind : LineKind) → IsWrongNumber kind word → kind_in (as_number (number_in 0 0 (2 ^ 64 - 1) word)) ≡ Some kind
+number_of_plain word kind h = kind_numbered (number_in 0 0 (2 ^ 64 - 1) word) ∙ is_wrong_number 0 (2 ^ 64 - 1) word kind h
+
+begun_plain : (b : ℕ) (bytes : List ℕ) (kind : LineKind) → IsPlain (b ∷ bytes) → IsWrongNumber kind (b ∷ bytes) → (v : Bool) → (b == 39) ≡ v
+    → kind_in (if v then as_text 0 (text_of bytes) else as_number (number_in 0 0 (2 ^ 64 - 1) (b ∷ bytes))) ≡ Some kind
+begun_plain b bytes kind plain h true e = absurd (plain bytes (quoted b bytes e))
+begun_plain b bytes kind plain h false e = number_of_plain (b ∷ bytes) kind h
+
+plain_value : (word : List ℕ) (kind : LineKind) → IsPlain word → IsWrongNumber kind word → wrong ValueWord word ≡ Some kind
+unfolding value_in
+plain_value [] kind plain h = number_of_plain [] kind h
+plain_value (b ∷ bytes) kind plain h = begun_plain b bytes kind plain h _ refl
+
+is_wrong_value : (word : List ℕ) (kind : LineKind) → IsWrong ValueWord kind word → wrong ValueWord word ≡ Some kind
+is_wrong_value word kinds.BadText h = bad_text word h.0 h.1 h.2
+is_wrong_value word kinds.NotNumber h = plain_value word kinds.NotNumber h.0 h.1
+is_wrong_value word kinds.OutOfRange h = plain_value word kinds.OutOfRange h.0 h.1
+is_wrong_value word kind h = absurd h
+
+-- an expected value
+value_expected : (word : List ℕ) (kind : LineKind) → word ≢ codes "none" → IsWrong ValueWord kind word → IsWrong Expected kind word
+value_expected word kinds.BadText other h = h
+value_expected word kinds.NotNumber other h = (other, h.0, h.1)
+value_expected word kinds.OutOfRange other h = (other, h.0, h.1)
+value_expected word kind other h = absurd h
+
 expected_tested : (word : List ℕ) (v : Bool) → bytes_eq word (codes "none") ≡ v
-    → IfSome (kind_in (if v then Ok None else given (number_in 0 0 (2 ^ 64 - 1) word))) (λ kind. IsWrong Expected kind word)
+    → IfSome (kind_in (if v then Ok None else given (value_in 0 word))) (λ kind. IsWrong Expected kind word)
 expected_tested word true e = tt
 expected_tested word false e =
-    subst (λ o. IfSome o (λ kind. IsWrong Expected kind word)) (sym (kind_given (number_in 0 0 (2 ^ 64 - 1) word)))
-    (if_some (λ kind. IsWrong (Number 0 (2 ^ 64 - 1)) kind word) _ (kind_in (number_in 0 0 (2 ^ 64 - 1) word))
-    (λ kind. expected_number word kind (other_text word _ e)) (number_wrong 0 (2 ^ 64 - 1) word (number_view word)))
+    subst (λ o. IfSome o (λ kind. IsWrong Expected kind word)) (sym (kind_given (value_in 0 word)))
+    (if_some (λ kind. IsWrong ValueWord kind word) _ (kind_in (value_in 0 word)) (λ kind. value_expected word kind (other_text word _ e)) (value_wrong word))
 
-number_expected : (word : List ℕ) (kind : LineKind) → word ≢ codes "none" → IsWrong (Number 0 (2 ^ 64 - 1)) kind word → wrong Expected word ≡ Some kind
-number_expected word kind other h =
+expected_value : (word : List ℕ) (kind : LineKind) → word ≢ codes "none" → IsWrong ValueWord kind word → wrong Expected word ≡ Some kind
+expected_value word kind other h =
     let e : bytes_eq word (codes "none") ≡ false = told_other word _ other _ refl in
-    ap (λ (v : Bool). kind_in (if v then Ok None else given (number_in 0 0 (2 ^ 64 - 1) word))) e
-    ∙ kind_given (number_in 0 0 (2 ^ 64 - 1) word) ∙ is_wrong_number 0 (2 ^ 64 - 1) word kind h
+    ap (λ (v : Bool). kind_in (if v then Ok None else given (value_in 0 word))) e ∙ kind_given (value_in 0 word) ∙ is_wrong_value word kind h
+
+apart_heads : head_of (39 ∷ []) ≡ head_of (110 ∷ []) → ⊥
+unfolding head_of
+apart_heads e = omega (arith, e)
+
+not_none_text : (word text : List ℕ) → word ≡ 39 ∷ text → word ≢ codes "none"
+unfolding head_of
+not_none_text word text begins same = apart_heads (ap head_of (sym begins ∙ same))
 
 is_wrong_expected : (word : List ℕ) (kind : LineKind) → IsWrong Expected kind word → wrong Expected word ≡ Some kind
-is_wrong_expected word kinds.NotNumber h = number_expected word kinds.NotNumber h.0 h.1
-is_wrong_expected word kinds.OutOfRange h = number_expected word kinds.OutOfRange h.0 h.1
+is_wrong_expected word kinds.BadText h = expected_value word kinds.BadText (not_none_text word h.0 h.1) h
+is_wrong_expected word kinds.NotNumber h = expected_value word kinds.NotNumber h.0 (h.1, h.2)
+is_wrong_expected word kinds.OutOfRange h = expected_value word kinds.OutOfRange h.0 (h.1, h.2)
 is_wrong_expected word kind h = absurd h
 
 -- the end of a span
@@ -248,7 +336,7 @@ bad_end : (start word : List ℕ) (e : BadWord) → IsEndRead word (Err e) → I
 bad_end start word e h = subst (λ (kind : LineKind). IsWrong (EndFrom start) kind word) (sym h.0) (h.1, h.2)
 
 span_tested : (start word : List ℕ) (first : ℕ) (end : Option ℕ) → key_of start ≡ Ok first → IsEndOf end word → (v : Bool) (test : nat_lt first (end_of end) ≡ v)
-    → IfSome (kind_in (span_of 0 first end v test)) (λ kind. IsWrong (EndFrom start) kind word)
+    → IfSome (kind_in (as_span 0 (key_span_by first end v test))) (λ kind. IsWrong (EndFrom start) kind word)
 span_tested start word first end is h true test = tt
 span_tested start word first end is h false test = let low : end_of end ≤ first = grind (arith, nat_tests) in (first, end, is, h, low)
 
@@ -278,7 +366,7 @@ no_end_wrong : (r : Result ℕ BadKey) (word : List ℕ) → kind_in (bound_in 0
 no_end_wrong (Ok first) word h = no_end_spanned first (bound_in 0 word) h
 no_end_wrong (Err e) word h = h
 
-low_end : (first : ℕ) (end : Option ℕ) → end_of end ≤ first → (v : Bool) (test : nat_lt first (end_of end) ≡ v) → kind_in (span_of 0 first end v test) ≡ Some kinds.BadSpan
+low_end : (first : ℕ) (end : Option ℕ) → end_of end ≤ first → (v : Bool) (test : nat_lt first (end_of end) ≡ v) → kind_in (as_span 0 (key_span_by first end v test)) ≡ Some kinds.BadSpan
 low_end first end low true test = absurd (let up : first < end_of end = grind (arith, nat_tests) in omega arith)
 low_end first end low false test = refl
 
@@ -311,6 +399,7 @@ unfolding key_in
 wrongs (Number low high) word = number_wrong low high word (number_view word)
 wrongs (CommandNumber count) word = command_wrong count word (number_view word)
 wrongs KeyName word = key_wrong word (key_of word) refl
+wrongs ValueWord word = value_wrong word
 wrongs Expected word = expected_tested word _ refl
 wrongs (EndFrom start) word = end_wrongs start word (key_of start) refl
 wrongs RequestName word = name_wrongs word (request_word_of word) refl
@@ -319,6 +408,7 @@ pub is_wrong : (w : Wanted) (word : List ℕ) (kind : LineKind) → IsWrong w ki
 is_wrong (Number low high) word kind h = is_wrong_number low high word kind h
 is_wrong (CommandNumber count) word kind h = is_wrong_command count word kind h
 is_wrong KeyName word kind h = is_wrong_key word kind h
+is_wrong ValueWord word kind h = is_wrong_value word kind h
 is_wrong Expected word kind h = is_wrong_expected word kind h
 is_wrong (EndFrom start) word kind h = is_wrong_end start word kind h
 is_wrong RequestName word kind h = is_wrong_name word kind h

@@ -1,10 +1,9 @@
 -- What the lines that are taken keep to.
 use Rattle.std.specs.Prelude.{◌≡◌, ℕ, ◌^◌, ◌≤◌, ◌<◌, List, [], ◌∷◌, length, Option, None, Some, IfSome, IsFalse, IsTrue, Bool, false}
 use Rattle.rp_base.specs.Keys.{IsKey}
-use Rattle.rp_request.specs.declared.requests.Request.{Request}
-use Rattle.rp_request.specs.declared.requests.Request.TheVariants as requests
+use Rattle.rp_base.specs.ClientCounts.{count_of}
+use Rattle.rp_request.specs.Fits.{FitsRequest}
 use Rattle.rp_script.specs.Built.{unbuilt_in}
-use Rattle.rp_script.specs.Readers.{sent}
 use Rattle.rp_script.specs.Seen.{Seen, unseen, after}
 use Rattle.rp_script.specs.declared.built.Forms.{Forms}
 use Rattle.rp_script.specs.declared.lines.NumberedLine.{NumberedLine}
@@ -23,26 +22,16 @@ abbrev pub IsClient : ℕ → Type 0
 IsClient client = IsFromTo 1 64 client
 
 abbrev pub IsCommand : List ℕ → (client seq : ℕ) → Type 0
-IsCommand commands client seq = IsClient client × IsFromTo 1 (sent commands client) seq
+IsCommand commands client seq = IsClient client × IsFromTo 1 (count_of commands client) seq
 
 abbrev pub IsTurns : ℕ → Type 0
 IsTurns count = IsFromTo 1 10000 count
 
--- keys are keys and numbers have 64 bits; that the start of a span is below its end is a part of its type
-abbrev pub IsRequest : Request → Type 0
-IsRequest (requests.Put key value) = IsKey key × (value < 2 ^ 64)
-IsRequest (requests.Add key by) = IsKey key × (by < 2 ^ 64)
-IsRequest (requests.CPut key expect value) = IsKey key × IfSome expect (λ v. v < 2 ^ 64) × (value < 2 ^ 64)
-IsRequest (requests.Del key) = IsKey key
-IsRequest (requests.Wipe span) = IsKey span.start × IfSome span.end IsKey
-IsRequest (requests.Move from to by) = IsKey from × IsKey to × (by < 2 ^ 64)
-IsRequest (requests.Split key) = IsKey key
-
 -- what a line keeps to in a cluster of so many nodes, where each client has so many commands
 abbrev pub Fits : ℕ → List ℕ → ScriptLine → Type 0
 Fits nodes commands (lines.Cluster n) = ⊥
-Fits nodes commands (lines.Send node range client request) = IsNode nodes node × (range ≤ 7) × IsClient client × IsRequest request
-Fits nodes commands (lines.Admit node range client request) = IsNode nodes node × (range ≤ 7) × IsClient client × IsRequest request
+Fits nodes commands (lines.Send node range client request) = IsNode nodes node × (range ≤ 7) × IsClient client × FitsRequest request
+Fits nodes commands (lines.Admit node range client request) = IsNode nodes node × (range ≤ 7) × IsClient client × FitsRequest request
 Fits nodes commands (lines.Again node range client seq) = IsNode nodes node × (range ≤ 7) × IsCommand commands client seq
 Fits nodes commands (lines.Draw client seq) = IsCommand commands client seq
 Fits nodes commands (lines.Publish client seq) = IsCommand commands client seq

@@ -2,9 +2,12 @@
 use Rattle.std.specs.Prelude.{◌≡◌, ◌≢◌, ◌↔◌, ◌⊎◌, ℕ, zero, suc, ◌+◌, ◌-◌, ◌^◌, ◌≤◌, ◌<◌, List, [], ◌∷◌, length, codes, Option, Some, None, Result, Ok, Err, IsErr, IfErr, IsSome, IsNone, IsTrue, IsFalse, if◌then◌else◌}
 use Rattle.rp_base.specs.Numbers.{number_of, digits_len}
 use Rattle.rp_base.specs.Keys.{key_of, end_of}
+use Rattle.rp_base.specs.ShortTexts.{text_of}
 use Rattle.rp_script.specs.Keywords.{request_word_of, is_barred_in_race, keyword_of}
+use Rattle.rp_script.specs.Words.{words_of}
 use Rattle.rp_script.specs.Readers.{bad_word}
-use Rattle.rp_script.specs.Wanted.{Wanted, Number, CommandNumber, KeyName, Expected, EndFrom, RequestName, wants}
+use Rattle.rp_script.specs.Requests.{request}
+use Rattle.rp_script.specs.Wanted.{Wanted, Number, CommandNumber, KeyName, ValueWord, Expected, EndFrom, RequestName, nth, request as wanted_request, wants}
 use Rattle.rp_script.specs.Seen.{Seen, begins_comment, bad_byte_of, placed, said, judged}
 use Rattle.rp_script.specs.Built.{unbuilt_in}
 use Rattle.rp_script.specs.Meaning.{judged_in}
@@ -34,6 +37,13 @@ IsOutside low high word = IsNumber word × ((number_of word < low) ⊎ (high < n
 abbrev pub IsUnsent : ℕ → List ℕ → Type 0
 IsUnsent count word = IsNumber word × (1 ≤ number_of word) × (number_of word < 2 ^ 64) × (count < number_of word)
 
+-- a word begins with an apostrophe, behind which is no text; or it begins with none
+abbrev pub IsBadText : List ℕ → Type 0
+IsBadText word = (text : List ℕ) × (word ≡ 39 ∷ text) × IsErr (text_of text)
+
+abbrev pub IsPlain : List ℕ → Type 0
+IsPlain word = (text : List ℕ) → word ≢ 39 ∷ text
+
 -- a bound, of which the key of a word is not below: `~` for the end of the key space, or a key
 abbrev pub IsEndOf : Option ℕ → List ℕ → Type 0
 IsEndOf None word = word ≡ codes "~"
@@ -50,8 +60,12 @@ IsWrong (CommandNumber count) kinds.NotNumber word = IsNoNumber word
 IsWrong (CommandNumber count) kinds.OutOfRange word = IsOutside 1 (2 ^ 64 - 1) word
 IsWrong (CommandNumber count) kinds.NotSent word = IsUnsent count word
 IsWrong KeyName kinds.BadKey word = IsErr (key_of word)
-IsWrong Expected kinds.NotNumber word = (word ≢ codes "none") × IsNoNumber word
-IsWrong Expected kinds.OutOfRange word = (word ≢ codes "none") × IsOutside 0 (2 ^ 64 - 1) word
+IsWrong ValueWord kinds.BadText word = IsBadText word
+IsWrong ValueWord kinds.NotNumber word = IsPlain word × IsNoNumber word
+IsWrong ValueWord kinds.OutOfRange word = IsPlain word × IsOutside 0 (2 ^ 64 - 1) word
+IsWrong Expected kinds.BadText word = IsBadText word
+IsWrong Expected kinds.NotNumber word = (word ≢ codes "none") × IsPlain word × IsNoNumber word
+IsWrong Expected kinds.OutOfRange word = (word ≢ codes "none") × IsPlain word × IsOutside 0 (2 ^ 64 - 1) word
 IsWrong (EndFrom start) kinds.BadKey word = (word ≢ codes "~") × IsErr (key_of word)
 IsWrong (EndFrom start) kinds.BadSpan word = IsNotBelow start word
 IsWrong RequestName kinds.UnknownWord word = request_word_of word ≡ requests.Unknown
@@ -101,6 +115,10 @@ IsRefusal s k words e = ((e.word ≡ 1) × IsRule s k e.kind) ⊎ (IsTakenWord s
 abbrev pub RefusedExactly : Type 0
 RefusedExactly = (s : Seen) (k : Keyword) (words : List (List ℕ)) (e : BadWord) → (placed s k words ≡ Err e) ↔ IsRefusal s k words e
 
+-- the words of a request are refused just so too, from word 5 on
+abbrev pub RequestsRefusedExactly : Type 0
+RequestsRefusedExactly = (words : List (List ℕ)) (e : BadWord) → (request words ≡ Err e) ↔ Refuses 5 (wanted_request words) words e
+
 -- a line is refused so: with a bad byte it is refused at the first word that has one, in a comment at word 0; else it is no comment, and refused by its words
 abbrev pub IsLineRefusal : Seen → List (List ℕ) → BadWord → Type 0
 IsLineRefusal s [] e = ⊥
@@ -111,6 +129,11 @@ IsLineRefusal s (first ∷ words) e =
 -- each line is refused exactly there
 abbrev pub LinesRefusedExactly : Type 0
 LinesRefusedExactly = (s : Seen) (words : List (List ℕ)) (e : BadWord) → (said s words ≡ Err e) ↔ IsLineRefusal s words e
+
+-- in a line without a bad byte a text is refused exactly where more than 64 bytes follow the apostrophe
+abbrev pub LongTextsAlone : Type 0
+LongTextsAlone = (line : List ℕ) (n : ℕ) (text : List ℕ) → IsNone (bad_byte_of (words_of line)) → n < length (words_of line)
+    → nth n (words_of line) ≡ 39 ∷ text → IsErr (text_of text) ↔ (64 < length text)
 
 -- a kind of the rules of a script: `not-built` speaks of the forms that are built, `not-json` and `not-report` of no script
 abbrev pub IsOfRules : LineKind → Type 0

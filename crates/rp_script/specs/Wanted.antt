@@ -1,19 +1,20 @@
 -- What each word of a line must be.
 use Rattle.std.specs.Prelude.{ℕ, ◌^◌, ◌-◌, List, [], ◌∷◌, get_or, drop}
 use Rattle.rp_base.specs.Numbers.{number_of}
+use Rattle.rp_base.specs.ClientCounts.{count_of}
 use Rattle.rp_script.specs.Keywords.{request_word_of}
-use Rattle.rp_script.specs.Readers.{sent}
 use Rattle.rp_script.specs.declared.keywords.Keyword.{Keyword}
 use Rattle.rp_script.specs.declared.keywords.Keyword.TheVariants as keywords
 use Rattle.rp_script.specs.declared.keywords.RequestWord.{RequestWord}
 use Rattle.rp_script.specs.declared.keywords.RequestWord.TheVariants as requests
 
--- what a word must be: a number from one to another; the number of one of so many commands; a key; `none` or a number; the end of a span
+-- what a word must be: a number from one to another; the number of one of so many commands; a key; a value; `none` or a value; the end of a span
 -- that begins with the key of a word; the first word of a request
 pub data Wanted : Type 0 where
   Number : (low high : ℕ) → Wanted
   CommandNumber : (count : ℕ) → Wanted
   KeyName : Wanted
+  ValueWord : Wanted
   Expected : Wanted
   EndFrom : (start : List ℕ) → Wanted
   RequestName : Wanted
@@ -36,7 +37,7 @@ any_number = Number 0 (2 ^ 64 - 1)
 
 -- a command of the client that this word names, given how many commands each client has
 abbrev pub command_of : List ℕ → List ℕ → Wanted
-command_of commands word = CommandNumber (sent commands (number_of word))
+command_of commands word = CommandNumber (count_of commands (number_of word))
 
 -- one of these words, counted from 0
 abbrev pub nth : ℕ → List (List ℕ) → List ℕ
@@ -44,9 +45,9 @@ nth n words = get_or words n []
 
 -- the words behind the first one of a request
 abbrev pub request_wants : RequestWord → List (List ℕ) → List Wanted
-request_wants requests.Put words = KeyName ∷ any_number ∷ []
+request_wants requests.Put words = KeyName ∷ ValueWord ∷ []
 request_wants requests.Add words = KeyName ∷ any_number ∷ []
-request_wants requests.CPut words = KeyName ∷ Expected ∷ any_number ∷ []
+request_wants requests.CPut words = KeyName ∷ Expected ∷ ValueWord ∷ []
 request_wants requests.Del words = KeyName ∷ []
 request_wants requests.Wipe words = KeyName ∷ EndFrom (nth 0 words) ∷ []
 request_wants requests.Move words = KeyName ∷ KeyName ∷ any_number ∷ []

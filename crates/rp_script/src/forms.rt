@@ -1,12 +1,15 @@
-ghost use Rattle.std.specs.Prelude.{◌≡◌, ◌≤◌, length};
+ghost use Rattle.std.specs.Prelude.{◌≡◌, ◌≤◌};
 ghost use Rattle.rp_script.specs.Forms.{cluster, send, admit, again, draw, publish, ask, transfer, flush, apply, cut, remove, restart, tick, deliver, peek, loss, settle, ending, form};
 
 use crate::faults::{BadWord, LineKind, bad_word};
 use crate::keywords::Keyword;
 use crate::lines::ScriptLine;
-use crate::readers::{client_at, end_at, key_at, node_at, number_at, range_at, seq_at, value_at};
+use crate::readers::{
+    any_number_at, client_at, end_at, key_at, node_at, number_at, range_at, seq_at,
+};
 use crate::requests::request;
 use crate::words::Words;
+use rp_base::ClientCounts;
 
 /// `cluster N`
 #[tactic(auto, unfolding(crate::specs::Forms::cluster))]
@@ -56,9 +59,8 @@ fn admit(words: &mut Words, nodes: u8) -> Result<ScriptLine, BadWord>
 
 /// `again N R C S`
 #[tactic(auto, unfolding(crate::specs::Forms::again))]
-fn again(words: &mut Words, nodes: u8, commands: &[u32]) -> Result<ScriptLine, BadWord>
-    requires nodes { nodes ≤ 5 }
-    requires all { length commands.now ≡ 64 }
+fn again(words: &mut Words, nodes: u8, commands: &ClientCounts) -> Result<ScriptLine, BadWord>
+    requires { nodes ≤ 5 }
     ensures { result ≡ again nodes commands.now words.old }
 {
     let node = node_at(words, 2, nodes)?;
@@ -76,8 +78,7 @@ fn again(words: &mut Words, nodes: u8, commands: &[u32]) -> Result<ScriptLine, B
 
 /// `draw C S`
 #[tactic(auto, unfolding(crate::specs::Forms::draw))]
-fn draw(words: &mut Words, commands: &[u32]) -> Result<ScriptLine, BadWord>
-    requires { length commands.now ≡ 64 }
+fn draw(words: &mut Words, commands: &ClientCounts) -> Result<ScriptLine, BadWord>
     ensures { result ≡ draw commands.now words.old }
 {
     let client = client_at(words, 2)?;
@@ -88,8 +89,7 @@ fn draw(words: &mut Words, commands: &[u32]) -> Result<ScriptLine, BadWord>
 
 /// `publish C S`
 #[tactic(auto, unfolding(crate::specs::Forms::publish))]
-fn publish(words: &mut Words, commands: &[u32]) -> Result<ScriptLine, BadWord>
-    requires { length commands.now ≡ 64 }
+fn publish(words: &mut Words, commands: &ClientCounts) -> Result<ScriptLine, BadWord>
     ensures { result ≡ publish commands.now words.old }
 {
     let client = client_at(words, 2)?;
@@ -225,7 +225,7 @@ fn loss(words: &mut Words) -> Result<ScriptLine, BadWord>
     ensures { result ≡ loss words.old }
 {
     let percent = number_at(words, 2, 0, 50)?;
-    let salt = value_at(words, 3)?;
+    let salt = any_number_at(words, 3)?;
     end_at(words, 4)?;
     Ok(ScriptLine::Loss {
         percent: percent as u8,
@@ -258,10 +258,9 @@ pub fn form(
     keyword: Keyword,
     words: &mut Words,
     nodes: u8,
-    commands: &[u32],
+    commands: &ClientCounts,
 ) -> Result<ScriptLine, BadWord>
-    requires nodes { nodes ≤ 5 }
-    requires all { length commands.now ≡ 64 }
+    requires { nodes ≤ 5 }
     ensures { result ≡ form keyword nodes commands.now words.old }
 {
     match keyword {

@@ -2,7 +2,7 @@
 
 ghost use Rattle.rp_script.specs.Meaning.{AllAreBuilt};
 ghost use Rattle.rp_script.specs.Reading.{ReadsMeaning, ReadsPieces};
-ghost use Rattle.rp_script.specs.Causes.{RefusedExactly, LinesRefusedExactly, KindsOfRules, NotBuiltExactly};
+ghost use Rattle.rp_script.specs.Causes.{RefusedExactly, LinesRefusedExactly, RequestsRefusedExactly, LongTextsAlone, KindsOfRules, NotBuiltExactly};
 
 /// To read a script byte after byte, as the reader does, gives its meaning, which is said line by
 /// line.
@@ -30,10 +30,21 @@ pub fn refused_exactly()
     ensures { RefusedExactly }
 {}
 
+/// The words of a request alone are refused just so.
+pub fn requests_refused_exactly()
+    ensures { RequestsRefusedExactly }
+{}
+
 /// A bad byte refuses its line before all else, at its word, or at word 0 of a comment.
 #[tactic(auto, using(crate::proofs::Rules::lines_refused_exactly))]
 pub fn lines_refused_exactly()
     ensures { LinesRefusedExactly }
+{}
+
+/// In a line without a bad byte a text is refused where more than 64 bytes follow the apostrophe, and
+/// nowhere else.
+pub fn long_texts_alone()
+    ensures { LongTextsAlone }
 {}
 
 /// No rule of a script refuses a line as not built, nor by a kind that speaks of a report.

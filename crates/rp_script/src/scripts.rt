@@ -1,14 +1,14 @@
 ghost use Rattle.std.specs.Prelude.{◌≡◌, ◌<◌, ◌≤◌, ◌+◌, ◌-◌, ◌==◌, [], length, IsTrue, None, Some, IfOk, IfSome, MatchResult, slice_index};
 ghost use Rattle.rp_script.specs.Words.{words_of};
 ghost use Rattle.rp_script.specs.Bounds.{IsBounded, Follows};
-ghost use Rattle.rp_script.specs.Seen.{Seen, unseen, begins_send, limit_of, has_bad_byte, bad_byte_of, begins_comment, placed, said, judged, answer_of, counted, after, left, unended};
+ghost use Rattle.rp_script.specs.Seen.{Seen, unseen, begins_send, limit_of, has_bad_byte, bad_byte_of, begins_comment, placed, said, judged, answer_of, after, left, unended};
 
 use crate::faults::{BadWord, Excess, LineFault, LineKind, ScriptFault, bad_word, line_fault};
 use crate::forms::{cluster, form};
 use crate::keywords::{Keyword, is_barred_in_race, keyword_of};
 use crate::lines::ScriptLine;
 use crate::words::Words;
-use rp_base::Which;
+use rp_base::{ClientCounts, Which};
 use std::marker::Model;
 
 /// The lines of a script, taken one after another. Contracts see what must be known of the lines
@@ -21,7 +21,7 @@ pub struct Script {
     sends: u32,
     nodes: Option<u8>,
     ended: bool,
-    commands: [u32; 64],
+    commands: ClientCounts,
 }
 
 impl Model for Script {
@@ -41,7 +41,6 @@ impl Model for Script {
 
     ghost invariant = { λ s. (s.lines ≤ 65536)
         × (s.sends ≤ s.lines)
-        × (length s.commands ≡ 64)
         × IfSome s.nodes (λ n. n ≤ 5)
         × ((k : ℕ) → slice_index s.commands k ≤ s.lines) };
 }
@@ -87,17 +86,6 @@ fn bad_byte_of(line: &[u8]) -> Option<u32>
     None
 }
 
-/// Counts one command more of the client.
-fn count(commands: &mut [u32], client: u16)
-    requires all { length commands.old ≡ 64 }
-    requires from { 1 ≤ client }
-    requires to { client ≤ 64 }
-    requires few { slice_index commands.old (client - 1) < 65536 }
-    ensures { commands.new ≡ counted commands.old client }
-{
-    commands[usize::from(client) - 1] += 1;
-}
-
 impl Script {
     /// No line was taken yet. A race takes fewer forms of line.
     pub fn new(race: bool) -> Script
@@ -109,7 +97,7 @@ impl Script {
             sends: 0,
             nodes: None,
             ended: false,
-            commands: [0; 64],
+            commands: ClientCounts::new(),
         }
     }
 
@@ -224,10 +212,12 @@ impl Script {
         match *line {
             Some(ScriptLine::Cluster { nodes }) => self.nodes = Some(nodes),
             Some(ScriptLine::Send { client, .. }) => {
-                count(&mut self.commands, client);
+                self.commands.add_one(client);
                 self.sends += 1;
             }
-            Some(ScriptLine::Admit { client, .. }) => count(&mut self.commands, client),
+            Some(ScriptLine::Admit { client, .. }) => {
+                self.commands.add_one(client);
+            }
             Some(ScriptLine::End) => self.ended = true,
             _ => {}
         }

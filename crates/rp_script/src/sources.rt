@@ -1,9 +1,9 @@
 ghost use Rattle.std.specs.Prelude.{◌≡◌, ◌+◌, ◌≤◌, ◌<◌, length, IfOk, IfSome, OnOk};
-ghost use Rattle.rp_script.specs.Gives.{Gives};
+ghost use Rattle.rp_base.specs.Gives.{Gives};
 ghost use Rattle.rp_script.specs.Bounds.{IsBounded, Follows, IsTaken, IsScript};
 ghost use Rattle.rp_script.specs.Built.{unbuilt_in};
 ghost use Rattle.std.specs.List.{AllByRecursion};
-ghost use Rattle.rp_script.specs.Meaning.{judged_in, meaning};
+ghost use Rattle.rp_script.specs.Meaning.{judged_in, meaning, script_fault};
 ghost use Rattle.rp_script.specs.Reading.{unread, line_ended, fed, fed_all, closed, finished, weight};
 
 use crate::built::Forms;
@@ -109,7 +109,7 @@ impl ScriptReader {
     #[tactic(auto, using(crate::proofs::Along::along_skipped))]
     fn end_line(&mut self) -> Result<(), ScriptStop>
         requires { self.old.seen.lines < 65536 }
-        ensures gives { Gives (λ _. self.new) result (line_ended self.old) }
+        ensures gives { Gives (λ _. self.new) script_fault result (line_ended self.old) }
         ensures further { OnOk result (weight self.old + 1 ≤ weight self.new) }
         ensures forms { self.new.forms ≡ self.old.forms }
         ensures ends { weight self.new ≤ 16842752 }
@@ -127,7 +127,7 @@ impl ScriptReader {
 
     /// Takes one byte.
     fn feed_byte(&mut self, byte: u8) -> Result<(), ScriptStop>
-        ensures gives { Gives (λ _. self.new) result (fed self.old byte) }
+        ensures gives { Gives (λ _. self.new) script_fault result (fed self.old byte) }
         ensures further { OnOk result (weight self.old + 1 ≤ weight self.new) }
         ensures forms { self.new.forms ≡ self.old.forms }
         ensures ends { weight self.new ≤ 16842752 }
@@ -147,7 +147,7 @@ impl ScriptReader {
 
     /// Takes the bytes of a piece, one after another.
     fn feed_all(&mut self, piece: &[u8]) -> Result<(), ScriptStop>
-        ensures gives { Gives (λ _. self.new) result (fed_all self.old piece.now) }
+        ensures gives { Gives (λ _. self.new) script_fault result (fed_all self.old piece.now) }
         ensures further { OnOk result (weight self.old + length piece.now ≤ weight self.new) }
         ensures forms { self.new.forms ≡ self.old.forms }
         ensures ends { weight self.new ≤ 16842752 }
@@ -162,7 +162,7 @@ impl ScriptReader {
     /// Takes a piece of the source, which may end anywhere. The first limit or refusal ends the
     /// reading, and what follows it is not looked at.
     pub fn feed(mut self, piece: &[u8]) -> Result<ScriptReader, ScriptStop>
-        ensures gives { Gives (λ reader. reader) result (fed_all self piece.now) }
+        ensures gives { Gives (λ reader. reader) script_fault result (fed_all self piece.now) }
         ensures further { IfOk result (λ reader. weight self + length piece.now ≤ weight reader) }
         ensures forms { IfOk result (λ reader. reader.forms ≡ self.forms) }
         ensures ends { IfOk result (λ reader. weight reader ≤ 16842752) }
@@ -174,7 +174,7 @@ impl ScriptReader {
     /// Ends the source: a line that has begun ends with it. It gives the lines that are not
     /// skipped.
     pub fn finish(mut self) -> Result<Seq<NumberedLine>, ScriptStop>
-        ensures gives { Gives (λ lines. lines) result (finished self self.line) }
+        ensures gives { Gives (λ lines. lines) script_fault result (finished self self.line) }
         ensures few { IfOk result (λ lines. length lines ≤ 65536) }
         ensures taken { IfOk result (λ lines. AllByRecursion (IsTaken self.forms) lines) }
         ensures script { IfOk result IsScript }
@@ -187,7 +187,7 @@ impl ScriptReader {
 
     /// The lines of a source that ends behind an ended line.
     fn close(self) -> Result<Seq<NumberedLine>, ScriptStop>
-        ensures gives { Gives (λ lines. lines) result (closed self) }
+        ensures gives { Gives (λ lines. lines) script_fault result (closed self) }
         ensures few { IfOk result (λ lines. length lines ≤ 65536) }
         ensures taken { IfOk result (λ lines. AllByRecursion (IsTaken self.forms) lines) }
         ensures script { IfOk result IsScript }
@@ -213,7 +213,7 @@ pub fn read_lines(
     race: bool,
     source: &[u8],
 ) -> Result<Seq<NumberedLine>, ScriptStop>
-    ensures meaning { Gives (λ lines. lines) result (meaning forms race source.now) }
+    ensures meaning { Gives (λ lines. lines) script_fault result (meaning forms race source.now) }
     ensures few { IfOk result (λ lines. length lines ≤ 65536) }
     ensures taken { IfOk result (λ lines. AllByRecursion (IsTaken forms) lines) }
     ensures script { IfOk result IsScript }

@@ -1,5 +1,5 @@
 use crate::{LineFault, LineKind, Script, ScriptLine};
-use rp_base::{Key, NodeId, RangeId};
+use rp_base::{Key, NodeId, RangeId, Value};
 use rp_request::Request;
 use std::test::Fail;
 
@@ -28,7 +28,10 @@ fn a_line_is_taken(rt: HostRuntime) -> Result<(), Fail> {
         node,
         range,
         client: 64,
-        request: Request::Put { key, value: 5 },
+        request: Request::Put {
+            key,
+            value: Value::Number(5),
+        },
     };
     let mut script = Script::new(false);
     assert!(rt; script.take(b"cluster 3") == Ok(Some(ScriptLine::Cluster { nodes: 3 })));
