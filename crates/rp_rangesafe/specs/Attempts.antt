@@ -53,6 +53,10 @@ IsBorn (Overtaken own passed) = Unit {0}
 IsBorn (Removed own) = Unit {0}
 IsBorn (Restarted own) = Unit {0}
 
+-- the attempt was admitted at this node
+abbrev pub IsBornAt : Attempt → ℕ → Type 0
+IsBornAt a node = IsBorn a.stage × (a.node ≡ node)
+
 -- it has not ended, and holds its latches
 abbrev pub IsPending : Stage → Type 0
 IsPending Unborn = ⊥
