@@ -1,3 +1,4 @@
+pub mod ClientCounts
 pub mod Gives
 pub mod Ids
 pub mod Kept

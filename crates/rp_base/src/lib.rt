@@ -1,6 +1,7 @@
 //! What all crates of the product speak of: lists, text, keys and numbers.
 #![tactic(auto)]
 
+mod client_counts;
 mod ids;
 mod items;
 mod keys;
@@ -18,6 +19,7 @@ mod tests;
 mod texts;
 mod values;
 
+pub use client_counts::ClientCounts;
 pub use ids::{CmdId, NodeId, RangeId};
 pub use items::{Item, Items};
 pub use keys::{BadKey, Key, push_bound, push_key};

@@ -1,3 +1,4 @@
+//! Spans of the key space.
 ghost use Rattle.std.specs.Prelude.{◌<◌};
 ghost use Rattle.rp_base.specs.Keys.{end_of};
 

@@ -13,13 +13,15 @@ use Rattle.rp_request.specs.declared.commands.Payload.{Payload}
 use Rattle.rp_request.specs.declared.commands.Payload.TheVariants as payloads
 use Rattle.rp_request.specs.declared.commands.Waiting.{Waiting}
 use Rattle.rp_flush.specs.declared.assigns.Assigned.{Assigned}
-use Rattle.rp_flush.specs.Assigns.{same_id, asks_of, ids_of, once, seq_of, waits_under, waits_under_another, numbered, assigned_of}
+use Rattle.rp_base.specs.Ids.{same_id}
+use Rattle.rp_flush.specs.Assigns.{asks_of, ids_of, once, seq_of, waits_under, waits_under_another, numbered, assigned_of}
 use Rattle.rp_pending.specs.declared.proposals.Proposal.{Proposal}
 use Rattle.rp_pending.specs.Proposals.{is_proposed, proposal_of}
 use Rattle.rp_pending.specs.Refreshes.{waiting_of}
 use Rattle.rp_replica.specs.Flushes.{entry_of, payloads_of, write_of, without_all}
 use Rattle.rp_replica.specs.Plans.{ArePending}
-use Rattle.rp_replica.proofs.Known.{one_id, known_without_all}
+use Rattle.rp_base.proofs.IdLaws.{same_is}
+use Rattle.rp_replica.proofs.Known.{known_without_all}
 
 -- a command that waits under a sequence does not wait under another
 not_both : (o : Option ℕ) (seq : ℕ) → option_map_or (λ s. s == seq) o false ≡ true → option_map_or (λ s. not (s == seq)) o false ≡ true → ⊥
@@ -43,7 +45,7 @@ all_apart waiting seq id h (other ∷ ids) a =
 
 -- the test of ids is the same from both sides
 same_swap : (x y : CmdId) → same_id x y ≡ true → same_id y x ≡ true
-same_swap x y h = subst (λ z. same_id z x ≡ true) (one_id x y h) (subst (λ z. same_id x z ≡ true) (sym (one_id x y h)) h)
+same_swap x y h = subst (λ z. same_id z x ≡ true) (same_is x y h) (subst (λ z. same_id x z ≡ true) (sym (same_is x y h)) h)
 
 -- what waits is pending
 some_more : (d : Bool) (p : Proposal) (r : Option Proposal) → is_some r ≡ true → is_some (cond d (Some p) r) ≡ true

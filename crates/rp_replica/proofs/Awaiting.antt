@@ -9,17 +9,18 @@ use Rattle.rp_base.specs.declared.items.Item.{Item}
 use Rattle.rp_base.specs.declared.items.Item.TheVariants.{Write, Lease}
 use Rattle.rp_request.specs.declared.commands.Waiting.{Waiting}
 use Rattle.rp_flush.specs.declared.assigns.Assigned.{Assigned}
-use Rattle.rp_flush.specs.Assigns.{same_id, asks_of, ids_of, once, seq_of, waits_under, waits_under_another, numbered, assigned_of}
+use Rattle.rp_base.specs.Ids.{same_id}
+use Rattle.rp_flush.specs.Assigns.{asks_of, ids_of, once, seq_of, waits_under, waits_under_another, numbered, assigned_of}
 use Rattle.rp_flush.specs.Counts.{stands}
 use Rattle.rp_pending.specs.declared.proposals.Proposal.{Proposal}
 use Rattle.rp_pending.specs.Proposals.{is_proposed, proposal_of}
 use Rattle.rp_pending.specs.Refreshes.{waits, waiting_of}
 use Rattle.rp_replica.specs.Waits.{waiting_in}
-use Rattle.rp_replica.proofs.Known.{one_id}
+use Rattle.rp_base.proofs.IdLaws.{same_is}
 
 -- the test of ids is the same from both sides
 swapped : (x y : CmdId) → same_id x y ≡ true → same_id y x ≡ true
-swapped x y h = subst (λ z. same_id z x ≡ true) (one_id x y h) (subst (λ z. same_id x z ≡ true) (sym (one_id x y h)) h)
+swapped x y h = subst (λ z. same_id z x ≡ true) (same_is x y h) (subst (λ z. same_id x z ≡ true) (sym (same_is x y h)) h)
 
 either_side : (x y : CmdId) (b c : Bool) → same_id x y ≡ b → same_id y x ≡ c → b ≡ c
 either_side x y true true h k = refl
@@ -51,7 +52,7 @@ none_has id (p ∷ ps) a = ap (λ b. cond b (Some p) (proposal_of id ps)) a.0 �
 
 alone : (id : CmdId) (p : Proposal) (ps : List Proposal) → IsDistinct same_id (map (λ (q : Proposal). q.id) (p ∷ ps)) → same_id p.id id ≡ true → proposal_of id ps ≡ None
 unfolding IsDistinct
-alone id p ps d e = subst (λ x. proposal_of x ps ≡ None) (one_id p.id id e) (none_has p.id ps d.0)
+alone id p ps d e = subst (λ x. proposal_of x ps ≡ None) (same_is p.id id e) (none_has p.id ps d.0)
 
 others_distinct : (p : Proposal) (ps : List Proposal) → IsDistinct same_id (map (λ (q : Proposal). q.id) (p ∷ ps)) → IsDistinct same_id (map (λ (q : Proposal). q.id) ps)
 unfolding IsDistinct
@@ -90,7 +91,7 @@ named id (p ∷ ps) w h = by (same_id id p.id) refl h (named id ps w)
   where
     by : (c : Bool) → same_id id p.id ≡ c → option_and_then waits (cond c (Some p) (proposal_of id ps)) ≡ Some w
         → (option_and_then waits (proposal_of id ps) ≡ Some w → id ≡ w.id) → id ≡ w.id
-    by true e k ih = one_id id p.id e ∙ waits_named (is_proposed p.stage) p w k
+    by true e k ih = same_is id p.id e ∙ waits_named (is_proposed p.stage) p w k
     by false e k ih = ih k
 
 none_by : (b : Bool) (o : Option ℕ) → o ≡ None → cond b o None ≡ o
@@ -101,10 +102,10 @@ item_more : (id k : CmdId) (ps : List Proposal) (s b : Bool) (o : Option Waiting
     → option_and_then waits (proposal_of k ps) ≡ o → seq_of ws id ≡ cond b (seq_when (proposal_of id ps)) None
     → seq_of (cons_option o ws) id ≡ cond (s || b) (seq_when (proposal_of id ps)) None
 item_more id k ps true b None ws e f ih =
-    let g : seq_when (proposal_of id ps) ≡ None = ap (λ x. seq_when (proposal_of x ps)) (sym (one_id k id e)) ∙ ap (option_map (λ (w : Waiting). w.seq)) f in
+    let g : seq_when (proposal_of id ps) ≡ None = ap (λ x. seq_when (proposal_of x ps)) (sym (same_is k id e)) ∙ ap (option_map (λ (w : Waiting). w.seq)) f in
     ih ∙ none_by b _ g
 item_more id k ps true b (Some w) ws e f ih =
-    let g : seq_when (proposal_of id ps) ≡ Some w.seq = ap (λ x. seq_when (proposal_of x ps)) (sym (one_id k id e)) ∙ ap (option_map (λ (w : Waiting). w.seq)) f in
+    let g : seq_when (proposal_of id ps) ≡ Some w.seq = ap (λ x. seq_when (proposal_of x ps)) (sym (same_is k id e)) ∙ ap (option_map (λ (w : Waiting). w.seq)) f in
     ap (λ d. option_map (λ (w : Waiting). w.seq) (cond d (Some w) (find (λ w. same_id w.id id) ws))) (subst (λ x. same_id x id ≡ true) (named k ps w f) e) ∙ sym g
 item_more id k ps false b None ws e f ih = ih
 item_more id k ps false b (Some w) ws e f ih =

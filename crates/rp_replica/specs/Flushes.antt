@@ -3,6 +3,7 @@
 use Rattle.std.specs.Prelude.{ℕ, max, List, [], ◌∷◌, ◌++◌, map, filter_map, Option, None, Some}
 use Rattle.std.specs.Option.{option_map}
 use Rattle.std.specs.List.{filter}
+use Rattle.rp_base.specs.Limits.{first_term}
 use Rattle.rp_base.specs.declared.ids.CmdId.{CmdId}
 use Rattle.rp_base.specs.declared.leases.Lease as leases
 use Rattle.rp_request.specs.declared.commands.Command.{Command}
@@ -41,11 +42,7 @@ listed (Some p) = p ∷ []
 abbrev pub payloads_of : List Proposal → Assigned → List Payload
 payloads_of ps a = map payloads.Lease a.leases ++ filter_map (write_of ps) a.writes
 
--- the term of the entries, for as long as no other leader stands
-abbrev pub first_term : ℕ
-first_term = 1
-
--- a payload as an entry of the log
+-- a payload as an entry of the log, in the first term for as long as no other leader stands
 abbrev pub entry_of : Payload → Entry
 entry_of p = record { term = first_term; payload = spelling p }
 

@@ -11,7 +11,8 @@ use Rattle.rp_request.specs.Covers.{is_split}
 use Rattle.rp_request.specs.declared.commands.Payload.{Payload}
 use Rattle.rp_request.specs.declared.commands.Payload.TheVariants as payloads
 use Rattle.rp_request.specs.Fits.{FitsPayload}
-use Rattle.rp_flush.specs.Assigns.{same_id, asks_of, ids_of, once, numbered, waits_under}
+use Rattle.rp_base.specs.Ids.{same_id}
+use Rattle.rp_flush.specs.Assigns.{asks_of, ids_of, once, numbered, waits_under}
 use Rattle.rp_pending.specs.Proposals.{has_id, proposal_of, with_changed, proposed}
 use Rattle.rp_pending.specs.Refreshes.{waiting_of}
 use Rattle.rp_pending.specs.declared.proposals.Proposal.{Proposal}

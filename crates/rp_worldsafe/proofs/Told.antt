@@ -28,9 +28,9 @@ use Rattle.rp_replica.specs.Applications as applications
 use Rattle.rp_replica.specs.Flushes.{flushed, refused_with}
 use Rattle.rp_replica.specs.declared.events.Ended.{Ended}
 use Rattle.rp_replica.specs.declared.events.ReplicaEvent.TheVariants as events
-use Rattle.rp_rangesafe.specs.Attempts.{IsPending, Waiting, Attempts}
 use Rattle.rp_base.specs.Ids.{same_id}
-use Rattle.rp_base.proofs.IdLaws.{same_is, not_same_apart, id_cases}
+use Rattle.rp_rangesafe.specs.Attempts.{IsPending, Waiting, Attempts}
+use Rattle.rp_base.proofs.IdLaws.{id_cases, same_is, not_same_apart}
 use Rattle.rp_refine.specs.Laws.{IsReached}
 use Rattle.rp_refine.specs.Runs.{Input, Run, begun, with_outcome, with_ended, left_by, next, play, AllLawful}
 use Rattle.rp_refine.specs.Runs as runs
@@ -46,7 +46,8 @@ use Rattle.rp_script.specs.declared.lines.ScriptLine.TheVariants as lines
 use Rattle.rp_world.specs.Notes.{absent_text, full_text}
 use Rattle.rp_world.specs.Playing.{applied, asked, collected, has_replica, happens, noted, peeked, played, played_all}
 use Rattle.rp_world.specs.Playing as playing
-use Rattle.rp_world.specs.Worlds.{World, Outcomes, cmd_cmp, counted, ended_in, next_command, started, took, with_note}
+use Rattle.rp_base.specs.Ids.{cmd_cmp}
+use Rattle.rp_world.specs.Worlds.{World, Outcomes, counted, ended_in, next_command, started, took, with_note}
 use Rattle.rp_world.specs.Worlds as worlds
 use Rattle.rp_worldsafe.specs.Inputs.{all_inputs, input, inputs_of, run_of}
 use Rattle.rp_worldsafe.specs.Told.{IsKept, IsTold, IsUnasked}
@@ -351,6 +352,7 @@ line_goes w f line (lines.Ask node range) bounded r lawful long k = went_none w 
 line_goes w f line (lines.Transfer node range to) bounded r lawful long k = went_none w f long k
 line_goes w f line (lines.Cut node range) bounded r lawful long k = went_none w f long k
 line_goes w f line (lines.Remove node range) bounded r lawful long k = went_none w f long k
+line_goes w f line (lines.Restart node) bounded r lawful long k = went_none w f long k
 line_goes w f line (lines.Tick node count) bounded r lawful long k = went_none w f long k
 line_goes w f line (lines.Deliver node number) bounded r lawful long k = went_none w f long k
 line_goes w f line (lines.Loss percent salt) bounded r lawful long k = went_none w f long k
