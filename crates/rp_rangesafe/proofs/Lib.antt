@@ -18,6 +18,7 @@ pub mod Barriers
 pub mod Leases
 pub mod Admissions
 pub mod Holders
+pub mod Lasts
 pub mod Rights
 pub mod Splits
 pub mod Joint

@@ -117,6 +117,11 @@ abbrev pub IsAmong : List ℕ → ℕ → Type 0
 IsAmong [] m = ⊥
 IsAmong (x ∷ xs) m = (m ≡ x) ⊎ IsAmong xs m
 
+-- the number is the last that was given
+abbrev pub IsLast : List ℕ → ℕ → Type 0
+IsLast [] m = ⊥
+IsLast (x ∷ xs) m = m ≡ x
+
 -- the command was made of the attempt
 pub record IsOf (a : Attempt) (c : Command) : Type 0 where
   pub seq : c.seq ≡ a.seq

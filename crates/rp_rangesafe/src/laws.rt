@@ -14,7 +14,7 @@ ghost use Rattle.rp_request.specs.Places.{IsOnce, IsOnceInAll};
 ghost use Rattle.rp_request.specs.Starts.{IsStart};
 ghost use Rattle.rp_request.specs.Evaluations.{Does};
 ghost use Rattle.rp_request.specs.Applied.{AppliedState, item, records_of, after_all};
-ghost use Rattle.rp_rangesafe.specs.Attempts.{Body, Unborn, Success, Refused, Overtaken, Restarted, IsBorn, IsBornAt, IsEnded, IsAmong, IsOpen};
+ghost use Rattle.rp_rangesafe.specs.Attempts.{Body, Unborn, Success, Refused, Overtaken, Restarted, IsBorn, IsBornAt, IsEnded, IsAmong, IsLast, IsOpen};
 ghost use Rattle.rp_rangesafe.specs.Along.{entry};
 ghost use Rattle.rp_rangesafe.specs.World.{World, state_at, here, Event, Admit, Apply, Restart, MayCommit, Lawful, admitted, happens};
 ghost use Rattle.rp_rangesafe.specs.Places.{HappensAt, IsReached, IsLater, IsFurther, IsPlace, IsDeadByStage, IsDeadForGood, HasNever, IsPlacedWith, IsLawfulPlace, shown, items_to};
@@ -72,10 +72,13 @@ pub fn an_overtaken_attempt_was_passed()
         → (w.attempt id).stage ≡ Overtaken own passed → (0 < own) × (own ≤ passed) }
 {}
 
-/// The maximum of a proposed, a removed or a restarted attempt is at least 1.
-pub fn an_open_maximum_is_positive()
-    ensures { (w : World) → IsReached w → (id : CmdId) (own : ℕ) → IsOpen (w.attempt id).stage own
-        → 0 < own }
+/// The maximum of a proposed, a removed or a restarted attempt is the last that it was given, and at
+/// least 1.
+pub fn an_open_maximum_is_the_last_one()
+    ensures last { (w : World) → IsReached w → (id : CmdId) (own : ℕ)
+        → IsOpen (w.attempt id).stage own → IsLast (w.attempt id).maxima own }
+    ensures positive { (w : World) → IsReached w → (id : CmdId) (own : ℕ)
+        → IsOpen (w.attempt id).stage own → 0 < own }
 {}
 
 /// At its place, on the table and the description there, an attempt's batch does what the effect of
@@ -146,9 +149,14 @@ pub fn a_holder_passes_its_barrier()
 
 /// Whatever comes, an attempt that a restart ended has no place but under its last maximum.
 pub fn a_restarted_attempt_has_its_last_maximum()
-    ensures { (w : World) → IsReached w → (id : CmdId) (own : ℕ)
-        → (w.attempt id).stage ≡ Restarted own → (later : World) (k : ℕ) (c : Command)
-        → IsLater w later → IsPlace later id k c → c.max ≡ own }
+    ensures own { (w : World) → IsReached w → (id : CmdId) (own : ℕ)
+        → (w.attempt id).stage ≡ Restarted own
+        → (later : World) (k : ℕ) (c : Command) → IsLater w later → IsPlace later id k c
+        → c.max ≡ own }
+    ensures last { (w : World) → IsReached w → (id : CmdId) (own : ℕ)
+        → (w.attempt id).stage ≡ Restarted own
+        → (later : World) (k : ℕ) (c : Command) → IsLater w later → IsPlace later id k c
+        → IsLast (w.attempt id).maxima c.max }
 {}
 
 /// Two places of one command, in whichever ranges and of whichever of its attempts, are one.
