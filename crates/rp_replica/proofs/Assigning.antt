@@ -1,5 +1,5 @@
 -- What a flush assigns is pending, and is no more than the inbox holds.
-use Rattle.std.proofs.Common.{◌≡◌, ◌≤◌, ◌+◌, ◌==◌, ℕ, suc, Bool, true, false, cond, not, List, [], ◌∷◌, ◌++◌, length, map, Option, None, Some, is_some, refl, sym, ap, subst, ◌∙◌, arith, length-append}
+use Rattle.std.proofs.Common.{◌≡◌, ◌≤◌, ◌+◌, ◌==◌, ℕ, suc, max, Bool, true, false, cond, not, List, [], ◌∷◌, ◌++◌, length, map, Option, None, Some, is_some, refl, sym, ap, subst, ◌∙◌, arith, length-append}
 use Rattle.std.specs.Prelude.{filter_map, IsSome}
 use Rattle.std.specs.List.{All, filter, find, cons_option}
 use Rattle.std.specs.Option.{option_map, option_map_or}
@@ -87,10 +87,10 @@ numbers_pending last (id ∷ ids) ps h =
     (numbers_pending (last + 1) ids ps (All-tail (λ x. IsSome (proposal_of x ps)) id ids h))
 
 -- what is proposed is pending once the refused ones have ended
-pub assigned_pending : (inbox : List Item) (ps : List Proposal) (seq last : ℕ)
-    → ArePending (assigned_of inbox (waiting_of ps) seq last).writes (without_all (assigned_of inbox (waiting_of ps) seq last).refused ps)
-assigned_pending inbox ps seq last =
-    numbers_pending last _ _ (each_pending ps seq _ _ (filter_passes (waits_under_another (waiting_of ps) seq) (once (ids_of inbox)))
+pub assigned_pending : (inbox : List Item) (ps : List Proposal) (seq lai assigned : ℕ)
+    → ArePending (assigned_of inbox (waiting_of ps) seq lai assigned).writes (without_all (assigned_of inbox (waiting_of ps) seq lai assigned).refused ps)
+assigned_pending inbox ps seq lai assigned =
+    numbers_pending (max assigned lai) _ _ (each_pending ps seq _ _ (filter_passes (waits_under_another (waiting_of ps) seq) (once (ids_of inbox)))
     (filter_passes (waits_under (waiting_of ps) seq) (once (ids_of inbox))))
 
 -- each item is an ask or a command
@@ -127,9 +127,10 @@ length_numbered last [] = refl
 length_numbered last (id ∷ ids) = ap suc (length_numbered (last + 1) ids)
 
 -- a flush makes no more entries than the inbox has items
-pub few_entries : (inbox : List Item) (ps : List Proposal) (waiting : List Waiting) (seq last : ℕ)
-    → length (asks_of inbox) + length (filter_map (write_of ps) (assigned_of inbox waiting seq last).writes) ≤ length inbox
-few_entries inbox ps waiting seq last =
+pub few_entries : (inbox : List Item) (ps : List Proposal) (waiting : List Waiting) (seq lai assigned : ℕ)
+    → length (asks_of inbox) + length (filter_map (write_of ps) (assigned_of inbox waiting seq lai assigned).writes) ≤ length inbox
+few_entries inbox ps waiting seq lai assigned =
+    let last = max assigned lai in
     let ids = once (ids_of inbox) in
     let proposed = filter (waits_under waiting seq) ids in
     let a = fewer_mapped (write_of ps) (numbered last proposed) in

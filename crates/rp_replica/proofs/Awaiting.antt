@@ -1,5 +1,5 @@
 -- A flush reads of what waits only what its inbox names.
-use Rattle.std.proofs.Common.{◌≡◌, ℕ, ◌+◌, ◌==◌, ◌&&◌, ◌||◌, Bool, true, false, cond, List, [], ◌∷◌, length, map, Option, None, Some, refl, sym, ap, subst, ◌∙◌, eq-eqb}
+use Rattle.std.proofs.Common.{◌≡◌, ℕ, ◌+◌, max, ◌==◌, ◌&&◌, ◌||◌, Bool, true, false, cond, List, [], ◌∷◌, length, map, Option, None, Some, refl, sym, ap, subst, ◌∙◌, eq-eqb}
 use Rattle.std.specs.Prelude.{not, option_and_then, option_map}
 use Rattle.std.specs.Option.{option_map_or}
 use Rattle.std.specs.List.{All, AllByRecursion, IsDistinct, cons_option, filter, find}
@@ -10,7 +10,7 @@ use Rattle.rp_base.specs.declared.items.Item.TheVariants.{Write, Lease}
 use Rattle.rp_request.specs.declared.commands.Waiting.{Waiting}
 use Rattle.rp_flush.specs.declared.assigns.Assigned.{Assigned}
 use Rattle.rp_base.specs.Ids.{same_id}
-use Rattle.rp_flush.specs.Assigns.{asks_of, ids_of, once, seq_of, waits_under, waits_under_another, numbered, assigned_of}
+use Rattle.rp_flush.specs.Assigns.{asks_of, ids_of, last_after, once, seq_of, waits_under, waits_under_another, numbered, assigned_of}
 use Rattle.rp_flush.specs.Counts.{stands}
 use Rattle.rp_pending.specs.declared.proposals.Proposal.{Proposal}
 use Rattle.rp_pending.specs.Proposals.{is_proposed, proposal_of}
@@ -156,24 +156,25 @@ filtered_same test f g (id ∷ ids) h =
     ap (λ o. cond (test o) (id ∷ filter (λ x. test (f x)) ids) (filter (λ x. test (f x)) ids)) (All-head (λ x. f x ≡ g x) id ids h)
     ∙ ap (λ l. cond (test (g id)) (id ∷ l) l) (filtered_same test f g ids (All-tail (λ x. f x ≡ g x) id ids h))
 
-abbrev with_lists : List Item → ℕ → List CmdId → List CmdId → Assigned
-with_lists inbox last proposed refused = record { leases = asks_of inbox; writes = numbered last proposed; refused = refused; last = last + length proposed }
+abbrev with_lists : List Item → (lai assigned : ℕ) → List CmdId → List CmdId → Assigned
+with_lists inbox lai assigned proposed refused =
+    record { leases = asks_of inbox; writes = numbered (max assigned lai) proposed; refused = refused; last = last_after lai assigned proposed }
 
-assigned_same : (inbox : List Item) (vs ws : List Waiting) (seq last : ℕ) → All (λ id. seq_of vs id ≡ seq_of ws id) (ids_of inbox)
-    → assigned_of inbox vs seq last ≡ assigned_of inbox ws seq last
-assigned_same inbox vs ws seq last h =
+assigned_same : (inbox : List Item) (vs ws : List Waiting) (seq lai assigned : ℕ) → All (λ id. seq_of vs id ≡ seq_of ws id) (ids_of inbox)
+    → assigned_of inbox vs seq lai assigned ≡ assigned_of inbox ws seq lai assigned
+assigned_same inbox vs ws seq lai assigned h =
     let each = all_once (λ id. seq_of vs id ≡ seq_of ws id) (ids_of inbox) h in
-    ap (λ l. with_lists inbox last l (filter (waits_under_another vs seq) (once (ids_of inbox)))) (filtered_same (λ o. option_map_or (λ s. s == seq) o false) (seq_of vs) (seq_of ws) _ each)
-    ∙ ap (with_lists inbox last (filter (waits_under ws seq) (once (ids_of inbox)))) (filtered_same (λ o. option_map_or (λ s. not (s == seq)) o false) (seq_of vs) (seq_of ws) _ each)
+    ap (λ l. with_lists inbox lai assigned l (filter (waits_under_another vs seq) (once (ids_of inbox)))) (filtered_same (λ o. option_map_or (λ s. s == seq) o false) (seq_of vs) (seq_of ws) _ each)
+    ∙ ap (with_lists inbox lai assigned (filter (waits_under ws seq) (once (ids_of inbox)))) (filtered_same (λ o. option_map_or (λ s. not (s == seq)) o false) (seq_of vs) (seq_of ws) _ each)
 
 -- so a flush may read what waits of its inbox alone
-pub read_of_inbox : (inbox : List Item) (ps : List Proposal) (seq last : ℕ) → IsDistinct same_id (map (λ (p : Proposal). p.id) ps)
-    → assigned_of inbox (waiting_in ps inbox) seq last ≡ assigned_of inbox (waiting_of ps) seq last
-read_of_inbox inbox ps seq last d =
-    assigned_same inbox (waiting_in ps inbox) (waiting_of ps) seq last (answer_same ps inbox (ids_of inbox) d (each_stands (ids_of inbox) (ids_of inbox) (λ id h. h)))
+pub read_of_inbox : (inbox : List Item) (ps : List Proposal) (seq lai assigned : ℕ) → IsDistinct same_id (map (λ (p : Proposal). p.id) ps)
+    → assigned_of inbox (waiting_in ps inbox) seq lai assigned ≡ assigned_of inbox (waiting_of ps) seq lai assigned
+read_of_inbox inbox ps seq lai assigned d =
+    assigned_same inbox (waiting_in ps inbox) (waiting_of ps) seq lai assigned (answer_same ps inbox (ids_of inbox) d (each_stands (ids_of inbox) (ids_of inbox) (λ id h. h)))
 
 -- the same of what a body has made
-pub read_of_items : (inbox items : List Item) (ps : List Proposal) (ws : List Waiting) (seq last : ℕ) → items ≡ inbox → ws ≡ waiting_in ps items
-    → IsDistinct same_id (map (λ (p : Proposal). p.id) ps) → assigned_of inbox ws seq last ≡ assigned_of inbox (waiting_of ps) seq last
-read_of_items inbox items ps ws seq last e w d =
-    ap (λ l. assigned_of inbox l seq last) (w ∙ ap (waiting_in ps) e) ∙ read_of_inbox inbox ps seq last d
+pub read_of_items : (inbox items : List Item) (ps : List Proposal) (ws : List Waiting) (seq lai assigned : ℕ) → items ≡ inbox → ws ≡ waiting_in ps items
+    → IsDistinct same_id (map (λ (p : Proposal). p.id) ps) → assigned_of inbox ws seq lai assigned ≡ assigned_of inbox (waiting_of ps) seq lai assigned
+read_of_items inbox items ps ws seq lai assigned e w d =
+    ap (λ l. assigned_of inbox l seq lai assigned) (w ∙ ap (waiting_in ps) e) ∙ read_of_inbox inbox ps seq lai assigned d

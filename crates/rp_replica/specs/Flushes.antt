@@ -1,6 +1,6 @@
 -- Flush: the inbox becomes payloads in the log, each command under a lease index (after CockroachDB's proposal
 -- buffer, whose flush gives the maximum lease indexes under the replica's lock).
-use Rattle.std.specs.Prelude.{ℕ, max, List, [], ◌∷◌, ◌++◌, map, filter_map, Option, None, Some}
+use Rattle.std.specs.Prelude.{ℕ, List, [], ◌∷◌, ◌++◌, map, filter_map, Option, None, Some}
 use Rattle.std.specs.Option.{option_map}
 use Rattle.std.specs.List.{filter}
 use Rattle.rp_base.specs.Limits.{first_term}
@@ -81,4 +81,4 @@ flushed_by r a ticks round = record {
 -- a flush, at a tick and in a round of the node
 abbrev pub flushed : Replica → (ticks round : ℕ) → Done
 flushed r ticks round =
-    flushed_by r (assigned_of r.inbox (waiting_of r.pending) r.applied.state.lease.seq (max r.assigned r.applied.state.lai)) ticks round
+    flushed_by r (assigned_of r.inbox (waiting_of r.pending) r.applied.state.lease.seq r.applied.state.lai r.assigned) ticks round
