@@ -1,6 +1,6 @@
 -- Ids of attempts: the test says when two are one, and the order is total.
 use Rattle.std.proofs.Common.{◌≡◌, ℕ, ◌==◌, ◌&&◌, eqb, Bool, true, false, ◌⊎◌, inl, inr, ⊎_elim, refl, sym, ap, subst, ◌∙◌, arith, eqb-true, eq-eqb}
-use Rattle.std.proofs.lemmas.Bool.{eqb-false, and_parts, and_cases}
+use Rattle.std.proofs.lemmas.Bool.{eqb-false, and_from, and_parts, and_cases}
 use Rattle.std.proofs.lemmas.Grind.{common_steps}
 use Rattle.std.specs.BTreeMap.{is_at}
 use Rattle.std.specs.Cmp.{IsTotalOrder, nat_cmp_total, on_total, then_total}
@@ -32,12 +32,8 @@ not_same_apart x y e same = ⊎_elim
     (and_cases (eqb x.client y.client && eqb x.seq y.seq) (eqb x.attempt y.attempt) e)
 
 -- an id passes it with itself, and unequal ones do not
-both_true : (a b : Bool) → a ≡ true → b ≡ true → (a && b) ≡ true
-both_true true b h k = k
-both_true false b h k = h
-
 pub same_itself : (x : CmdId) → same_id x x ≡ true
-same_itself x = both_true _ _ (both_true _ _ (eq-eqb x.client x.client refl) (eq-eqb x.seq x.seq refl)) (eq-eqb x.attempt x.attempt refl)
+same_itself x = and_from _ _ (and_from _ _ (eq-eqb x.client x.client refl) (eq-eqb x.seq x.seq refl)) (eq-eqb x.attempt x.attempt refl)
 
 pub equal_same : (x y : CmdId) → x ≡ y → same_id x y ≡ true
 equal_same x y e = subst (λ (z : CmdId). same_id x z ≡ true) e (same_itself x)

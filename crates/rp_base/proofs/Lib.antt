@@ -1,4 +1,7 @@
+pub mod Bools
 pub mod ClientCountLaws
+pub mod Counts
+pub mod Elements
 pub mod IdLaws
 pub mod KeyBytes
 pub mod KeyLaws

@@ -1,6 +1,6 @@
 -- The tests on spans say what they mean of sets of numbers.
-use Rattle.std.proofs.Common.{◌≡◌, ℕ, ◌-◌, ◌<◌, ◌≤◌, ◌↔◌, Bool, true, false, ◌&&◌, ◌||◌, nat_lt, nat_le, IsTrue, List, [], ◌∷◌, ◌∙◌, inl, inr, arith, refl, ap, sym, subst, Option, None, Some}
-use Rattle.std.proofs.lemmas.Bool.{cases_lt}
+use Rattle.std.proofs.Common.{◌≡◌, ℕ, ◌-◌, ◌<◌, ◌≤◌, ◌↔◌, Bool, true, false, ◌&&◌, ◌||◌, nat_lt, IsTrue, List, [], ◌∷◌, ◌∙◌, inl, inr, arith, refl, ap, sym, subst, Option, None, Some}
+use Rattle.std.proofs.lemmas.Bool.{cases_lt, or_left, or_right}
 use Rattle.std.proofs.lemmas.Bool.Decides.{nat_tests}
 use Rattle.std.specs.Coded.{le_prop}
 use Rattle.std.specs.List.{list_any}
@@ -8,6 +8,8 @@ use Rattle.rp_base.specs.declared.spans.Span.{Span}
 use Rattle.rp_base.specs.declared.spans.KeySpan.{KeySpan}
 use Rattle.rp_base.specs.declared.spans.Spans.{Spans}
 use Rattle.rp_base.specs.Keys.{end_of}
+use Rattle.rp_base.specs.Tables.{is_between}
+use Rattle.rp_base.proofs.Bools.{either_way}
 use Rattle.rp_base.specs.Spans.{Holds, Overlaps, meets, LiesWithin, within, one_key, span_list, any_meet, key_span_by, key_span_of, start_below}
 
 -- the higher start lies in both
@@ -122,34 +124,23 @@ any_meet_back x y = go x.first x.second y.first y.second where
       ∙ ap (λ x. (meets c a || (meets c b || false)) || ((meets d a || (x || false)) || false)) (meets_back b d)
 
 -- a number that spans of both have makes them meet
-meet_at : (s t : Span) (q : ℕ) → IsTrue (nat_le s.start q && nat_lt q s.end) → IsTrue (nat_le t.start q && nat_lt q t.end) → IsTrue (meets s t)
+meet_at : (s t : Span) (q : ℕ) → IsTrue (is_between s.start s.end q) → IsTrue (is_between t.start t.end q) → IsTrue (meets s t)
 meet_at s t q h k = grind (arith, nat_tests)
 
-left_way : (a b : Bool) → IsTrue a → IsTrue (a || b)
-left_way a b h = ap (λ x. x || b) h
-
-right_way : (a b : Bool) → IsTrue b → IsTrue (a || b)
-right_way true b h = refl
-right_way false b h = h
-
-either_way : {P : Type 0} (a b : Bool) → IsTrue (a || b) → (IsTrue a → P) → (IsTrue b → P) → P
-either_way true b h l r = l refl
-either_way false b h l r = r h
-
-meet_one : (s : Span) (ys : List Span) (q : ℕ) → IsTrue (nat_le s.start q && nat_lt q s.end)
-    → IsTrue (list_any (λ t. nat_le t.start q && nat_lt q t.end) ys) → IsTrue (list_any (meets s) ys)
+meet_one : (s : Span) (ys : List Span) (q : ℕ) → IsTrue (is_between s.start s.end q)
+    → IsTrue (list_any (λ t. is_between t.start t.end q) ys) → IsTrue (list_any (meets s) ys)
 meet_one s [] q h k = k
-meet_one s (t ∷ ys) q h k = either_way (nat_le t.start q && nat_lt q t.end) (list_any (λ t. nat_le t.start q && nat_lt q t.end) ys) k
-    (λ i. left_way (meets s t) (list_any (meets s) ys) (meet_at s t q h i))
-    (λ i. right_way (meets s t) (list_any (meets s) ys) (meet_one s ys q h i))
+meet_one s (t ∷ ys) q h k = either_way (is_between t.start t.end q) (list_any (λ t. is_between t.start t.end q) ys) k
+    (λ i. or_left (meets s t) (list_any (meets s) ys) (meet_at s t q h i))
+    (λ i. or_right (meets s t) (list_any (meets s) ys) (meet_one s ys q h i))
 
-meet_some : (xs ys : List Span) (q : ℕ) → IsTrue (list_any (λ t. nat_le t.start q && nat_lt q t.end) xs)
-    → IsTrue (list_any (λ t. nat_le t.start q && nat_lt q t.end) ys) → IsTrue (list_any (λ s. list_any (meets s) ys) xs)
+meet_some : (xs ys : List Span) (q : ℕ) → IsTrue (list_any (λ t. is_between t.start t.end q) xs)
+    → IsTrue (list_any (λ t. is_between t.start t.end q) ys) → IsTrue (list_any (λ s. list_any (meets s) ys) xs)
 meet_some [] ys q h k = h
-meet_some (s ∷ xs) ys q h k = either_way (nat_le s.start q && nat_lt q s.end) (list_any (λ t. nat_le t.start q && nat_lt q t.end) xs) h
-    (λ i. left_way (list_any (meets s) ys) (list_any (λ s. list_any (meets s) ys) xs) (meet_one s ys q i k))
-    (λ i. right_way (list_any (meets s) ys) (list_any (λ s. list_any (meets s) ys) xs) (meet_some xs ys q i k))
+meet_some (s ∷ xs) ys q h k = either_way (is_between s.start s.end q) (list_any (λ t. is_between t.start t.end q) xs) h
+    (λ i. or_left (list_any (meets s) ys) (list_any (λ s. list_any (meets s) ys) xs) (meet_one s ys q i k))
+    (λ i. or_right (list_any (meets s) ys) (list_any (λ s. list_any (meets s) ys) xs) (meet_some xs ys q i k))
 
-pub any_meet_at : (x y : Spans) (q : ℕ) → IsTrue (list_any (λ s. nat_le s.start q && nat_lt q s.end) (span_list x))
-    → IsTrue (list_any (λ s. nat_le s.start q && nat_lt q s.end) (span_list y)) → IsTrue (any_meet x y)
+pub any_meet_at : (x y : Spans) (q : ℕ) → IsTrue (list_any (λ s. is_between s.start s.end q) (span_list x))
+    → IsTrue (list_any (λ s. is_between s.start s.end q) (span_list y)) → IsTrue (any_meet x y)
 any_meet_at x y q h k = meet_some (span_list x) (span_list y) q h k

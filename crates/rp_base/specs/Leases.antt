@@ -15,7 +15,8 @@ renewed lease = record lease { seq = lease.seq + 1 }
 abbrev pub moved : Lease → LeaseAsk → Lease
 moved lease ask = record { holder = ask.holder; seq = lease.seq + 1; expires = ask.expires }
 
--- what an ask of the present sequence makes of a lease: for the holder it is extended, or at tick 0 renewed
+-- what an ask of the present sequence makes of a lease: for the holder it is extended, or at tick 0
+-- renewed
 abbrev pub taken_by : Lease → LeaseAsk → Lease
 taken_by lease ask = if ask.holder == lease.holder
     then (if ask.expires == 0 then renewed lease else extended lease ask)
@@ -25,8 +26,8 @@ taken_by lease ask = if ask.holder == lease.holder
 abbrev pub lease_after : Lease → LeaseAsk → Option Lease
 lease_after lease ask = if ask.prev == lease.seq then Some (taken_by lease ask) else None
 
--- how leases follow each other: holder and sequence stay and the expiry does not fall, or the sequence
--- rises by one. So one sequence has one holder
+-- how leases follow each other: holder and sequence stay and the expiry does not fall, or the
+-- sequence rises by one. So one sequence has one holder
 abbrev pub Follows : Lease → Lease → Type 0
 Follows old new =
     ((new.holder ≡ old.holder) × (new.seq ≡ old.seq) × (old.expires ≤ new.expires))

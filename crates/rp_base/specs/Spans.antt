@@ -56,13 +56,16 @@ any_meet x y = list_any (meets_one y) (span_list x)
 abbrev pub all_within : Desc → Spans → Bool
 all_within d spans = list_all (λ s. within s d.start d.end) (span_list spans)
 
--- a span of keys from a key on, up to another or to the end of the key space: none where its end is at or
--- below its start
+-- the start stands below the end where the test says so
 pub start_below : (start end : ℕ) → nat_lt start end ≡ true → start < end
 start_below start end test = grind (arith, nat_tests)
 
-abbrev pub key_span_by : (start : ℕ) (end : Option ℕ) (low : Bool) → nat_lt start (end_of end) ≡ low → Option KeySpan
-key_span_by start end true test = Some (record { start = start; end = end; ordered = start_below start (end_of end) test })
+-- a span of keys from a key on, up to another or to the end of the key space: none where its end is
+-- at or below its start
+abbrev pub key_span_by : (start : ℕ) (end : Option ℕ) (low : Bool)
+    → nat_lt start (end_of end) ≡ low → Option KeySpan
+key_span_by start end true test =
+    Some (record { start = start; end = end; ordered = start_below start (end_of end) test })
 key_span_by start end false test = None
 
 abbrev pub key_span_of : ℕ → Option ℕ → Option KeySpan

@@ -1,3 +1,4 @@
+//! Keys: how they are read, kept and written.
 ghost use Rattle.std.specs.Prelude.{◌≡◌, ◌-◌, ◌^◌, ◌<◌, ◌≤◌, ◌==◌, ◌↔◌, ◌⊎◌, ◌++◌, length, replicate, IsNone, IfSome, OnOk, OnErr};
 ghost use Rattle.std.specs.List.{prefix_len, position_or_len};
 ghost use Rattle.rp_base.specs.Keys.{is_key_byte, key_of, key_text, IsKey, IsShown, bound_text};

@@ -126,18 +126,21 @@ pub fn range_ids_differ()
 /// A lease's sequence never falls.
 #[tactic(auto, using(crate::proofs::LeaseLaws::lease_seq_rises))]
 pub fn lease_seq_never_falls()
-    ensures { (old : Lease) (ask : LeaseAsk) (new : Lease) → lease_after old ask ≡ Some new → old.seq ≤ new.seq }
+    ensures { (old : Lease) (ask : LeaseAsk) (new : Lease)
+        → lease_after old ask ≡ Some new → old.seq ≤ new.seq }
 {}
 
 /// Holder and sequence stay and the expiry does not fall, or the sequence rises by one.
 #[tactic(auto, using(crate::proofs::LeaseLaws::lease_follows))]
 pub fn lease_stays_or_moves()
-    ensures { (old : Lease) (ask : LeaseAsk) (new : Lease) → lease_after old ask ≡ Some new → Follows old new }
+    ensures { (old : Lease) (ask : LeaseAsk) (new : Lease)
+        → lease_after old ask ≡ Some new → Follows old new }
 {}
 
 /// Of two leases that follow each other under one sequence the holder is the same.
 pub fn one_sequence_has_one_holder()
-    ensures { (old : Lease) (new : Lease) → Follows old new → new.seq ≡ old.seq → new.holder ≡ old.holder }
+    ensures { (old : Lease) (new : Lease)
+        → Follows old new → new.seq ≡ old.seq → new.holder ≡ old.holder }
 {}
 
 /// The constants are the numbers that definitions name.

@@ -1,4 +1,4 @@
-//! One call of each kind, and want of memory.
+//! One call of each kind, and worked texts.
 use crate::{
     BadKey, BadText, Bytes, Calls, ClientCounts, Grown, Item, Items, Key, KeySpan, LeaseAsk,
     LeaseSeq, NodeId, NumberFault, Seq, ShortText, Text, Tick, Value, push_bound, push_key,

@@ -1,4 +1,6 @@
-pub mod RaftState
-pub mod Step
-pub mod Conditions
+pub mod Held
+pub mod Plans
 pub use Rattle.rp_raftlog.specs.LogState
+pub use Rattle.rp_raftstep.specs.RaftState
+pub use Rattle.rp_raftstep.specs.Step
+pub use Rattle.rp_raftstep.specs.Conditions

@@ -1,44 +1,100 @@
+//! Small changes and tests of a head.
+
+ghost use Rattle.std.specs.Prelude.{◌≡◌, ◌+◌, ◌<◌, ◌≤◌, ◌^◌};
+ghost use Rattle.rp_raftstep.specs.RaftState.{is_majority};
+ghost use Rattle.rp_raftstep.specs.Step.{candidate, following, is_elected, may_vote, observed, patience};
+
 use rp_base::NodeId;
+use rp_raftstep::{Head, Role};
 
-/// What a replica is in its term (Raft 2014, section 5.1).
-#[derive(Clone, Copy, Debug, PartialEq, Eq)]
-pub enum Role {
-    Follower,
-    Candidate,
-    Leader,
+/// The place of a node in a table.
+pub(crate) fn place(node: NodeId) -> usize
+    ensures behind { result + 1 ≡ node }
+    ensures within { result < 5 }
+{
+    (node.get() - 1) as usize
 }
 
-/// The Raft state of a replica but for its log. The tables have a place for each node, that of node n at n - 1.
-#[derive(Clone, Copy, Debug, PartialEq, Eq)]
-pub struct Head {
-    /// The node of this replica.
-    pub node: NodeId,
-    /// How many nodes there are.
-    pub nodes: u8,
-    pub term: u64,
-    /// Who has this replica's vote in the term.
-    pub vote: Option<NodeId>,
-    pub role: Role,
-    /// Who leads the term, if that is known.
-    pub leader: Option<NodeId>,
-    /// The greatest index that is known to be committed.
-    pub commit: u64,
-    /// A candidate's table: who has granted it a vote.
-    pub votes: [bool; 5],
-    /// A leader's table: the next index to be sent.
-    pub next: [u64; 5],
-    /// A leader's table: up to which index the log is known to be as the leader's.
-    pub matched: [u64; 5],
-    /// Ticks since the last sign of a leader.
-    pub silent: u64,
-    /// A leader's ticks since it last sent to all.
-    pub beat: u64,
+/// Any message but `Forward` with a higher term: that term comes first.
+pub(crate) fn observed(head: Head, term: u64) -> Head
+    ensures { result ≡ observed head term }
+{
+    if head.term < term {
+        return Head {
+            term,
+            vote: None,
+            role: Role::Follower,
+            leader: None,
+            ..head
+        };
+    }
+    head
 }
 
-/// Which peers an event sends an `Append` or a `Snap` to.
-#[derive(Clone, Copy, Debug, PartialEq, Eq)]
-pub enum Due {
-    Nobody,
-    One(NodeId),
-    Everyone,
+/// The sender leads the present term.
+pub(crate) fn following(head: Head, from: NodeId) -> Head
+    ensures { result ≡ following head from }
+{
+    Head {
+        role: Role::Follower,
+        leader: Some(from),
+        silent: 0,
+        ..head
+    }
+}
+
+/// It stands for election in the next term.
+pub(crate) fn candidate(head: Head) -> Head
+    requires { head.term + 1 < 2 ^ 64 }
+    ensures { result ≡ candidate head }
+{
+    let mut votes = [false; 5];
+    votes[place(head.node)] = true;
+    Head {
+        term: head.term + 1,
+        vote: Some(head.node),
+        role: Role::Candidate,
+        leader: None,
+        votes,
+        silent: 0,
+        ..head
+    }
+}
+
+/// How many ticks a node waits for a leader (this project).
+pub(crate) fn patience(node: NodeId) -> u64
+    ensures value { result ≡ patience node }
+    ensures small { result ≤ 25 }
+{
+    10 + 3 * u64::from(node.get())
+}
+
+/// Whether the vote of this term is free for the node, or is its own already.
+pub(crate) fn may_vote(head: &Head, node: NodeId) -> bool
+    ensures { result ≡ may_vote head.now node }
+{
+    match head.vote {
+        Some(vote) => vote == node,
+        None => true,
+    }
+}
+
+/// Whether so many are more than half of the nodes.
+pub(crate) fn is_majority(head: Head, count: usize) -> bool
+    requires { count ≤ 5 }
+    ensures { result ≡ is_majority head count }
+{
+    usize::from(head.nodes) < 2 * count
+}
+
+/// Whether a majority has voted for the candidate.
+pub(crate) fn is_elected(head: Head) -> bool
+    requires { head.nodes ≤ 5 }
+    ensures { result ≡ is_elected head }
+{
+    let voted = head.votes[..usize::from(head.nodes)]
+        .iter()
+        .filter(|voted| **voted)
+        .count();
+    is_majority(head, voted)
 }

@@ -1,12 +1,18 @@
 //! One replica's part in Raft: elections, the log, and what is sent (Raft 2014).
 #![tactic(auto)]
 
-mod events;
+mod ahead;
+mod commits;
+mod drafts;
+mod elections;
+mod followers;
 mod heads;
+mod leaders;
 mod messages;
-mod snaps;
+mod plans;
+mod proposals;
+mod rafts;
+mod sends;
 
-pub use events::{Payloads, RaftEvent, RaftOut};
-pub use heads::{Due, Head, Role};
-pub use messages::Message;
-pub use snaps::MakeSnap;
+pub use plans::RaftPlan;
+pub use rafts::Raft;

@@ -1,45 +1,64 @@
-use rp_base::Bytes;
-use rp_raftlog::Entries;
+//! What a message of another replica is planned to do.
 
-/// What one replica of a range sends to another. `S` is the type of snapshots.
-/// The requests are those of Raft (2014), sections 5.2, 5.3 and 7, each answered by a message of its own.
-#[derive(Drop)]
-pub enum Message<S> {
-    /// A candidate asks for a vote, and says with which entry its log ends.
-    Vote {
-        term: u64,
-        last_index: u64,
-        last_term: u64,
-    },
-    /// The answer to a `Vote`.
-    VoteReply {
-        term: u64,
-        granted: bool,
-    },
-    /// A leader's entries behind the index `prev_index`, and its commit index.
-    Append {
-        term: u64,
-        prev_index: u64,
-        prev_term: u64,
-        entries: Entries,
-        commit: u64,
-    },
-    /// The answer to an `Append` or a `Snap`: up to `index` the log is as the leader's, or, where `ok` is
-    /// false, `index` is the commit index of the replica that answers.
-    AppendReply {
-        term: u64,
-        ok: bool,
-        index: u64,
-    },
-    /// A payload for the leader to append (this project).
-    Forward {
-        payload: Bytes,
-    },
-    /// A leader's applied state at `index`, whose entry has the term `index_term`.
-    Snap {
-        term: u64,
-        index: u64,
-        index_term: u64,
-        snapshot: S,
-    },
+ghost use Rattle.std.specs.Prelude.{IfOk};
+ghost use Rattle.rp_raftstep.specs.Conditions.{CanRise, MessageFits};
+ghost use Rattle.rp_raftstep.specs.Step.{received};
+ghost use Rattle.rp_raft.specs.Plans.{Drafts};
+
+use crate::heads::observed;
+use crate::plans::RaftDraft;
+use crate::rafts::Raft;
+use rp_base::{NoMemory, NodeId};
+use rp_raftstep::Message;
+
+impl<S: Drop> Raft<S> {
+    /// A message comes. A higher term comes first, but at `Forward`.
+    pub(crate) fn plan_message(
+        &self,
+        from: NodeId,
+        message: Message<S>,
+    ) -> Result<RaftDraft<S>, NoMemory>
+        requires rise { CanRise self.now.raft }
+        requires fits { MessageFits message }
+        ensures { IfOk result (λ d. Drafts self.now.raft.log d (received self.now.raft from message)) }
+    {
+        match message {
+            Message::Vote {
+                term,
+                last_index,
+                last_term,
+            } => {
+                let head = observed(self.head, term);
+                self.plan_vote(head, from, term, last_index, last_term)
+            }
+            Message::VoteReply { term, granted } => {
+                let head = observed(self.head, term);
+                self.plan_vote_reply(head, from, term, granted)
+            }
+            Message::Append {
+                term,
+                prev_index,
+                prev_term,
+                entries,
+                commit,
+            } => {
+                let head = observed(self.head, term);
+                self.plan_append(head, from, term, prev_index, prev_term, entries, commit)
+            }
+            Message::AppendReply { term, ok, index } => {
+                let head = observed(self.head, term);
+                Ok(self.plan_append_reply(head, from, term, ok, index))
+            }
+            Message::Forward { payload } => self.plan_forward(payload),
+            Message::Snap {
+                term,
+                index,
+                index_term,
+                snapshot,
+            } => {
+                let head = observed(self.head, term);
+                self.plan_snap(head, from, term, index, index_term, snapshot)
+            }
+        }
+    }
 }

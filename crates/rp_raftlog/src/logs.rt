@@ -114,6 +114,17 @@ impl Log {
         self.entries.push_reserved(entry);
     }
 
+    /// Puts entries behind the last, without memory.
+    pub fn append_all(&mut self, entries: Entries)
+        requires room { length entries ≤ self.old.spare }
+        requires index { last_index self.old.log + length entries < 2 ^ 64 }
+        ensures log { self.new.log ≡ appended self.old.log entries }
+        ensures spare { self.old.spare ≤ self.new.spare + length entries }
+    {
+        let mut entries = entries.into_vec();
+        self.entries.append(&mut entries).unwrap();
+    }
+
     /// Copies of the first `most` entries from the index `from` on.
     pub fn suffix(&self, from: u64, most: usize) -> Result<Entries, NoMemory>
         requires behind { self.now.log.base < from }
@@ -154,7 +165,7 @@ impl Log {
     }
 
     /// Whether entries after this index and term may be taken in.
-    fn matches(&self, prev_index: u64, prev_term: u64) -> bool
+    pub fn matches(&self, prev_index: u64, prev_term: u64) -> bool
         ensures { result ≡ matches self.now.log prev_index prev_term }
     {
         prev_index < self.base || self.term_at(prev_index) == Some(prev_term)

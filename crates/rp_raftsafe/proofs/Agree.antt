@@ -4,8 +4,8 @@ use Rattle.std.specs.Option.{option_map_or}
 use Rattle.std.proofs.lemmas.Option.{slice_get_within, get_or_from_slice_get}
 use Rattle.rp_raftlog.specs.declared.entries.Entry.{Entry}
 use Rattle.rp_raftlog.specs.LogState.{LogState, entry_at, term_at}
-use Rattle.rp_raft.specs.declared.messages.Message.{Message}
-use Rattle.rp_raft.specs.declared.messages.Message.TheVariants.{Append}
+use Rattle.rp_raftstep.specs.declared.messages.Message.{Message}
+use Rattle.rp_raftstep.specs.declared.messages.Message.TheVariants.{Append}
 use Rattle.rp_raftsafe.specs.World.{Range, World, site, world_after}
 use Rattle.rp_raftsafe.specs.Safety.{HasSent, Leads, OneLeader, SameUpTo, LogsMatch, CommitsAgree, AppendsFit, SentToOthers}
 use Rattle.rp_raftsafe.proofs.Logs.{no_entry, tm, term_in, Good, good_more, logs_match, same_get, same_tm, same_term_in}

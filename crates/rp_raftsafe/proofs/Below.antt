@@ -9,14 +9,14 @@ use Rattle.std.proofs.lemmas.List.{get_or_past, length-map}
 use Rattle.std.proofs.lemmas.List.Elements.{All-weaker, All-append, All-map, All-take, All-drop, All-replicate, All-set, All-nil}
 use Rattle.rp_raftlog.specs.declared.entries.Entry.{Entry}
 use Rattle.rp_raftlog.specs.LogState.{LogState, log_at, last_index, last_term, entry_at, term_at, has_term, suffix, same_terms, Edit, edited, accepting, accepted, accepted_to, matches}
-use Rattle.rp_raft.specs.declared.heads.Head.{Head}
-use Rattle.rp_raft.specs.declared.heads.Role.TheVariants.{Follower, Leader}
-use Rattle.rp_raft.specs.declared.heads.Due.{Due}
-use Rattle.rp_raft.specs.declared.heads.Due.TheVariants.{Nobody, One, Everyone}
-use Rattle.rp_raft.specs.declared.messages.Message.{Message}
-use Rattle.rp_raft.specs.declared.messages.Message.TheVariants.{Vote, VoteReply, Append, AppendReply, Forward, Snap}
-use Rattle.rp_raft.specs.RaftState.{RaftState, is_leader, is_candidate, of_node, with_node, for_each_node, peers}
-use Rattle.rp_raft.specs.Step.{Draft, quiet, answered, sends_to, nothing, with_payloads, leading, is_elected, elected, tick_leading, candidate, requests, stand, patience, tick_waiting, tick, observed, is_up_to_date, may_vote, on_vote, on_vote_reply, following, refused_old, take_append, on_append, on_mismatch, match_after, next_after, on_match, on_append_reply, on_forward, take_snap, on_snap, received, forwards, then_proposed, greatest, committable, advanced, is_on_majority, most_entries, to_peer, due_peers, last_sends, sent}
+use Rattle.rp_raftstep.specs.declared.heads.Head.{Head}
+use Rattle.rp_raftstep.specs.declared.heads.Role.TheVariants.{Follower, Leader}
+use Rattle.rp_raftstep.specs.declared.heads.Due.{Due}
+use Rattle.rp_raftstep.specs.declared.heads.Due.TheVariants.{Nobody, One, Everyone}
+use Rattle.rp_raftstep.specs.declared.messages.Message.{Message}
+use Rattle.rp_raftstep.specs.declared.messages.Message.TheVariants.{Vote, VoteReply, Append, AppendReply, Forward, Snap}
+use Rattle.rp_raftstep.specs.RaftState.{RaftState, is_leader, is_candidate, of_node, with_node, for_each_node, peers}
+use Rattle.rp_raftstep.specs.Step.{Draft, quiet, answered, sends_to, nothing, with_payloads, leading, is_elected, elected, tick_leading, candidate, requests, stand, patience, tick_waiting, tick, observed, is_up_to_date, may_vote, on_vote, on_vote_reply, following, refused_old, take_append, on_append, on_mismatch, match_after, next_after, on_match, on_append_reply, on_forward, take_snap, on_snap, received, forwards, then_proposed, greatest, committable, is_committable, advanced, most_entries, to_peer, due_peers, last_sends, sent}
 use Rattle.rp_raftsafe.specs.Bounds.{RaftBelow, MessageBelow}
 use Rattle.rp_raftsafe.proofs.Logs.{no_entry}
 use Rattle.rp_raftsafe.proofs.Pieces.{every_append, every_map, every_all, every_of}
@@ -140,7 +140,7 @@ elected_below {S} b st h =
 same_below : (b : ℕ) (st : RaftState) (head : Head) → RaftBelow b st → head.term ≤ b → head.commit < b → All (λ n. n ≤ b) head.next → All (λ n. n ≤ b) head.matched → RaftBelow b (record st { head = head })
 same_below b st head h term commit next matched = record { term = term; last = h.last; base_term = h.base_term; terms = h.terms; commit = commit; next = next; matched = matched }
 
-candidate_below : (b : ℕ) (st : RaftState) → RaftBelow b st → RaftBelow (b + 1) (candidate st)
+candidate_below : (b : ℕ) (st : RaftState) → RaftBelow b st → RaftBelow (b + 1) (record st { head = candidate st.head })
 candidate_below b st h =
     let more : RaftBelow (b + 1) st = below_more b (b + 1) st (omega arith) h in
     record { term = omega (arith, h.term); last = more.last; base_term = more.base_term; terms = more.terms; commit = more.commit; next = more.next; matched = more.matched }
@@ -151,12 +151,12 @@ last_term_le b st h = log_term_le b st.log (last_index st.log) h.base_term h.ter
 pub tick_below : {S : Type 0} (b : ℕ) (st : RaftState) → RaftBelow b st → DraftBelow {S = S} (b + 2) (tick st)
 tick_below {S} b st h =
     let more : RaftBelow (b + 2) st = below_more b (b + 2) st (omega arith) h in
-    let next : RaftBelow (b + 1) (candidate st) = candidate_below b st h in
-    let requests_below : Every (SentBelow (b + 2)) (requests {S = S} (candidate st)) =
-    every_map (SentBelow (b + 2)) (λ peer. (peer, Vote (st.head.term + 1) (last_index st.log) (last_term st.log))) (peers (candidate st).head)
-    (every_all (λ peer. SentBelow {S = S} (b + 2) (peer, Vote (st.head.term + 1) (last_index st.log) (last_term st.log))) (λ peer. (omega (arith, h.term), omega (arith, h.last), omega (arith, last_term_le b st h))) (peers (candidate st).head)) in
-    let stood : DraftBelow {S = S} (b + 1 + 1) (elected (candidate st)) = elected_below (b + 1) (candidate st) next in
-    let stood' : DraftBelow {S = S} (b + 2) (elected (candidate st)) = draft_more (b + 1 + 1) (b + 2) (elected (candidate st)) (omega arith) stood in
+    let next : RaftBelow (b + 1) (record st { head = candidate st.head }) = candidate_below b st h in
+    let requests_below : Every (SentBelow (b + 2)) (requests {S = S} (record st { head = candidate st.head })) =
+    every_map (SentBelow (b + 2)) (λ peer. (peer, Vote (st.head.term + 1) (last_index st.log) (last_term st.log))) (peers (candidate st.head))
+    (every_all (λ peer. SentBelow {S = S} (b + 2) (peer, Vote (st.head.term + 1) (last_index st.log) (last_term st.log))) (λ peer. (omega (arith, h.term), omega (arith, h.last), omega (arith, last_term_le b st h))) (peers (candidate st.head))) in
+    let stood : DraftBelow {S = S} (b + 1 + 1) (elected (record st { head = candidate st.head })) = elected_below (b + 1) (record st { head = candidate st.head }) next in
+    let stood' : DraftBelow {S = S} (b + 2) (elected (record st { head = candidate st.head })) = draft_more (b + 1 + 1) (b + 2) (elected (record st { head = candidate st.head })) (omega arith) stood in
     cond_both (is_leader st.head.role) (tick_leading st) (tick_waiting st) (λ d. DraftBelow {S = S} (b + 2) d)
     (λ _.
     cond_both (eqb (st.head.beat + 1) 2) (sends_to (record st { head = record st.head { beat = 0 } }) Everyone) (quiet (record st { head = record st.head { beat = st.head.beat + 1 } })) (λ d. DraftBelow {S = S} (b + 2) d)
@@ -167,9 +167,9 @@ tick_below {S} b st h =
     (λ _. record { state = stood'.state; replies = requests_below; taken = stood'.taken })
     (λ _. quiet_below (b + 2) (record st { head = record st.head { silent = st.head.silent + 1 } }) (same_below (b + 2) st (record st.head { silent = st.head.silent + 1 }) more more.term more.commit more.next more.matched)))
 
-observed_below : (b : ℕ) (st : RaftState) (t : ℕ) → t ≤ b → RaftBelow b st → RaftBelow b (observed st t)
+observed_below : (b : ℕ) (st : RaftState) (t : ℕ) → t ≤ b → RaftBelow b st → RaftBelow b (record st { head = observed st.head t })
 observed_below b st t le h =
-    cond_both (ltb st.head.term t) (record st { head = record st.head { term = t; vote = None; role = Follower; leader = None } }) st (λ z. RaftBelow b z)
+    cond_both (ltb st.head.term t) (record st.head { term = t; vote = None; role = Follower; leader = None }) st.head (λ z. RaftBelow b (record st { head = z }))
     (λ _. same_below b st (record st.head { term = t; vote = None; role = Follower; leader = None }) h le h.commit h.next h.matched)
     (λ _. h)
 
@@ -187,7 +187,7 @@ on_vote_reply_below {S} b st from t granted h =
     (λ _. elected_below b (record st { head = record st.head { votes = with_node st.head.votes from true } }) (same_below b st (record st.head { votes = with_node st.head.votes from true }) h h.term h.commit h.next h.matched))
     (λ _. quiet_below (b + 1) st (below_more b (b + 1) st (omega arith) h))
 
-following_below : (b : ℕ) (st : RaftState) (from : ℕ) → RaftBelow b st → RaftBelow b (following st from)
+following_below : (b : ℕ) (st : RaftState) (from : ℕ) → RaftBelow b st → RaftBelow b (record st { head = following st.head from })
 following_below b st from h = same_below b st (record st.head { role = Follower; leader = Some from; silent = 0 }) h h.term h.commit h.next h.matched
 
 refused_below : {S : Type 0} (b : ℕ) (st : RaftState) (from : ℕ) → RaftBelow b st → DraftBelow {S = S} b (refused_old st from)
@@ -238,9 +238,9 @@ take_append_below {S} b st from prev pt es commit h more all =
 
 on_append_below : {S : Type 0} (b : ℕ) (st : RaftState) (from t prev pt : ℕ) (es : List Entry) (commit : ℕ) → RaftBelow b st → prev + length es < b → All (λ (e : Entry). e.term ≤ b) es → DraftBelow {S = S} b (on_append st from t prev pt es commit)
 on_append_below {S} b st from t prev pt es commit h more all =
-    cond_both (ltb t st.head.term) (refused_old st from) (take_append (following st from) from prev pt es commit) (λ d. DraftBelow {S = S} b d)
+    cond_both (ltb t st.head.term) (refused_old st from) (take_append (record st { head = following st.head from }) from prev pt es commit) (λ d. DraftBelow {S = S} b d)
     (λ _. refused_below b st from h)
-    (λ _. take_append_below b (following st from) from prev pt es commit (following_below b st from h) more all)
+    (λ _. take_append_below b (record st { head = following st.head from }) from prev pt es commit (following_below b st from h) more all)
 
 on_append_reply_below : {S : Type 0} (b : ℕ) (st : RaftState) (from t : ℕ) (said : Bool) (index : ℕ) → RaftBelow b st → index < b → DraftBelow {S = S} b (on_append_reply st from t said index)
 on_append_reply_below {S} b st from t said index h lt =
@@ -281,17 +281,17 @@ take_snap_below {S} b st from i it s h lt le =
 
 on_snap_below : {S : Type 0} (b : ℕ) (st : RaftState) (from t i it : ℕ) (s : S) → RaftBelow b st → i < b → it ≤ b → DraftBelow b (on_snap st from t i it s)
 on_snap_below b st from t i it s h lt le =
-    cond_both (ltb t st.head.term) (refused_old st from) (take_snap (following st from) from i it s) (λ d. DraftBelow b d)
+    cond_both (ltb t st.head.term) (refused_old st from) (take_snap (record st { head = following st.head from }) from i it s) (λ d. DraftBelow b d)
     (λ _. refused_below b st from h)
-    (λ _. take_snap_below b (following st from) from i it s (following_below b st from h) lt le)
+    (λ _. take_snap_below b (record st { head = following st.head from }) from i it s (following_below b st from h) lt le)
 
 pub received_below : {S : Type 0} (b : ℕ) (st : RaftState) (from : ℕ) (m : Message S) → RaftBelow b st → MessageBelow b m → DraftBelow (b + 1) (received st from m)
-received_below b st from (Vote t i it) h k = draft_more b (b + 1) (on_vote (observed st t) from t i it) (omega arith) (on_vote_below b (observed st t) from t i it (observed_below b st t k.0 h))
-received_below b st from (VoteReply t granted) h k = on_vote_reply_below b (observed st t) from t granted (observed_below b st t k h)
-received_below b st from (Append t prev pt es commit) h k = draft_more b (b + 1) (on_append (observed st t) from t prev pt es commit) (omega arith) (on_append_below b (observed st t) from t prev pt es commit (observed_below b st t k.0 h) k.1 k.3)
-received_below b st from (AppendReply t said index) h k = draft_more b (b + 1) (on_append_reply (observed st t) from t said index) (omega arith) (on_append_reply_below b (observed st t) from t said index (observed_below b st t k.0 h) k.1)
+received_below b st from (Vote t i it) h k = draft_more b (b + 1) (on_vote (record st { head = observed st.head t }) from t i it) (omega arith) (on_vote_below b (record st { head = observed st.head t }) from t i it (observed_below b st t k.0 h))
+received_below b st from (VoteReply t granted) h k = on_vote_reply_below b (record st { head = observed st.head t }) from t granted (observed_below b st t k h)
+received_below b st from (Append t prev pt es commit) h k = draft_more b (b + 1) (on_append (record st { head = observed st.head t }) from t prev pt es commit) (omega arith) (on_append_below b (record st { head = observed st.head t }) from t prev pt es commit (observed_below b st t k.0 h) k.1 k.3)
+received_below b st from (AppendReply t said index) h k = draft_more b (b + 1) (on_append_reply (record st { head = observed st.head t }) from t said index) (omega arith) (on_append_reply_below b (record st { head = observed st.head t }) from t said index (observed_below b st t k.0 h) k.1)
 received_below b st from (Forward payload) h k = on_forward_below b st payload h
-received_below b st from (Snap t i it s) h k = draft_more b (b + 1) (on_snap (observed st t) from t i it s) (omega arith) (on_snap_below b (observed st t) from t i it s (observed_below b st t k.0 h) k.1 k.2)
+received_below b st from (Snap t i it s) h k = draft_more b (b + 1) (on_snap (record st { head = observed st.head t }) from t i it s) (omega arith) (on_snap_below b (record st { head = observed st.head t }) from t i it s (observed_below b st t k.0 h) k.1 k.2)
 
 -- Propose, behind an event
 pub then_proposed_below : {S : Type 0} (b : ℕ) (d : Draft S) (payloads : List (List ℕ)) → DraftBelow b d → DraftBelow (b + length payloads) (then_proposed d payloads)
@@ -316,7 +316,7 @@ greatest_le test (suc n) = cond_both (test (suc n)) (suc n) (greatest test n) (�
 advanced_below : (b : ℕ) (st : RaftState) → RaftBelow b st → RaftBelow b (advanced st)
 advanced_below b st h =
     cond_both (is_leader st.head.role) (record st { head = record st.head { commit = max st.head.commit (committable st) } }) st (λ z. RaftBelow b z)
-    (λ _. same_below b st (record st.head { commit = max st.head.commit (committable st) }) h h.term (omega (arith, h.commit, h.last, greatest_le (λ index. has_term st.log index st.head.term && is_on_majority st index) (last_index st.log))) h.next h.matched)
+    (λ _. same_below b st (record st.head { commit = max st.head.commit (committable st) }) h h.term (omega (arith, h.commit, h.last, greatest_le (is_committable st) (last_index st.log))) h.next h.matched)
     (λ _. h)
 
 to_peer_below : {S : Type 0} (b applied : ℕ) (s : S) (st : RaftState) → RaftBelow b st → applied < b → (q : ℕ) → MessageBelow b (to_peer applied s st q)

@@ -1,5 +1,5 @@
 -- The numbers of a world stay below a bound that grows with the events.
-use Rattle.std.proofs.Common.{◌≡◌, ℕ, zero, suc, ◌+◌, ◌-◌, ◌<◌, ◌≤◌, ltb, Option, Some, None, List, [], ◌∷◌, length, get_or, replicate, refl, sym, subst, arith, ltb-true, length-drop}
+use Rattle.std.proofs.Common.{◌≡◌, ℕ, zero, suc, ◌+◌, ◌-◌, ◌<◌, ◌≤◌, ltb, Option, Some, None, List, [], ◌∷◌, length, get_or, replicate, refl, subst, arith, ltb-true, length-drop}
 use Rattle.std.specs.Prelude.{sum_by}
 use Rattle.std.specs.Option.{option_map_or}
 use Rattle.std.specs.List.{AllByRecursion as Every}
@@ -8,12 +8,10 @@ use Rattle.std.proofs.lemmas.List.Sums.{sum_by-cons}
 use Rattle.std.proofs.lemmas.List.Elements.{All-replicate, All-nil, All-drop}
 use Rattle.rp_raftlog.specs.declared.entries.Entry.{Entry}
 use Rattle.rp_raftlog.specs.LogState.{entry_at, cut}
-use Rattle.rp_raft.specs.declared.messages.Message.{Message}
-use Rattle.rp_raft.specs.declared.messages.Message.TheVariants.{Vote, VoteReply, Append, AppendReply, Forward, Snap}
-use Rattle.rp_raft.specs.declared.events.RaftEvent.{RaftEvent}
-use Rattle.rp_raft.specs.declared.events.RaftEvent.TheVariants.{Tick, Receive, Propose, Cut}
-use Rattle.rp_raft.specs.RaftState.{RaftState, restarted}
-use Rattle.rp_raft.specs.Step.{quiet, drafted, then_proposed, absent_answer}
+use Rattle.rp_raftstep.specs.declared.messages.Message.{Message}
+use Rattle.rp_raftstep.specs.declared.messages.Message.TheVariants.{Vote, VoteReply, Append, AppendReply, Forward, Snap}
+use Rattle.rp_raftstep.specs.RaftState.{RaftState, restarted}
+use Rattle.rp_raftstep.specs.Step.{Draft, quiet, tick, received, then_proposed, absent_answer}
 use Rattle.rp_raftsafe.specs.World.{Range, Replica, Status, Absent, Live, Removed, Site, World, Turn, stays, first, start_term, by_raft, applied_one, Action, Begin, Ticks, Proposes, Applies, Cuts, Removes, Restarts, replica_acts, acts, absent_after, gets, site, with_site, after_turn, message_of, Event, Acts, Comes, comes, happens, run, nowhere, world_after}
 use Rattle.rp_raftsafe.specs.Bounds.{RaftBelow, ReplicaBelow, MessageBelow, action_weight, event_weight, bound_after, Bounded}
 use Rattle.rp_raftsafe.proofs.Tables.{at_set}
@@ -38,14 +36,14 @@ record TurnBelow {S : Type 0} (b : ℕ) (t : Turn S) : Type 0 where
 stays_below : {S : Type 0} (b : ℕ) (s : Status S) → StatusBelow b s → TurnBelow b (stays s)
 stays_below b s h = record { status = h; sends = tt }
 
-by_raft_below : {S : Type 0} (b k : ℕ) (r : Replica S) (event : RaftEvent S) (again : List (List ℕ)) → ReplicaBelow b r → DraftBelow (b + k) (drafted r.raft event) → TurnBelow (b + (k + length again)) (by_raft r event again)
-by_raft_below {S} b k r event again h d =
-    let more : DraftBelow (b + k + length again) (then_proposed (drafted r.raft event) again) = then_proposed_below (b + k) (drafted r.raft event) again d in
-    let whole = sent_below b (b + k + length again) r.applied r.state (then_proposed (drafted r.raft event) again) (omega arith) h.applied more in
+by_raft_below : {S : Type 0} (b k : ℕ) (r : Replica S) (draft : Draft S) (again : List (List ℕ)) → ReplicaBelow b r → DraftBelow (b + k) draft → TurnBelow (b + (k + length again)) (by_raft r draft again)
+by_raft_below {S} b k r draft again h d =
+    let more : DraftBelow (b + k + length again) (then_proposed draft again) = then_proposed_below (b + k) draft again d in
+    let whole = sent_below b (b + k + length again) r.applied r.state (then_proposed draft again) (omega arith) h.applied more in
     let e : b + k + length again ≡ b + (k + length again) = omega arith in
-    subst (λ z. TurnBelow z (by_raft r event again)) e
+    subst (λ z. TurnBelow z (by_raft r draft again)) e
     (record {
-      status = record { raft = whole.0; applied = taken (drafted r.raft event).taken d.taken };
+      status = record { raft = whole.0; applied = taken draft.taken d.taken };
       sends = whole.1;
     })
   where
@@ -112,17 +110,18 @@ acts_below g b p Cuts Absent le h = stays_below (b + 0) Absent tt
 acts_below g b p Removes Absent le h = stays_below (b + 0) Absent tt
 acts_below g b p Restarts Absent le h = stays_below (b + 0) Absent tt
 acts_below g b p Begin (Live r) le h = stays_below (b + 0) (Live r) (status_more b (b + 0) (Live r) (omega arith) h)
-acts_below g b p (Ticks again) (Live r) le h = by_raft_below b 2 r Tick again h (tick_below b r.raft h.raft)
-acts_below g b p (Proposes payloads) (Live r) le h =
-    let e : b + (length payloads + 0) ≡ b + length payloads = omega arith in
-    subst (λ z. TurnBelow z (by_raft r (Propose payloads) [])) e (by_raft_below b (length payloads) r (Propose payloads) [] h (then_proposed_below b (quiet r.raft) payloads (quiet_below b r.raft h.raft)))
+acts_below g b p (Ticks again) (Live r) le h = by_raft_below b 2 r (tick r.raft) again h (tick_below b r.raft h.raft)
+acts_below {S} g b p (Proposes payloads) (Live r) le h =
+    let e : b + (0 + length payloads) ≡ b + length payloads = omega arith in
+    let z : b ≡ b + 0 = omega arith in
+    subst (λ z. TurnBelow z (by_raft r (quiet r.raft) payloads)) e (by_raft_below b 0 r (quiet r.raft) payloads h (subst (λ z. DraftBelow {S = S} z (quiet r.raft)) z (quiet_below b r.raft h.raft)))
 acts_below g b p Applies (Live r) le h =
     let e : b ≡ b + 0 = omega arith in
     subst (λ z. TurnBelow z (replica_acts g r Applies)) e (applies_below g b r h)
 acts_below {S} g b p Cuts (Live r) le h =
-    let e : b + 0 ≡ b = omega arith in
-    let cut' : DraftBelow {S = S} (b + 0) (drafted r.raft (Cut r.applied)) = subst (λ z. DraftBelow {S = S} z (drafted r.raft (Cut r.applied))) (sym e) (quiet_below b (record r.raft { log = cut r.raft.log r.applied }) (cut_below b r.applied r.raft h.applied h.raft)) in
-    by_raft_below b 0 r (Cut r.applied) [] h cut'
+    let e : b ≡ b + 0 = omega arith in
+    let cut' : RaftBelow b (record r.raft { log = cut r.raft.log r.applied }) = cut_below b r.applied r.raft h.applied h.raft in
+    subst (λ z. TurnBelow {S = S} z (replica_acts g r Cuts)) e (stays_below b (Live (record r { raft = record r.raft { log = cut r.raft.log r.applied } })) (record { raft = cut'; applied = h.applied }))
 acts_below g b p Removes (Live r) le h = stays_below (b + 0) Removed tt
 acts_below g b p Restarts (Live r) le h =
     let more : ReplicaBelow (b + 0) r = status_more b (b + 0) (Live r) (omega arith) h in
@@ -156,7 +155,7 @@ turn_more b c t le h = record { status = status_more b c t.status le h.status; s
 
 gets_below : {S : Type 0} (g : Range S) (b p from : ℕ) (m : Message S) (again : List (List ℕ)) (status : Status S) → 0 < b → StatusBelow b status → MessageBelow b m → TurnBelow (b + (1 + length again)) (gets g p from m again status)
 gets_below g b p from m again Absent pos h k = turn_more b (b + (1 + length again)) (record { status = absent_after g p from m; sends = absent_answer from m }) (omega arith) (absent_gets_below g b p from m pos k)
-gets_below g b p from m again (Live r) pos h k = by_raft_below b 1 r (Receive from m) again h (received_below b r.raft from m h.raft k)
+gets_below g b p from m again (Live r) pos h k = by_raft_below b 1 r (received r.raft from m) again h (received_below b r.raft from m h.raft k)
 gets_below g b p from m again Removed pos h k = stays_below (b + (1 + length again)) Removed tt
 
 -- the world

@@ -9,15 +9,13 @@ use Rattle.std.proofs.lemmas.Option.{slice_get_within, get_or_from_slice_get}
 use Rattle.std.proofs.lemmas.List.Elements.{All-append, All-map, All-take, All-drop, All-nil, All-cons}
 use Rattle.rp_raftlog.specs.declared.entries.Entry.{Entry}
 use Rattle.rp_raftlog.specs.LogState.{LogState, log_at, last_index, last_term, entry_at, term_at, has_term, suffix, same_terms, edited, accepting, accepted, accepted_to, matches, cut}
-use Rattle.rp_raft.specs.declared.heads.Role.TheVariants.{Follower, Leader}
-use Rattle.rp_raft.specs.declared.heads.Due.{Due}
-use Rattle.rp_raft.specs.declared.heads.Due.TheVariants.{Nobody, Everyone}
-use Rattle.rp_raft.specs.declared.messages.Message.{Message}
-use Rattle.rp_raft.specs.declared.messages.Message.TheVariants.{Vote, VoteReply, Append, AppendReply, Forward, Snap}
-use Rattle.rp_raft.specs.declared.events.RaftEvent.{RaftEvent}
-use Rattle.rp_raft.specs.declared.events.RaftEvent.TheVariants.{Tick, Receive, Propose, Cut}
-use Rattle.rp_raft.specs.RaftState.{RaftState, is_leader, is_candidate, of_node, with_node, peers, restarted}
-use Rattle.rp_raft.specs.Step.{Draft, quiet, answered, sends_to, nothing, with_payloads, leading, is_elected, elected, tick_leading, candidate, stand, patience, tick_waiting, tick, observed, is_up_to_date, may_vote, on_vote, on_vote_reply, following, refused_old, take_append, on_append, on_mismatch, on_match, on_append_reply, on_forward, take_snap, on_snap, received, forwards, then_proposed, drafted, committable, advanced, most_entries, to_peer, due_peers, last_sends, absent_answer}
+use Rattle.rp_raftstep.specs.declared.heads.Role.TheVariants.{Leader}
+use Rattle.rp_raftstep.specs.declared.heads.Due.{Due}
+use Rattle.rp_raftstep.specs.declared.heads.Due.TheVariants.{Nobody, Everyone}
+use Rattle.rp_raftstep.specs.declared.messages.Message.{Message}
+use Rattle.rp_raftstep.specs.declared.messages.Message.TheVariants.{Vote, VoteReply, Append, AppendReply, Forward, Snap}
+use Rattle.rp_raftstep.specs.RaftState.{RaftState, is_leader, is_candidate, of_node, with_node, peers, restarted}
+use Rattle.rp_raftstep.specs.Step.{Draft, quiet, answered, sends_to, nothing, with_payloads, leading, is_elected, elected, tick_leading, candidate, stand, patience, tick_waiting, tick, observed, is_up_to_date, may_vote, on_vote, on_vote_reply, following, refused_old, take_append, on_append, on_mismatch, on_match, on_append_reply, on_forward, take_snap, on_snap, received, forwards, then_proposed, committable, advanced, most_entries, to_peer, due_peers, last_sends, absent_answer}
 use Rattle.rp_raftsafe.specs.World.{Range, Replica, Status, Absent, Live, Removed, Site, World, Turn, stays, first, by_raft, applied_one, Action, Begin, Ticks, Proposes, Applies, Cuts, Removes, Restarts, replica_acts, acts, absent_after, gets, site, with_site, after_turn, message_of, Event, Acts, Comes, comes, happens}
 use Rattle.rp_raftsafe.specs.Proposed.{action_payloads, event_payloads, MessageCarries}
 use Rattle.rp_raftsafe.proofs.Tables.{at_set}
@@ -80,14 +78,11 @@ tick_has {S} P n st empty h =
     (λ _.
     cond_both (eqb (st.head.silent + 1) (patience st.head.node)) (stand st) (quiet (record st { head = record st.head { silent = st.head.silent + 1 } })) (λ d. DraftHas {S = S} P n d)
     (λ _. record {
-      log = (elected_has {S = S} P n (candidate st) empty h).log;
-      replies = every_map (SentHas P n) (λ peer. (peer, Vote (st.head.term + 1) (last_index st.log) (last_term st.log))) (peers (candidate st).head)
-          (every_all (λ peer. SentHas {S = S} P n (peer, Vote (st.head.term + 1) (last_index st.log) (last_term st.log))) (λ peer. record { carries = tt; snap = tt }) (peers (candidate st).head));
+      log = (elected_has {S = S} P n (record st { head = candidate st.head }) empty h).log;
+      replies = every_map (SentHas P n) (λ peer. (peer, Vote (st.head.term + 1) (last_index st.log) (last_term st.log))) (peers (candidate st.head))
+          (every_all (λ peer. SentHas {S = S} P n (peer, Vote (st.head.term + 1) (last_index st.log) (last_term st.log))) (λ peer. record { carries = tt; snap = tt }) (peers (candidate st.head)));
     })
     (λ _. quiet_has P n (record st { head = record st.head { silent = st.head.silent + 1 } }) h))
-
-observed_has : (P : List ℕ → Type 0) (n : ℕ) (st : RaftState) (t : ℕ) → LogHas P n st.log → LogHas P n (observed st t).log
-observed_has P n st t h = cond_both (ltb st.head.term t) (record st { head = record st.head { term = t; vote = None; role = Follower; leader = None } }) st (λ z. LogHas P n z.log) (λ _. h) (λ _. h)
 
 on_vote_has : {S : Type 0} (P : List ℕ → Type 0) (n : ℕ) (st : RaftState) (from t i it : ℕ) → LogHas P n st.log → DraftHas {S = S} P n (on_vote st from t i it)
 on_vote_has {S} P n st from t i it h =
@@ -130,9 +125,9 @@ take_append_has {S} P n st from prev pt es commit h all =
 
 on_append_has : {S : Type 0} (P : List ℕ → Type 0) (n : ℕ) (st : RaftState) (from t prev pt : ℕ) (es : List Entry) (commit : ℕ) → LogHas P n st.log → All (λ (e : Entry). P e.payload) es → DraftHas {S = S} P n (on_append st from t prev pt es commit)
 on_append_has {S} P n st from t prev pt es commit h all =
-    cond_both (ltb t st.head.term) (refused_old st from) (take_append (following st from) from prev pt es commit) (λ d. DraftHas {S = S} P n d)
+    cond_both (ltb t st.head.term) (refused_old st from) (take_append (record st { head = following st.head from }) from prev pt es commit) (λ d. DraftHas {S = S} P n d)
     (λ _. refused_has P n st from h)
-    (λ _. take_append_has P n (following st from) from prev pt es commit h all)
+    (λ _. take_append_has P n (record st { head = following st.head from }) from prev pt es commit h all)
 
 on_append_reply_has : {S : Type 0} (P : List ℕ → Type 0) (n : ℕ) (st : RaftState) (from t : ℕ) (said : Bool) (index : ℕ) → LogHas P n st.log → DraftHas {S = S} P n (on_append_reply st from t said index)
 on_append_reply_has {S} P n st from t said index h =
@@ -162,17 +157,17 @@ take_snap_has {S} P n st from i it s h le =
 
 on_snap_has : {S : Type 0} (P : List ℕ → Type 0) (n : ℕ) (st : RaftState) (from t i it : ℕ) (s : S) → LogHas P n st.log → i ≤ n → DraftHas P n (on_snap st from t i it s)
 on_snap_has P n st from t i it s h le =
-    cond_both (ltb t st.head.term) (refused_old st from) (take_snap (following st from) from i it s) (λ d. DraftHas P n d)
+    cond_both (ltb t st.head.term) (refused_old st from) (take_snap (record st { head = following st.head from }) from i it s) (λ d. DraftHas P n d)
     (λ _. refused_has P n st from h)
-    (λ _. take_snap_has P n (following st from) from i it s h le)
+    (λ _. take_snap_has P n (record st { head = following st.head from }) from i it s h le)
 
 received_has : {S : Type 0} (P : List ℕ → Type 0) (n : ℕ) (st : RaftState) (from : ℕ) (m : Message S) → P nothing → LogHas P n st.log → MessageCarries P m → SnapUpTo n m → DraftHas P n (received st from m)
-received_has P n st from (Vote t i it) empty h c s = on_vote_has P n (observed st t) from t i it (observed_has P n st t h)
-received_has P n st from (VoteReply t granted) empty h c s = on_vote_reply_has P n (observed st t) from t granted empty (observed_has P n st t h)
-received_has P n st from (Append t prev pt es commit) empty h c s = on_append_has P n (observed st t) from t prev pt es commit (observed_has P n st t h) c
-received_has P n st from (AppendReply t said index) empty h c s = on_append_reply_has P n (observed st t) from t said index (observed_has P n st t h)
+received_has P n st from (Vote t i it) empty h c s = on_vote_has P n (record st { head = observed st.head t }) from t i it h
+received_has P n st from (VoteReply t granted) empty h c s = on_vote_reply_has P n (record st { head = observed st.head t }) from t granted empty h
+received_has P n st from (Append t prev pt es commit) empty h c s = on_append_has P n (record st { head = observed st.head t }) from t prev pt es commit h c
+received_has P n st from (AppendReply t said index) empty h c s = on_append_reply_has P n (record st { head = observed st.head t }) from t said index h
 received_has P n st from (Forward payload) empty h c s = on_forward_has P n st payload h c
-received_has P n st from (Snap t i it x) empty h c s = on_snap_has P n (observed st t) from t i it x (observed_has P n st t h) s
+received_has P n st from (Snap t i it x) empty h c s = on_snap_has P n (record st { head = observed st.head t }) from t i it x h s
 
 then_proposed_has : {S : Type 0} (P : List ℕ → Type 0) (n : ℕ) (d : Draft S) (payloads : List (List ℕ)) → All P payloads → DraftHas P n d → DraftHas P n (then_proposed d payloads)
 then_proposed_has {S} P n d payloads all h = record {
@@ -213,16 +208,16 @@ record TurnHas {S : Type 0} (P : List ℕ → Type 0) (n : ℕ) (t : Turn S) : T
   status : StatusHas P n t.status
   sends : Every (SentHas P n) t.sends
 
-by_raft_has : {S : Type 0} (P : List ℕ → Type 0) (n : ℕ) (r : Replica S) (event : RaftEvent S) (again : List (List ℕ)) → r.applied ≤ n → All P again → DraftHas P n (drafted r.raft event) → TurnHas P n (by_raft r event again)
-by_raft_has {S} P n r event again le all h =
-    let more : DraftHas P n (then_proposed (drafted r.raft event) again) = then_proposed_has P n (drafted r.raft event) again all h in
-    let after : LogHas P n (advanced (then_proposed (drafted r.raft event) again).state).log = advanced_has P n (then_proposed (drafted r.raft event) again).state more.log in
+by_raft_has : {S : Type 0} (P : List ℕ → Type 0) (n : ℕ) (r : Replica S) (draft : Draft S) (again : List (List ℕ)) → r.applied ≤ n → All P again → DraftHas P n draft → TurnHas P n (by_raft r draft again)
+by_raft_has {S} P n r draft again le all h =
+    let more : DraftHas P n (then_proposed draft again) = then_proposed_has P n draft again all h in
+    let after : LogHas P n (advanced (then_proposed draft again).state).log = advanced_has P n (then_proposed draft again).state more.log in
     record {
       status = after;
-      sends = every_append (SentHas P n) (then_proposed (drafted r.raft event) again).replies (last_sends r.applied r.state (advanced (then_proposed (drafted r.raft event) again).state) (then_proposed (drafted r.raft event) again).due) more.replies
-          (every_map (SentHas P n) (λ peer. (peer, to_peer r.applied r.state (advanced (then_proposed (drafted r.raft event) again).state) peer)) (due_peers (advanced (then_proposed (drafted r.raft event) again).state).head (then_proposed (drafted r.raft event) again).due)
-          (every_all (λ peer. SentHas {S = S} P n (peer, to_peer r.applied r.state (advanced (then_proposed (drafted r.raft event) again).state) peer)) (λ peer. to_peer_has P n r.applied r.state (advanced (then_proposed (drafted r.raft event) again).state) peer after le)
-          (due_peers (advanced (then_proposed (drafted r.raft event) again).state).head (then_proposed (drafted r.raft event) again).due)));
+      sends = every_append (SentHas P n) (then_proposed draft again).replies (last_sends r.applied r.state (advanced (then_proposed draft again).state) (then_proposed draft again).due) more.replies
+          (every_map (SentHas P n) (λ peer. (peer, to_peer r.applied r.state (advanced (then_proposed draft again).state) peer)) (due_peers (advanced (then_proposed draft again).state).head (then_proposed draft again).due)
+          (every_all (λ peer. SentHas {S = S} P n (peer, to_peer r.applied r.state (advanced (then_proposed draft again).state) peer)) (λ peer. to_peer_has P n r.applied r.state (advanced (then_proposed draft again).state) peer after le)
+          (due_peers (advanced (then_proposed draft again).state).head (then_proposed draft again).due)));
     }
 
 stays_has : {S : Type 0} (P : List ℕ → Type 0) (n : ℕ) (s : Status S) → StatusHas P n s → TurnHas P n (stays s)
@@ -253,12 +248,11 @@ acts_has P n g p Cuts Absent empty le up h all = stays_has P n Absent tt
 acts_has P n g p Removes Absent empty le up h all = stays_has P n Absent tt
 acts_has P n g p Restarts Absent empty le up h all = stays_has P n Absent tt
 acts_has P n g p Begin (Live r) empty le up h all = stays_has P n (Live r) h
-acts_has P n g p (Ticks again) (Live r) empty le up h all = by_raft_has P n r Tick again up all (tick_has P n r.raft empty h)
-acts_has P n g p (Proposes payloads) (Live r) empty le up h all = by_raft_has P n r (Propose payloads) [] up (All-nil P) (then_proposed_has P n (quiet r.raft) payloads all (quiet_has P n r.raft h))
+acts_has P n g p (Ticks again) (Live r) empty le up h all = by_raft_has P n r (tick r.raft) again up all (tick_has P n r.raft empty h)
+acts_has P n g p (Proposes payloads) (Live r) empty le up h all = by_raft_has P n r (quiet r.raft) payloads up all (quiet_has P n r.raft h)
 acts_has P n g p Applies (Live r) empty le up h all = applies_has P n g r h
 acts_has P n g p Cuts (Live r) empty le up h all =
-    by_raft_has P n r (Cut r.applied) [] up (All-nil P)
-    (quiet_has P n (record r.raft { log = cut r.raft.log r.applied }) (record { entries = All-drop (λ (e : Entry). P e.payload) (r.applied - r.raft.log.base) r.raft.log.entries h.entries; base = up }))
+    stays_has P n (Live (record r { raft = record r.raft { log = cut r.raft.log r.applied } })) (record { entries = All-drop (λ (e : Entry). P e.payload) (r.applied - r.raft.log.base) r.raft.log.entries h.entries; base = up })
 acts_has P n g p Removes (Live r) empty le up h all = stays_has P n Removed tt
 acts_has P n g p Restarts (Live r) empty le up h all = stays_has P n (Live (record r { raft = restarted r.applied r.raft })) h
 acts_has P n g p action Removed empty le up h all = stays_has P n Removed tt
@@ -273,7 +267,7 @@ gets_has {S} P n g p from m again Absent empty up h c s all = absent m s
     absent (AppendReply t said i) s = record { status = tt; sends = tt }
     absent (Forward payload) s = record { status = tt; sends = tt }
     absent (Snap t i it x) s = record { status = record { entries = All-nil (λ (e : Entry). P e.payload); base = s }; sends = (record { carries = tt; snap = tt }, tt) }
-gets_has P n g p from m again (Live r) empty up h c s all = by_raft_has P n r (Receive from m) again up all (received_has P n r.raft from m empty h c s)
+gets_has P n g p from m again (Live r) empty up h c s all = by_raft_has P n r (received r.raft from m) again up all (received_has P n r.raft from m empty h c s)
 gets_has P n g p from m again Removed empty up h c s all = stays_has P n Removed tt
 
 pub record SiteHas {S : Type 0} (P : List ℕ → Type 0) (n : ℕ) (s : Site S) : Type 0 where

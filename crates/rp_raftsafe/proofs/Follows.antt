@@ -5,11 +5,11 @@ use Rattle.std.specs.Option.{option_map_or}
 use Rattle.std.proofs.lemmas.Bool.{cond_both, and_parts, or_cases}
 use Rattle.rp_raftlog.specs.declared.entries.Entry.{Entry}
 use Rattle.rp_raftlog.specs.LogState.{LogState, last_index, last_term, accepted, accepted_to, accepting, matches}
-use Rattle.rp_raft.specs.declared.heads.Role.{Role}
-use Rattle.rp_raft.specs.declared.heads.Role.TheVariants.{Follower, Candidate, Leader}
-use Rattle.rp_raft.specs.declared.messages.Message.TheVariants.{VoteReply, AppendReply}
-use Rattle.rp_raft.specs.RaftState.{RaftState}
-use Rattle.rp_raft.specs.Step.{answered, observed, is_up_to_date, may_vote, on_vote, following, refused_old, take_append, on_append}
+use Rattle.rp_raftstep.specs.declared.heads.Role.{Role}
+use Rattle.rp_raftstep.specs.declared.heads.Role.TheVariants.{Follower, Candidate, Leader}
+use Rattle.rp_raftstep.specs.declared.messages.Message.TheVariants.{VoteReply, AppendReply}
+use Rattle.rp_raftstep.specs.RaftState.{RaftState}
+use Rattle.rp_raftstep.specs.Step.{answered, observed, is_up_to_date, may_vote, on_vote, following, refused_old, take_append, on_append}
 use Rattle.rp_raftsafe.specs.World.{Range}
 use Rattle.rp_raftsafe.proofs.Tables.{at_upd2, upd_same}
 use Rattle.rp_raftsafe.proofs.Logs.{term_in, last_tm, same_less}
@@ -35,9 +35,9 @@ pub record Observed {S : Type 0} (g : Range S) (a : Abs) (p applied : ℕ) (stat
   pub node : NodeOk g to p st applied state
   pub reached : t ≤ st.head.term
 
-pub observed_ok : {S : Type 0} (g : Range S) (a : Abs) (p applied : ℕ) (state : S) (st : RaftState) (t : ℕ) → Inv g.nodes a → NodeOk g a p st applied state → Observed g a p applied state (observed st t) t
+pub observed_ok : {S : Type 0} (g : Range S) (a : Abs) (p applied : ℕ) (state : S) (st : RaftState) (t : ℕ) → Inv g.nodes a → NodeOk g a p st applied state → Observed g a p applied state (record st { head = observed st.head t }) t
 observed_ok g a p applied state st t h ok =
-    cond_both (ltb st.head.term t) (record st { head = record st.head { term = t; vote = None; role = Follower; leader = None } }) st (λ z. Observed g a p applied state z t)
+    cond_both (ltb st.head.term t) (record st.head { term = t; vote = None; role = Follower; leader = None }) st.head (λ z. Observed g a p applied state (record st { head = z }) t)
     (λ lt.
     let up : a.term p < t = omega (arith, ok.term, ltb-true st.head.term t lt) in
     record {
@@ -139,7 +139,7 @@ on_vote_ok {S} g a p applied state st from t index index_term h pos pf other ok 
         answered_ok g a p applied state (record st { head = record st.head { vote = Some from; silent = 0 } }) from (VoteReply st.head.term true) h (voted_node a ok (λ _. voted)) (reply a voted)
 
 -- the sender leads the term
-pub following_ok : {S : Type 0} (g : Range S) (a : Abs) (p applied : ℕ) (state : S) (st : RaftState) (from : ℕ) → (from ≡ p → ⊥) → NodeOk g a p st applied state → NodeOk g a p (following st from) applied state
+pub following_ok : {S : Type 0} (g : Range S) (a : Abs) (p applied : ℕ) (state : S) (st : RaftState) (from : ℕ) → (from ≡ p → ⊥) → NodeOk g a p st applied state → NodeOk g a p (record st { head = following st.head from }) applied state
 following_ok g a p applied state st from other ok = record {
   node = ok.node;
   nodes = ok.nodes;
@@ -249,8 +249,8 @@ take_append_ok {S} g a p applied state st from prev prev_term es commit h pf oth
 -- Append
 pub on_append_ok : {S : Type 0} (g : Range S) (a : Abs) (p applied : ℕ) (state : S) (st : RaftState) (from t prev prev_term : ℕ) (es : List Entry) (commit : ℕ) → Inv g.nodes a → 0 < from → (from ≡ p → ⊥) → NodeOk g a p st applied state → t ≤ st.head.term → AppendOk g.nodes a from t prev prev_term es commit → DraftOk g a p applied state (on_append st from t prev prev_term es commit)
 on_append_ok g a p applied state st from t prev prev_term es commit h pf other ok reached m =
-    cond_both (ltb t st.head.term) (refused_old st from) (take_append (following st from) from prev prev_term es commit) (λ d. DraftOk g a p applied state d)
+    cond_both (ltb t st.head.term) (refused_old st from) (take_append (record st { head = following st.head from }) from prev prev_term es commit) (λ d. DraftOk g a p applied state d)
     (λ _. refused_old_ok g a p applied state st from h other ok)
     (λ ge.
     let same : t ≡ st.head.term = omega (arith, ltb-false t st.head.term ge) in
-    take_append_ok g a p applied state (following st from) from prev prev_term es commit h pf other (following_ok g a p applied state st from other ok) refl (subst (λ z. AppendOk g.nodes a from z prev prev_term es commit) same m))
+    take_append_ok g a p applied state (record st { head = following st.head from }) from prev prev_term es commit h pf other (following_ok g a p applied state st from other ok) refl (subst (λ z. AppendOk g.nodes a from z prev prev_term es commit) same m))

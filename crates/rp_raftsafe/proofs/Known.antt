@@ -7,7 +7,7 @@ use Rattle.std.proofs.lemmas.List.{get_or_past, drop-take, take_all, length-repl
 use Rattle.rp_raftlog.specs.declared.entries.Entry.{Entry}
 use Rattle.rp_raftlog.specs.LogState.{entry_at}
 use Rattle.rp_raftsafe.specs.World.{Range, IsRange, start_term, Replica, Status, Absent, Live, Removed, Site, World, site, Event, happens, run, nowhere, world_after}
-use Rattle.rp_raft.specs.Step.{nothing}
+use Rattle.rp_raftstep.specs.Step.{nothing}
 use Rattle.rp_raftsafe.specs.Safety.{IsLive, IsPrefixOf, range_log, IsShown, OneList, OnlyProposed}
 use Rattle.rp_raftsafe.specs.Proposed.{event_payloads, payloads_of, WasProposed}
 use Rattle.rp_raftsafe.proofs.Carried.{AppliedUpTo, StatusHas, SiteHas, SentHas, WorldHas, happens_has, world_has_more, entry_has}

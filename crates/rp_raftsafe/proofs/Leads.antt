@@ -6,12 +6,12 @@ use Rattle.std.specs.Option.{option_map_or}
 use Rattle.std.proofs.lemmas.Bool.{cond_both, cases_eq, and_parts}
 use Rattle.rp_raftlog.specs.declared.entries.Entry.{Entry}
 use Rattle.rp_raftlog.specs.LogState.{last_index, last_term}
-use Rattle.rp_raft.specs.declared.heads.Role.{Role}
-use Rattle.rp_raft.specs.declared.heads.Role.TheVariants.{Follower, Candidate, Leader}
-use Rattle.rp_raft.specs.declared.heads.Due.TheVariants.{Nobody, One, Everyone}
-use Rattle.rp_raft.specs.declared.messages.Message.TheVariants.{Vote, Forward}
-use Rattle.rp_raft.specs.RaftState.{RaftState, is_leader, is_candidate, of_node, with_node, for_each_node, peers}
-use Rattle.rp_raft.specs.Step.{Draft, quiet, sends_to, nothing, with_payloads, leading, is_elected, elected, tick_leading, candidate, requests, stand, patience, tick_waiting, tick, on_vote_reply, on_mismatch, match_after, next_after, on_match, on_append_reply, on_forward, then_proposed}
+use Rattle.rp_raftstep.specs.declared.heads.Role.{Role}
+use Rattle.rp_raftstep.specs.declared.heads.Role.TheVariants.{Follower, Candidate, Leader}
+use Rattle.rp_raftstep.specs.declared.heads.Due.TheVariants.{Nobody, One, Everyone}
+use Rattle.rp_raftstep.specs.declared.messages.Message.TheVariants.{Vote, Forward}
+use Rattle.rp_raftstep.specs.RaftState.{RaftState, is_leader, is_candidate, of_node, with_node, for_each_node, peers}
+use Rattle.rp_raftstep.specs.Step.{Draft, quiet, sends_to, nothing, with_payloads, leading, is_elected, elected, tick_leading, candidate, requests, stand, patience, tick_waiting, tick, on_vote_reply, on_mismatch, match_after, next_after, on_match, on_append_reply, on_forward, then_proposed}
 use Rattle.rp_raftsafe.specs.World.{Range}
 use Rattle.rp_raftsafe.proofs.Tables.{at_upd, at_upd2, upd_same}
 use Rattle.rp_raftsafe.proofs.Logs.{last_tm}
@@ -192,7 +192,7 @@ module _ {S : Type 0} (g : Range S) (a : Abs) (p applied : ℕ) (state : S) (st 
   own_vote : stood_for.vote p up ≡ p
   own_vote = at_upd2 (λ x. x ≡ p) a.vote p (raised.term p) p p up (λ _ _. refl) (λ ne. absurd (ne refl (sym own_term)))
 
-  candidate_ok : NodeOk g stood_for p (candidate st) applied state
+  candidate_ok : NodeOk g stood_for p (record st { head = candidate st.head }) applied state
   candidate_ok = record {
     node = ok.node;
     nodes = ok.nodes;
@@ -220,9 +220,9 @@ module _ {S : Type 0} (g : Range S) (a : Abs) (p applied : ℕ) (state : S) (st 
       none_some : (l : ℕ) → ◌≡◌ {A = Option ℕ} None (Some l) → ⊥
       none_some l e = cc
 
-  requests_ok : Every (PacketOk g stood_for p) (requests (candidate st))
+  requests_ok : Every (PacketOk g stood_for p) (requests (record st { head = candidate st.head }))
   requests_ok =
-      every_map (PacketOk g stood_for p) (λ peer. (peer, Vote up (last_index st.log) (last_term st.log))) (peers (candidate st).head)
+      every_map (PacketOk g stood_for p) (λ peer. (peer, Vote up (last_index st.log) (last_term st.log))) (peers (candidate st.head))
       (every_of (λ q. q ≡ p → ⊥) (λ q. PacketOk g stood_for p (q, Vote up (last_index st.log) (last_term st.log)))
       (λ q other. record {
         other = other;
@@ -233,12 +233,12 @@ module _ {S : Type 0} (g : Range S) (a : Abs) (p applied : ℕ) (state : S) (st 
           last_term = last_term_in (a.log p) st.log ok.log ∙ ap last_tm (sym own_log);
         };
       })
-      (peers (candidate st).head) (peers_other (candidate st).head p ok.node))
+      (peers (candidate st.head)) (peers_other (candidate st.head) p ok.node))
 
   pub stand_ok : DraftOk g a p applied state (stand st)
   stand_ok = draft_after g a stood_for p applied state (stand st) stand_moves
-      (with_replies g stood_for p applied state (elected (candidate st)) (requests (candidate st)) pos requests_ok
-      (elected_ok g stood_for p applied state (candidate st) inv_stood pos candidate_ok refl))
+      (with_replies g stood_for p applied state (elected (record st { head = candidate st.head })) (requests (record st { head = candidate st.head })) pos requests_ok
+      (elected_ok g stood_for p applied state (record st { head = candidate st.head }) inv_stood pos candidate_ok refl))
 
 -- Tick
 pub tick_ok : {S : Type 0} (g : Range S) (a : Abs) (p applied : ℕ) (state : S) (st : RaftState) → Inv g.nodes a → 0 < p → NodeOk g a p st applied state → DraftOk g a p applied state (tick st)

@@ -8,14 +8,14 @@ use Rattle.std.proofs.lemmas.List.{take-append-le, take_all}
 use Rattle.std.proofs.lemmas.List.Sums.{sum_by_more}
 use Rattle.rp_raftlog.specs.declared.entries.Entry.{Entry}
 use Rattle.rp_raftlog.specs.LogState.{appended}
-use Rattle.rp_raft.specs.declared.heads.Head.{Head}
-use Rattle.rp_raft.specs.declared.heads.Role.{Role}
-use Rattle.rp_raft.specs.declared.heads.Role.TheVariants.{Follower, Candidate, Leader}
-use Rattle.rp_raft.specs.declared.heads.Due.{Due}
-use Rattle.rp_raft.specs.declared.heads.Due.TheVariants.{Nobody, One, Everyone}
-use Rattle.rp_raft.specs.declared.messages.Message.{Message}
-use Rattle.rp_raft.specs.RaftState.{RaftState, is_leader, of_node, with_node, for_each_node, nodes_to, peers}
-use Rattle.rp_raft.specs.Step.{Draft, quiet, answered, sends_to, with_payloads}
+use Rattle.rp_raftstep.specs.declared.heads.Head.{Head}
+use Rattle.rp_raftstep.specs.declared.heads.Role.{Role}
+use Rattle.rp_raftstep.specs.declared.heads.Role.TheVariants.{Follower, Candidate, Leader}
+use Rattle.rp_raftstep.specs.declared.heads.Due.{Due}
+use Rattle.rp_raftstep.specs.declared.heads.Due.TheVariants.{Nobody, One, Everyone}
+use Rattle.rp_raftstep.specs.declared.messages.Message.{Message}
+use Rattle.rp_raftstep.specs.RaftState.{RaftState, is_leader, of_node, with_node, for_each_node, nodes_to, peers}
+use Rattle.rp_raftstep.specs.Step.{Draft, quiet, answered, sends_to, with_payloads}
 use Rattle.rp_raftsafe.specs.World.{Range}
 use Rattle.rp_raftsafe.proofs.Tables.{at_set, upd_same}
 use Rattle.rp_raftsafe.proofs.Quorum.{count}

@@ -4,11 +4,11 @@ use Rattle.std.specs.Prelude.{fold}
 use Rattle.std.specs.List.{AllByRecursion as Every}
 use Rattle.std.proofs.lemmas.List.{drop-take}
 use Rattle.rp_raftlog.specs.declared.entries.Entry.{Entry}
-use Rattle.rp_raft.specs.declared.heads.Role.{Role}
-use Rattle.rp_raft.specs.declared.heads.Role.TheVariants.{Follower, Candidate, Leader}
-use Rattle.rp_raft.specs.declared.messages.Message.{Message}
-use Rattle.rp_raft.specs.declared.messages.Message.TheVariants.{Vote, VoteReply, Append, AppendReply, Forward, Snap}
-use Rattle.rp_raft.specs.RaftState.{RaftState, of_node}
+use Rattle.rp_raftstep.specs.declared.heads.Role.{Role}
+use Rattle.rp_raftstep.specs.declared.heads.Role.TheVariants.{Follower, Candidate, Leader}
+use Rattle.rp_raftstep.specs.declared.messages.Message.{Message}
+use Rattle.rp_raftstep.specs.declared.messages.Message.TheVariants.{Vote, VoteReply, Append, AppendReply, Forward, Snap}
+use Rattle.rp_raftstep.specs.RaftState.{RaftState, of_node}
 use Rattle.rp_raftsafe.specs.World.{Range, Status, Absent, Live, Removed}
 use Rattle.rp_raftsafe.proofs.Logs.{term_in, last_tm, same_term_in, longer_take, longer_length}
 use Rattle.rp_raftsafe.proofs.Machine.{Abs}

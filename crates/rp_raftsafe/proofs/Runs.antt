@@ -2,8 +2,8 @@
 use Rattle.std.proofs.Common.{◌≡◌, ℕ, zero, suc, ◌+◌, List, [], ◌∷◌, ◌++◌, length, refl}
 use Rattle.std.specs.Prelude.{sum}
 use Rattle.rp_raftlog.specs.declared.entries.Entry.{Entry}
-use Rattle.rp_raft.specs.declared.heads.Role.{Role}
-use Rattle.rp_raft.specs.declared.heads.Role.TheVariants.{Follower, Candidate, Leader}
+use Rattle.rp_raftstep.specs.declared.heads.Role.{Role}
+use Rattle.rp_raftstep.specs.declared.heads.Role.TheVariants.{Follower, Candidate, Leader}
 use Rattle.rp_raftsafe.specs.World.{Range, Status, Absent, Live, Removed, World, Begin, Ticks, Proposes, Applies, Cuts, Removes, Restarts, Event, Acts, Comes, site, world_after}
 
 -- a state is a sum of bytes

@@ -5,7 +5,7 @@ use Rattle.std.specs.Option.{option_map_or}
 use Rattle.std.proofs.lemmas.Bool.{cond_both, eqb-false, ne_eqb, cases_eq}
 use Rattle.std.proofs.lemmas.List.{map-set, set-get_or}
 use Rattle.std.proofs.lemmas.List.Sums.{sum_by-cons}
-use Rattle.rp_raft.specs.declared.messages.Message.{Message}
+use Rattle.rp_raftstep.specs.declared.messages.Message.{Message}
 use Rattle.rp_raftsafe.specs.World.{Range, Status, Absent, Turn, acts, gets, Site, World, site, with_site, after_turn, message_of, Acts, Comes, comes, happens, run}
 use Rattle.rp_raftsafe.specs.Many.{Parcel, Host, Hosts, no_host, host, with_host, parcels, turned, parcel_of, ManyEvent, ActsIn, ComesIn, parcel_comes, happens_in, run_in, sent_of, number_in, view_host, view, sees_parcel, sees, sees_all, SeesOwn, StartsNowhere}
 use Rattle.rp_raftsafe.proofs.Worlds.{run-append}

@@ -6,12 +6,12 @@ use Rattle.std.proofs.lemmas.Bool.{cond_both, cases_lt, both_ways}
 use Rattle.std.proofs.lemmas.List.{length-replicate}
 use Rattle.rp_raftlog.specs.declared.entries.Entry.{Entry}
 use Rattle.rp_raftlog.specs.LogState.{log_at, has_term}
-use Rattle.rp_raft.specs.declared.heads.Role.TheVariants.{Follower, Leader}
-use Rattle.rp_raft.specs.declared.heads.Due.TheVariants.{Nobody}
-use Rattle.rp_raft.specs.declared.messages.Message.{Message}
-use Rattle.rp_raft.specs.declared.messages.Message.TheVariants.{Vote, VoteReply, Append, AppendReply, Forward, Snap}
-use Rattle.rp_raft.specs.RaftState.{RaftState}
-use Rattle.rp_raft.specs.Step.{Draft, answered, observed, following, refused_old, take_snap, on_snap, on_vote, on_vote_reply, on_append, on_append_reply, received, absent_answer}
+use Rattle.rp_raftstep.specs.declared.heads.Role.TheVariants.{Follower, Leader}
+use Rattle.rp_raftstep.specs.declared.heads.Due.TheVariants.{Nobody}
+use Rattle.rp_raftstep.specs.declared.messages.Message.{Message}
+use Rattle.rp_raftstep.specs.declared.messages.Message.TheVariants.{Vote, VoteReply, Append, AppendReply, Forward, Snap}
+use Rattle.rp_raftstep.specs.RaftState.{RaftState}
+use Rattle.rp_raftstep.specs.Step.{Draft, answered, observed, following, refused_old, take_snap, on_snap, on_vote, on_vote_reply, on_append, on_append_reply, received, absent_answer}
 use Rattle.rp_raftsafe.specs.World.{Range, Live, Turn, from_snap, absent_after}
 use Rattle.rp_raftsafe.proofs.Tables.{at_upd2, upd_same}
 use Rattle.rp_raftsafe.proofs.Logs.{term_in, Good, same_less, same_length, same_term_in, logs_match}
@@ -143,35 +143,35 @@ module _ {S : Type 0} (g : Range S) (a : Abs) (p applied : ℕ) (state : S) (st 
 -- Snap
 pub on_snap_ok : {S : Type 0} (g : Range S) (a : Abs) (p applied : ℕ) (state : S) (st : RaftState) (from t index index_term : ℕ) (snapshot : S) → Inv g.nodes a → 0 < from → (from ≡ p → ⊥) → NodeOk g a p st applied state → t ≤ st.head.term → SnapOk g a from t index index_term snapshot → DraftOk g a p applied state (on_snap st from t index index_term snapshot)
 on_snap_ok g a p applied state st from t index index_term snapshot h pf other ok reached m =
-    cond_both (ltb t st.head.term) (refused_old st from) (take_snap (following st from) from index index_term snapshot) (λ d. DraftOk g a p applied state d)
+    cond_both (ltb t st.head.term) (refused_old st from) (take_snap (record st { head = following st.head from }) from index index_term snapshot) (λ d. DraftOk g a p applied state d)
     (λ _. refused_old_ok g a p applied state st from h other ok)
     (λ ge.
     let same : t ≡ st.head.term = omega (arith, ltb-false t st.head.term ge) in
-    take_snap_ok g a p applied state (following st from) from index index_term snapshot h pf other (following_ok g a p applied state st from other ok) refl (subst (λ z. SnapOk g a from z index index_term snapshot) same m))
+    take_snap_ok g a p applied state (record st { head = following st.head from }) from index index_term snapshot h pf other (following_ok g a p applied state st from other ok) refl (subst (λ z. SnapOk g a from z index index_term snapshot) same m))
 
 -- a message
 pub received_ok : {S : Type 0} (g : Range S) (a : Abs) (p applied : ℕ) (state : S) (st : RaftState) (from : ℕ) (m : Message S) → Inv g.nodes a → 0 < p → 0 < from → (from ≡ p → ⊥) → NodeOk g a p st applied state → MessageOk g a from p m → DraftOk g a p applied state (received st from m)
 received_ok g a p applied state st from (Vote t index index_term) h pos pf other ok m =
     let o = observed_ok g a p applied state st t h ok in
-    draft_after g a o.to p applied state (on_vote (observed st t) from t index index_term) o.moves
-    (on_vote_ok g o.to p applied state (observed st t) from t index index_term o.inv pos pf other o.node (message_grows g a o.to o.moves.grows from p (Vote t index index_term) pf m))
+    draft_after g a o.to p applied state (on_vote (record st { head = observed st.head t }) from t index index_term) o.moves
+    (on_vote_ok g o.to p applied state (record st { head = observed st.head t }) from t index index_term o.inv pos pf other o.node (message_grows g a o.to o.moves.grows from p (Vote t index index_term) pf m))
 received_ok g a p applied state st from (VoteReply t granted) h pos pf other ok m =
     let o = observed_ok g a p applied state st t h ok in
-    draft_after g a o.to p applied state (on_vote_reply (observed st t) from t granted) o.moves
-    (on_vote_reply_ok g o.to p applied state (observed st t) from t granted o.inv pos pf o.node (message_grows g a o.to o.moves.grows from p (VoteReply t granted) pf m))
+    draft_after g a o.to p applied state (on_vote_reply (record st { head = observed st.head t }) from t granted) o.moves
+    (on_vote_reply_ok g o.to p applied state (record st { head = observed st.head t }) from t granted o.inv pos pf o.node (message_grows g a o.to o.moves.grows from p (VoteReply t granted) pf m))
 received_ok g a p applied state st from (Append t prev prev_term es commit) h pos pf other ok m =
     let o = observed_ok g a p applied state st t h ok in
-    draft_after g a o.to p applied state (on_append (observed st t) from t prev prev_term es commit) o.moves
-    (on_append_ok g o.to p applied state (observed st t) from t prev prev_term es commit o.inv pf other o.node o.reached (message_grows g a o.to o.moves.grows from p (Append t prev prev_term es commit) pf m))
+    draft_after g a o.to p applied state (on_append (record st { head = observed st.head t }) from t prev prev_term es commit) o.moves
+    (on_append_ok g o.to p applied state (record st { head = observed st.head t }) from t prev prev_term es commit o.inv pf other o.node o.reached (message_grows g a o.to o.moves.grows from p (Append t prev prev_term es commit) pf m))
 received_ok g a p applied state st from (AppendReply t said index) h pos pf other ok m =
     let o = observed_ok g a p applied state st t h ok in
-    draft_after g a o.to p applied state (on_append_reply (observed st t) from t said index) o.moves
-    (on_append_reply_ok g o.to p applied state (observed st t) from t said index o.inv pos pf other o.node (message_grows g a o.to o.moves.grows from p (AppendReply t said index) pf m))
+    draft_after g a o.to p applied state (on_append_reply (record st { head = observed st.head t }) from t said index) o.moves
+    (on_append_reply_ok g o.to p applied state (record st { head = observed st.head t }) from t said index o.inv pos pf other o.node (message_grows g a o.to o.moves.grows from p (AppendReply t said index) pf m))
 received_ok g a p applied state st from (Forward payload) h pos pf other ok m = on_forward_ok g a p applied state st payload h pos ok
 received_ok g a p applied state st from (Snap t index index_term snapshot) h pos pf other ok m =
     let o = observed_ok g a p applied state st t h ok in
-    draft_after g a o.to p applied state (on_snap (observed st t) from t index index_term snapshot) o.moves
-    (on_snap_ok g o.to p applied state (observed st t) from t index index_term snapshot o.inv pf other o.node o.reached (message_grows g a o.to o.moves.grows from p (Snap t index index_term snapshot) pf m))
+    draft_after g a o.to p applied state (on_snap (record st { head = observed st.head t }) from t index index_term snapshot) o.moves
+    (on_snap_ok g o.to p applied state (record st { head = observed st.head t }) from t index index_term snapshot o.inv pf other o.node o.reached (message_grows g a o.to o.moves.grows from p (Snap t index index_term snapshot) pf m))
 
 -- what an event makes of a node is a run of moves of it
 pub record TurnOk {S : Type 0} (g : Range S) (a : Abs) (p : ℕ) (turn : Turn S) : Type 0 where

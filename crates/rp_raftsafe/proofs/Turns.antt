@@ -1,5 +1,5 @@
 -- The end of each event: the commit index moves on, and the last messages are made. So each turn of a node is a run of moves.
-use Rattle.std.proofs.Common.{◌≡◌, ℕ, zero, suc, ◌+◌, ◌-◌, ◌*◌, ◌<◌, ◌≤◌, max, Bool, true, false, ◌&&◌, eqb, ltb, leb, Option, Some, None, List, [], ◌∷◌, length, take, drop, get_or, refl, sym, ap, subst, ◌∙◌, arith, ◌⊎◌, ⊎_elim, inl, inr, ltb-false, ltb-true, leb-true, length-take, add-one, replicate, length-take-le, eqb-true}
+use Rattle.std.proofs.Common.{◌≡◌, ℕ, zero, suc, ◌+◌, ◌-◌, ◌*◌, ◌<◌, ◌≤◌, max, Bool, true, false, eqb, ltb, leb, Option, Some, None, List, [], ◌∷◌, length, take, drop, get_or, refl, sym, ap, subst, ◌∙◌, arith, ◌⊎◌, ⊎_elim, inl, inr, ltb-false, ltb-true, leb-true, length-take, add-one, replicate, length-take-le, eqb-true}
 use Rattle.std.specs.Prelude.{fold, count_by}
 use Rattle.std.specs.List.{AllByRecursion as Every}
 use Rattle.std.specs.Option.{option_map_or, unwrap_or}
@@ -8,17 +8,15 @@ use Rattle.std.proofs.lemmas.List.{take_min, length-replicate, take_more, drop-a
 use Rattle.std.proofs.lemmas.List.Sums.{fold_push}
 use Rattle.rp_raftlog.specs.declared.entries.Entry.{Entry}
 use Rattle.rp_raftlog.specs.LogState.{last_index, entry_at, term_at, has_term, suffix, cut}
-use Rattle.rp_raft.specs.declared.heads.Head.{Head}
-use Rattle.rp_raft.specs.declared.heads.Role.{Role}
-use Rattle.rp_raft.specs.declared.heads.Role.TheVariants.{Follower, Leader}
-use Rattle.rp_raft.specs.declared.heads.Due.{Due}
-use Rattle.rp_raft.specs.declared.heads.Due.TheVariants.{Nobody, One, Everyone}
-use Rattle.rp_raft.specs.declared.messages.Message.{Message}
-use Rattle.rp_raft.specs.declared.messages.Message.TheVariants.{Append, Snap}
-use Rattle.rp_raft.specs.declared.events.RaftEvent.{RaftEvent}
-use Rattle.rp_raft.specs.declared.events.RaftEvent.TheVariants.{Tick, Receive, Propose, Cut}
-use Rattle.rp_raft.specs.RaftState.{RaftState, is_leader, of_node, for_each_node, restarted}
-use Rattle.rp_raft.specs.Step.{Draft, quiet, matched_by, is_on_majority, greatest, committable, advanced, most_entries, to_peer, due_peers, last_sends, sent, drafted, then_proposed}
+use Rattle.rp_raftstep.specs.declared.heads.Head.{Head}
+use Rattle.rp_raftstep.specs.declared.heads.Role.{Role}
+use Rattle.rp_raftstep.specs.declared.heads.Role.TheVariants.{Follower, Leader}
+use Rattle.rp_raftstep.specs.declared.heads.Due.{Due}
+use Rattle.rp_raftstep.specs.declared.heads.Due.TheVariants.{Nobody, One, Everyone}
+use Rattle.rp_raftstep.specs.declared.messages.Message.{Message}
+use Rattle.rp_raftstep.specs.declared.messages.Message.TheVariants.{Append, Snap}
+use Rattle.rp_raftstep.specs.RaftState.{RaftState, is_leader, of_node, for_each_node, restarted}
+use Rattle.rp_raftstep.specs.Step.{Draft, quiet, matched_by, is_on_majority, greatest, committable, advanced, most_entries, to_peer, due_peers, last_sends, sent, then_proposed, is_committable, tick, received}
 use Rattle.rp_raftsafe.specs.World.{Range, Replica, Status, Absent, Live, Removed, stays, first, start_term, after_raft, by_raft, applied_one, Action, Begin, Ticks, Proposes, Applies, Cuts, Removes, Restarts, replica_acts, acts, gets}
 use Rattle.rp_raftsafe.proofs.Logs.{no_entry, tm, term_in}
 use Rattle.rp_raftsafe.proofs.Quorum.{Majority, count}
@@ -77,7 +75,7 @@ module _ {S : Type 0} (g : Range S) (a : Abs) (p applied : ℕ) (state : S) (st 
         within = omega arith;
         front = ap (take (suc found.0)) own_log;
       })))
-      (greatest_passes (λ index. has_term st.log index st.head.term && is_on_majority st index) (last_index st.log))
+      (greatest_passes (is_committable st) (last_index st.log))
 
 pub advanced_ok : {S : Type 0} (g : Range S) (a : Abs) (p applied : ℕ) (state : S) (st : RaftState) → Inv g.nodes a → 0 < p → NodeOk g a p st applied state → NodeOk g a p (advanced st) applied state
 advanced_ok {S} g a p applied state st h pos ok =
@@ -171,8 +169,8 @@ sent_ok {S} g a p r d pos ok =
     }
 
 -- an event of a replica's Raft, with what is proposed again in it
-pub by_raft_ok : {S : Type 0} (g : Range S) (a : Abs) (p : ℕ) (r : Replica S) (event : RaftEvent S) (again : List (List ℕ)) → 0 < p → DraftOk g a p r.applied r.state (drafted r.raft event) → TurnOk g a p (by_raft r event again)
-by_raft_ok g a p r event again pos ok = sent_ok g a p r (then_proposed (drafted r.raft event) again) pos (then_proposed_ok g a p r.applied r.state (drafted r.raft event) again pos ok)
+pub by_raft_ok : {S : Type 0} (g : Range S) (a : Abs) (p : ℕ) (r : Replica S) (draft : Draft S) (again : List (List ℕ)) → 0 < p → DraftOk g a p r.applied r.state draft → TurnOk g a p (by_raft r draft again)
+by_raft_ok g a p r draft again pos ok = sent_ok g a p r (then_proposed draft again) pos (then_proposed_ok g a p r.applied r.state draft again pos ok)
 
 stays_ok : {S : Type 0} (g : Range S) (a : Abs) (p : ℕ) (status : Status S) → Inv g.nodes a → StatusOk g a p status → TurnOk g a p (stays status)
 stays_ok g a p status h ok = record { to = a; moves = moves_refl p a; inv = h; status = ok; sends = tt }
@@ -294,15 +292,15 @@ acts_ok g a p Cuts Absent begun h pos ok = stays_ok g a p Absent h ok
 acts_ok g a p Removes Absent begun h pos ok = stays_ok g a p Absent h ok
 acts_ok g a p Restarts Absent begun h pos ok = stays_ok g a p Absent h ok
 acts_ok g a p Begin (Live r) begun h pos ok = stays_ok g a p (Live r) h ok
-acts_ok g a p (Ticks again) (Live r) begun h pos ok = by_raft_ok g a p r Tick again pos (tick_ok g a p r.applied r.state r.raft h pos ok)
-acts_ok g a p (Proposes payloads) (Live r) begun h pos ok = by_raft_ok g a p r (Propose payloads) [] pos (then_proposed_ok g a p r.applied r.state (quiet r.raft) payloads pos (quiet_ok g a p r.applied r.state r.raft h ok))
+acts_ok g a p (Ticks again) (Live r) begun h pos ok = by_raft_ok g a p r (tick r.raft) again pos (tick_ok g a p r.applied r.state r.raft h pos ok)
+acts_ok g a p (Proposes payloads) (Live r) begun h pos ok = by_raft_ok g a p r (quiet r.raft) payloads pos (quiet_ok g a p r.applied r.state r.raft h ok)
 acts_ok g a p Applies (Live r) begun h pos ok = applies_ok g a p r h ok
-acts_ok g a p Cuts (Live r) begun h pos ok = by_raft_ok g a p r (Cut r.applied) [] pos (quiet_ok g a p r.applied r.state (record r.raft { log = cut r.raft.log r.applied }) h (cut_ok g a p r h ok))
+acts_ok g a p Cuts (Live r) begun h pos ok = stays_ok g a p (Live (record r { raft = record r.raft { log = cut r.raft.log r.applied } })) h (cut_ok g a p r h ok)
 acts_ok g a p Removes (Live r) begun h pos ok = stays_ok g a p Removed h tt
 acts_ok g a p Restarts (Live r) begun h pos ok = stays_ok g a p (Live (record r { raft = restarted r.applied r.raft })) h (restarted_ok g a p r ok)
 acts_ok g a p action Removed begun h pos ok = stays_ok g a p Removed h tt
 
 pub gets_ok : {S : Type 0} (g : Range S) (a : Abs) (p from : ℕ) (m : Message S) (again : List (List ℕ)) (status : Status S) → Inv g.nodes a → 0 < p → 0 < from → (from ≡ p → ⊥) → StatusOk g a p status → MessageOk g a from p m → TurnOk g a p (gets g p from m again status)
 gets_ok g a p from m again Absent h pos pf other ok fact = absent_gets_ok g a p from m h pf other ok fact
-gets_ok g a p from m again (Live r) h pos pf other ok fact = by_raft_ok g a p r (Receive from m) again pos (received_ok g a p r.applied r.state r.raft from m h pos pf other ok fact)
+gets_ok g a p from m again (Live r) h pos pf other ok fact = by_raft_ok g a p r (received r.raft from m) again pos (received_ok g a p r.applied r.state r.raft from m h pos pf other ok fact)
 gets_ok g a p from m again Removed h pos pf other ok fact = stays_ok g a p Removed h tt

@@ -6,7 +6,7 @@ use Rattle.std.specs.Option.{option_map_or}
 use Rattle.std.proofs.lemmas.Bool.{cases_lt, cases_eq, cond_both, eqb-true, eqb-false}
 use Rattle.std.proofs.lemmas.List.{set_past, length-replicate, get_or_past, get_or-replicate}
 use Rattle.rp_raftlog.specs.declared.entries.Entry.{Entry}
-use Rattle.rp_raft.specs.declared.messages.Message.{Message}
+use Rattle.rp_raftstep.specs.declared.messages.Message.{Message}
 use Rattle.rp_raftsafe.specs.World.{Range, IsRange, Absent, Site, World, Turn, acts, gets, site, with_site, after_turn, message_of, Event, Acts, Comes, comes, happens, run, nowhere, world_after}
 use Rattle.rp_raftsafe.proofs.Logs.{no_entry, tm, Good}
 use Rattle.rp_raftsafe.proofs.Quorum.{Majority, count}

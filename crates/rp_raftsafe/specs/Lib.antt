@@ -4,6 +4,6 @@ pub mod Bounds
 pub mod Many
 pub mod Proposed
 pub use Rattle.rp_raftlog.specs.LogState
-pub use Rattle.rp_raft.specs.RaftState
-pub use Rattle.rp_raft.specs.Step
-pub use Rattle.rp_raft.specs.Conditions
+pub use Rattle.rp_raftstep.specs.RaftState
+pub use Rattle.rp_raftstep.specs.Step
+pub use Rattle.rp_raftstep.specs.Conditions

@@ -1,7 +1,7 @@
 -- Nodes with several ranges and one list of what they sent; and what one range sees of them.
 use Rattle.std.specs.Prelude.{◌≡◌, ℕ, zero, suc, Option, None, List, [], ◌∷◌, ◌++◌, map, take, replicate, slice_get, slice_index_or, slice_set, count_by, ◌==◌, if◌then◌else◌}
 use Rattle.std.specs.Option.{option_map_or}
-use Rattle.rp_raft.specs.declared.messages.Message.{Message}
+use Rattle.rp_raftstep.specs.declared.messages.Message.{Message}
 use Rattle.rp_raftsafe.specs.World.{Range, Status, Absent, Turn, acts, gets, Action, Site, World, Event, Acts, Comes, run, nowhere}
 
 -- a message that a node has sent, with the range that it belongs to

@@ -1,9 +1,9 @@
 -- Where the payloads of logs and messages come from.
 use Rattle.std.specs.Prelude.{◌≡◌, ℕ, ◌⊎◌, List, [], All, Contains, flat_map}
 use Rattle.rp_raftlog.specs.declared.entries.Entry.{Entry}
-use Rattle.rp_raft.specs.declared.messages.Message.{Message}
-use Rattle.rp_raft.specs.declared.messages.Message.TheVariants.{Vote, VoteReply, Append, AppendReply, Forward, Snap}
-use Rattle.rp_raft.specs.Step.{nothing}
+use Rattle.rp_raftstep.specs.declared.messages.Message.{Message}
+use Rattle.rp_raftstep.specs.declared.messages.Message.TheVariants.{Vote, VoteReply, Append, AppendReply, Forward, Snap}
+use Rattle.rp_raftstep.specs.Step.{nothing}
 use Rattle.rp_raftsafe.specs.World.{Action, Begin, Ticks, Proposes, Applies, Cuts, Removes, Restarts, Event, Acts, Comes}
 
 -- the payloads that an event hands to Raft

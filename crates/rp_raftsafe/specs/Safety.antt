@@ -2,10 +2,10 @@
 use Rattle.std.specs.Prelude.{◌≡◌, ℕ, ◌-◌, ◌<◌, ◌≤◌, Some, List, ◌++◌, take, slice_get, fold, All}
 use Rattle.rp_raftlog.specs.declared.entries.Entry.{Entry}
 use Rattle.rp_raftlog.specs.LogState.{LogState, last_index, entry_at, term_at}
-use Rattle.rp_raft.specs.declared.heads.Role.TheVariants.{Leader}
-use Rattle.rp_raft.specs.declared.messages.Message.{Message}
-use Rattle.rp_raft.specs.declared.messages.Message.TheVariants.{Append}
-use Rattle.rp_raft.specs.Conditions.{FitsCommitted}
+use Rattle.rp_raftstep.specs.declared.heads.Role.TheVariants.{Leader}
+use Rattle.rp_raftstep.specs.declared.messages.Message.{Message}
+use Rattle.rp_raftstep.specs.declared.messages.Message.TheVariants.{Append}
+use Rattle.rp_raftstep.specs.Conditions.{FitsCommitted}
 use Rattle.rp_raftsafe.specs.Proposed.{WasProposed, MessageCarries}
 use Rattle.rp_raftsafe.specs.World.{Range, IsRange, start_term, Replica, Live, World, site, Event, world_after}
 

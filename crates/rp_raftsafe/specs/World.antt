@@ -3,12 +3,11 @@ use Rattle.std.specs.Prelude.{ℕ, zero, suc, ◌+◌, ◌<◌, Option, None, Li
 use Rattle.std.specs.Option.{option_map_or}
 use Rattle.rp_raftlog.specs.declared.entries.Entry.{Entry}
 use Rattle.rp_raftlog.specs.LogState.{entry_at}
-use Rattle.rp_raft.specs.declared.messages.Message.{Message}
-use Rattle.rp_raft.specs.declared.messages.Message.TheVariants.{Vote, VoteReply, Append, AppendReply, Forward, Snap}
-use Rattle.rp_raft.specs.declared.events.RaftEvent.{RaftEvent}
-use Rattle.rp_raft.specs.declared.events.RaftEvent.TheVariants.{Tick, Receive, Propose, Cut}
-use Rattle.rp_raft.specs.RaftState.{RaftState, started, made_by_snap, restarted}
-use Rattle.rp_raft.specs.Step.{Done, step_then, absent_answer}
+use Rattle.rp_raftstep.specs.declared.messages.Message.{Message}
+use Rattle.rp_raftstep.specs.declared.messages.Message.TheVariants.{Vote, VoteReply, Append, AppendReply, Forward, Snap}
+use Rattle.rp_raftstep.specs.declared.events.RaftEvent.TheVariants.{Cut}
+use Rattle.rp_raftstep.specs.RaftState.{RaftState, started, made_by_snap, restarted}
+use Rattle.rp_raftstep.specs.Step.{Draft, quiet, tick, received, Done, step, step_then, absent_answer}
 
 -- a range: how many nodes there are, who leads it in term 1, behind which index its log begins, the state
 -- there, and what an entry makes of a state
@@ -87,8 +86,8 @@ after_raft r done = record {
 }
 
 -- an event of a replica's Raft, with the payloads that a refresh proposes again in the same event
-abbrev pub by_raft : {S : Type 0} → Replica S → RaftEvent S → List (List ℕ) → Turn S
-by_raft r event again = after_raft r (step_then r.applied r.state r.raft event again)
+abbrev pub by_raft : {S : Type 0} → Replica S → Draft S → List (List ℕ) → Turn S
+by_raft r draft again = after_raft r (step_then r.applied r.state draft again)
 
 -- the replica has applied this entry too
 abbrev pub applied_one : {S : Type 0} → Range S → Replica S → Entry → Turn S
@@ -107,11 +106,11 @@ pub data Action : Type 0 where
 -- what an action makes of a replica
 abbrev pub replica_acts : {S : Type 0} → Range S → Replica S → Action → Turn S
 replica_acts g r Begin = stays (Live r)
-replica_acts g r (Ticks again) = by_raft r Tick again
-replica_acts g r (Proposes payloads) = by_raft r (Propose payloads) []
+replica_acts g r (Ticks again) = by_raft r (tick r.raft) again
+replica_acts g r (Proposes payloads) = by_raft r (quiet r.raft) payloads
 -- the next entry is applied, if it is committed
 replica_acts g r Applies = if nat_lt r.applied r.raft.head.commit then option_map_or (applied_one g r) (entry_at r.raft.log (r.applied + 1)) (stays (Live r)) else stays (Live r)
-replica_acts g r Cuts = by_raft r (Cut r.applied) []
+replica_acts g r Cuts = after_raft r (step r.applied r.state r.raft (Cut r.applied))
 replica_acts g r Removes = stays Removed
 replica_acts g r Restarts = stays (Live (record r { raft = restarted r.applied r.raft }))
 
@@ -143,7 +142,7 @@ absent_after g node from (Snap term index index_term snapshot) = Live (from_snap
 -- what a message makes of what a node has
 abbrev pub gets : {S : Type 0} → Range S → ℕ → ℕ → Message S → List (List ℕ) → Status S → Turn S
 gets g node from message again Absent = record { status = absent_after g node from message; sends = absent_answer from message }
-gets g node from message again (Live r) = by_raft r (Receive from message) again
+gets g node from message again (Live r) = by_raft r (received r.raft from message) again
 gets g node from message again Removed = stays Removed
 
 -- the node's part of the world

@@ -7,6 +7,7 @@ use Rattle.std.specs.FinMap.{retain_keys}
 use Rattle.rp_base.specs.declared.ids.CmdId.{CmdId}
 use Rattle.rp_base.specs.declared.ranges.Desc.{Desc}
 use Rattle.rp_base.specs.declared.leases.Lease as leases
+use Rattle.rp_base.proofs.IdLaws.{id_cases}
 use Rattle.rp_request.specs.declared.commands.Payload.{Payload}
 use Rattle.rp_request.specs.declared.commands.Payload.TheVariants.{Nothing, Write, Lease}
 use Rattle.rp_request.specs.declared.commands.Command.{Command}
@@ -27,7 +28,6 @@ use Rattle.rp_rangesafe.specs.Attempts.{Attempt, IsBorn}
 use Rattle.rp_rangesafe.specs.Along.{state, Takes}
 use Rattle.rp_rangesafe.specs.World.{World, IsEvaluated}
 use Rattle.rp_rangesafe.specs.Places.{body_of}
-use Rattle.rp_rangesafe.proofs.Tables.{id_cases}
 use Rattle.rp_rangesafe.proofs.Numbers.{onward, one_holder, timely_at, blocked_never}
 use Rattle.rp_rangesafe.proofs.One.{Made, one_place, born_with}
 use Rattle.rp_rangesafe.proofs.Worlds.{Done, Sound}

@@ -1,5 +1,6 @@
 -- An attempt of a command, as one range knows it (after CockroachDB's proposals).
-use Rattle.std.specs.Prelude.{◌≡◌, ℕ, Bool, ◌==◌, ◌&&◌, if◌then◌else◌, ◌⊎◌, List, [], ◌∷◌}
+use Rattle.std.specs.Prelude.{◌≡◌, ℕ, ◌==◌, if◌then◌else◌, ◌⊎◌, List, [], ◌∷◌}
+use Rattle.rp_base.specs.Ids.{same_id}
 use Rattle.rp_base.specs.declared.ids.CmdId.{CmdId}
 use Rattle.rp_request.specs.declared.commands.Op.{Op}
 use Rattle.rp_request.specs.declared.commands.Command.{Command}
@@ -51,6 +52,10 @@ IsBorn Refused = Unit {0}
 IsBorn (Overtaken own passed) = Unit {0}
 IsBorn (Removed own) = Unit {0}
 IsBorn (Restarted own) = Unit {0}
+
+-- the attempt was admitted at this node
+abbrev pub IsBornAt : Attempt → ℕ → Type 0
+IsBornAt a node = IsBorn a.stage × (a.node ≡ node)
 
 -- it has not ended, and holds its latches
 abbrev pub IsPending : Stage → Type 0
@@ -112,6 +117,11 @@ abbrev pub IsAmong : List ℕ → ℕ → Type 0
 IsAmong [] m = ⊥
 IsAmong (x ∷ xs) m = (m ≡ x) ⊎ IsAmong xs m
 
+-- the number is the last that was given
+abbrev pub IsLast : List ℕ → ℕ → Type 0
+IsLast [] m = ⊥
+IsLast (x ∷ xs) m = m ≡ x
+
 -- the command was made of the attempt
 pub record IsOf (a : Attempt) (c : Command) : Type 0 where
   pub seq : c.seq ≡ a.seq
@@ -131,10 +141,6 @@ handed_out a max = record a { stage = Proposed max; maxima = max ∷ a.maxima }
 -- all attempts, of which most are unborn
 abbrev pub Attempts : Type 0
 Attempts = CmdId → Attempt
-
--- whether two attempts are one
-abbrev pub same_id : CmdId → CmdId → Bool
-same_id x y = x.client == y.client && (x.seq == y.seq && x.attempt == y.attempt)
 
 -- one attempt becomes this
 unfoldable pub with_attempt : Attempts → CmdId → Attempt → Attempts

@@ -1,5 +1,6 @@
 -- The ranges together: commands with further attempts after a refusal, and right ranges that a split opens.
 use Rattle.std.specs.Prelude.{◌≡◌, ℕ, ◌-◌, ◌<◌, Bool, true, ◌==◌, if◌then◌else◌, ◌⊎◌, List, [], ◌∷◌, length, Option, None, Some, Result, Ok, Err}
+use Rattle.rp_base.specs.Ids.{same_id}
 use Rattle.rp_base.specs.Splits.{split_of}
 use Rattle.rp_base.specs.declared.ids.CmdId.{CmdId}
 use Rattle.rp_base.specs.declared.ranges.Desc.{Desc}
@@ -17,7 +18,7 @@ use Rattle.rp_request.specs.Applied.{AppliedState, command_verdict}
 use Rattle.rp_request.specs.declared.verdicts.Verdict.{Verdict}
 use Rattle.rp_request.specs.declared.verdicts.Verdict.TheVariants.{Took, OldLease, OldIndex, LeaseMoved}
 use Rattle.rp_request.specs.declared.verdicts.Verdict.TheVariants as verdicts
-use Rattle.rp_rangesafe.specs.Attempts.{Refused, same_id}
+use Rattle.rp_rangesafe.specs.Attempts.{Refused}
 use Rattle.rp_rangesafe.specs.World.{World, begin, state_at, Event, Admit, Flush, Return, Refuse, Commit, Apply, Snapshot, Remove, Restart, Lawful, happens, with_node}
 use Rattle.rp_rangesafe.specs.Places.{IsPlace, items_to}
 
@@ -187,11 +188,13 @@ pub record AreLater (w later : Ranges) : Type 0 where
 abbrev pub lists : Ranges → ℕ → List Place
 lists w r = items_to (w.range r) (length (w.range r).log)
 
--- the attempt, made in this range, has a place there with this reply, and it is the one place of its command in all ranges
+-- the attempt, made in this range, has a place there with this reply, which its node has applied,
+-- and it is the one place of its command in all ranges
 pub record IsTheOnePlace (w : Ranges) (range : ℕ) (id : CmdId) (reply : Reply) : Type 0 where
   pub index : ℕ
   pub command : Command
   pub place : IsPlace (w.range range) id index command
+  pub applied : index < (w.range range).index ((w.range range).attempt id).node
   pub answers : command.reply ≡ reply
   pub only : (q k : ℕ) (x : CmdId) (c : Command) → x.client ≡ id.client → x.seq ≡ id.seq → IsPlace (w.range q) x k c → (q ≡ range) × (k ≡ index)
 

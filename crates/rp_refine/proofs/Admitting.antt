@@ -12,7 +12,8 @@ use Rattle.rp_request.specs.declared.outcomes.Refusal.{Refusal}
 use Rattle.rp_request.specs.declared.outcomes.Refusal.TheVariants.{NotLeaseHolder, RangeMismatch}
 use Rattle.rp_request.specs.declared.requests.Request.{Request}
 use Rattle.rp_request.proofs.Covering.{apart}
-use Rattle.rp_latch.specs.Holds.{meets_one, any_meet, met_in, held_or, conflict, refused_by, answer}
+use Rattle.rp_base.specs.Spans.{meets_one, any_meet}
+use Rattle.rp_latch.specs.Holds.{met_in, held_or, conflict, refused_by, answer}
 use Rattle.rp_latch.specs.declared.holds.Held.{Held}
 use Rattle.rp_latch.specs.declared.holds.Hold.{Hold}
 use Rattle.rp_request.specs.Evaluations.{evaluated}

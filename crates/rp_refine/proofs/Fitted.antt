@@ -19,7 +19,8 @@ use Rattle.rp_request.specs.declared.requests.Request.{Request}
 use Rattle.rp_raftlog.specs.declared.entries.Entry.{Entry}
 use Rattle.rp_request.specs.Fits.{FitsId, FitsRequest, FitsReply, FitsBatch, FitsPayload}
 use Rattle.rp_request.specs.declared.evaluations.Evaluated.{Evaluated}
-use Rattle.rp_flush.specs.Assigns.{asks_of, ids_of, once, numbered, waits_under, same_id}
+use Rattle.rp_base.specs.Ids.{same_id}
+use Rattle.rp_flush.specs.Assigns.{asks_of, ids_of, once, numbered, waits_under}
 use Rattle.rp_pending.specs.declared.proposals.Proposal.{Proposal}
 use Rattle.rp_pending.specs.Proposals.{has_id, proposal_of, with_changed, without, proposed, waiting_again}
 use Rattle.rp_pending.specs.Refreshes.{waiting_of}

@@ -5,6 +5,7 @@ use Rattle.std.specs.FinMap.{get, get-empty}
 use Rattle.rp_base.specs.Keys.{IsKey, key_of, key_number}
 use Rattle.rp_base.specs.declared.ids.CmdId.{CmdId}
 use Rattle.rp_base.specs.declared.items.Item.TheVariants as kinds
+use Rattle.rp_base.specs.declared.values.Value.TheVariants.{Number}
 use Rattle.rp_request.specs.declared.commands.Command.{Command}
 use Rattle.rp_request.specs.declared.commands.Op.TheVariants.{Set}
 use Rattle.rp_request.specs.declared.commands.Payload.TheVariants as payloads
@@ -26,7 +27,7 @@ one = record { client = 1; seq = 1; attempt = 1 }
 -- client 1 puts 5 under `a`; the command goes by the buffer and the log
 abbrev asked : List Input
 asked =
-    record { event = Admit one (Put key_a 5); ticks = 0; round = 0; taken = [] }
+    record { event = Admit one (Put key_a (Number 5)); ticks = 0; round = 0; taken = [] }
     ∷ record { event = Collect; ticks = 0; round = 0; taken = kinds.Write one ∷ [] }
     ∷ record { event = Flush; ticks = 0; round = 0; taken = [] } ∷ []
 
@@ -39,8 +40,8 @@ proposed = play begun asked
 abbrev command : Command
 command = record {
   id = one;
-  request = Put key_a 5;
-  batch = Set key_a 5 ∷ [];
+  request = Put key_a (Number 5);
+  batch = Set key_a (Number 5) ∷ [];
   reply = Old (get first_applied.table key_a);
   seq = 1;
   max = 1;

@@ -18,7 +18,7 @@ use Rattle.rp_replica.specs.declared.events.ReplicaEvent.TheVariants.{Admit, Col
 use Rattle.rp_replica.specs.Replicas.{Replica, Done, started}
 use Rattle.rp_replica.specs.Allows.{MayFlush}
 use Rattle.rp_replica.specs.Events.{event}
-use Rattle.rp_rangesafe.specs.Attempts.{same_id}
+use Rattle.rp_base.specs.Ids.{same_id}
 use Rattle.rp_rangesafe.specs.Ranges.{first_applied, previous}
 
 -- an event, with the tick and the round of the node, and what the buffer gave

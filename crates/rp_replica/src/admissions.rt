@@ -18,18 +18,17 @@ use rp_request::{Refusal, Request};
 use std::alloc::Global;
 
 /// An evaluation's answer as what a client is told of it, apart from want of memory.
-fn told(answer: Result<Evaluated, EvalFault>) -> Result<Result<Evaluated, Refusal>, NoMemory>
-    ensures { (v : Result Evaluated Refusal) → Gives answer v → IfOk result (λ told. told ≡ v) }
+fn refusal_apart(
+    answer: Result<Evaluated, EvalFault>,
+) -> Result<Result<Evaluated, Refusal>, NoMemory>
+    ensures { (v : Result Evaluated Refusal) → Gives answer v → IfOk result (λ answered. answered ≡ v) }
 {
     match answer {
         Ok(evaluated) => Ok(Ok(evaluated)),
-        Err(EvalFault::ConditionFailed { actual }) => Ok(Err(Refusal::ConditionFailed { actual })),
-        Err(EvalFault::Overflow { actual }) => Ok(Err(Refusal::Overflow { actual })),
-        Err(EvalFault::Short { actual }) => Ok(Err(Refusal::Short { actual })),
-        Err(EvalFault::TooWide { count }) => Ok(Err(Refusal::TooWide { count })),
-        Err(EvalFault::NotInside) => Ok(Err(Refusal::NotInside)),
-        Err(EvalFault::SplitLimit { level }) => Ok(Err(Refusal::SplitLimit { level })),
-        Err(EvalFault::NoMemory) => Err(NoMemory),
+        Err(fault) => match fault.refusal() {
+            Some(refusal) => Ok(Err(refusal)),
+            None => Err(NoMemory),
+        },
     }
 }
 
@@ -80,7 +79,7 @@ impl Replica {
             }));
         }
         let desc = self.applied.desc();
-        told(evaluate(alloc, self.applied.table(), desc, *request))
+        refusal_apart(evaluate(alloc, self.applied.table(), desc, *request))
     }
 
     pub(crate) fn plan_admission(

@@ -76,6 +76,7 @@ line_same w line (lines.Ask node range) = refl
 line_same w line (lines.Transfer node range to) = refl
 line_same w line (lines.Cut node range) = refl
 line_same w line (lines.Remove node range) = refl
+line_same w line (lines.Restart node) = refl
 line_same w line (lines.Tick node count) = refl
 line_same w line (lines.Deliver node number) = refl
 line_same w line (lines.Loss percent salt) = refl

@@ -1,0 +1,75 @@
+//! How a leader's commit index moves on (Raft 2014, sections 5.3 and 5.4.2).
+
+ghost use Rattle.std.specs.Prelude.{◌≡◌, ◌+◌, ◌<◌, ◌≤◌, ◌^◌, count_by, length, max, nat_le, take};
+ghost use Rattle.rp_raftlog.specs.LogState.{last_index};
+ghost use Rattle.rp_raftstep.specs.RaftState.{is_majority, with_node};
+ghost use Rattle.rp_raftstep.specs.Step.{advanced, committable, is_committable, matched_by};
+ghost use Rattle.rp_raft.specs.Plans.{ahead};
+
+use crate::ahead::{last_in, term_in};
+use crate::heads::{is_majority, place};
+use rp_raftlog::{Entry, Log};
+use rp_raftstep::{Head, Role};
+
+/// How far the log of each node is known to be as the leader's, whose own reaches to `last`.
+fn matched_by(head: &Head, last: u64) -> [u64; 5]
+    ensures { result ≡ with_node head.now.matched head.now.node last }
+{
+    let mut matched = head.matched;
+    matched[place(head.node)] = last;
+    matched
+}
+
+/// Whether a majority has the entry with this index.
+fn is_on_majority(head: &Head, matched: &[u64; 5], index: u64) -> bool
+    requires { head.now.nodes ≤ 5 }
+    ensures { result ≡ is_majority head.now
+        (count_by (λ known. nat_le index known) (take head.now.nodes matched.now)) }
+{
+    let nodes = usize::from(head.nodes);
+    let count = matched[..nodes]
+        .iter()
+        .filter(|known| index <= **known)
+        .count();
+    is_majority(*head, count)
+}
+
+/// Whether the entry there is of the present term, and a majority has it.
+fn is_committable(head: &Head, log: &Log, added: &[Entry], matched: &[u64; 5], index: u64) -> bool
+    requires nodes { head.now.nodes ≤ 5 }
+    requires matched { matched.now ≡ matched_by (ahead head.now log.now.log added.now) }
+    ensures { result ≡ is_committable (ahead head.now log.now.log added.now) index }
+{
+    let present = head.term;
+    term_in(log, added, index) == Some(present) && is_on_majority(head, matched, index)
+}
+
+/// The commit index, moved on to the greatest index of the present term that a majority has.
+fn committed(head: &Head, log: &Log, added: &[Entry]) -> u64
+    requires nodes { head.now.nodes ≤ 5 }
+    requires last { last_index log.now.log + length added.now < 2 ^ 64 }
+    ensures { result ≡ max head.now.commit (committable (ahead head.now log.now.log added.now)) }
+{
+    let mut index = last_in(log, added);
+    let matched = matched_by(head, index);
+    while head.commit < index {
+        if is_committable(head, log, added, &matched, index) {
+            return index;
+        }
+        index -= 1;
+    }
+    head.commit
+}
+
+/// At the end of an event a leader moves its commit index on.
+pub(crate) fn advanced(head: Head, log: &Log, added: &[Entry]) -> Head
+    requires nodes { head.nodes ≤ 5 }
+    requires last { last_index log.now.log + length added.now < 2 ^ 64 }
+    ensures { ahead result log.now.log added.now ≡ advanced (ahead head log.now.log added.now) }
+{
+    if head.role != Role::Leader {
+        return head;
+    }
+    let commit = committed(&head, log, added);
+    Head { commit, ..head }
+}

@@ -1,0 +1,4 @@
+pub mod RaftState
+pub mod Step
+pub mod Conditions
+pub use Rattle.rp_raftlog.specs.LogState
