@@ -1,3 +1,4 @@
+//! The texts of notes.
 ghost use Rattle.std.specs.Prelude.{◌≡◌, ◌++◌, codes, OnOk, IfOk};
 ghost use Rattle.rp_report.specs.Words.{spaced, spaced_key, value_or_none};
 ghost use Rattle.rp_world.specs.Notes.{peek_text};
