@@ -1,3 +1,1 @@
-pub mod Opened
-pub mod Numbers
 pub mod Splitting

@@ -3,11 +3,11 @@ use Rattle.std.proofs.Common.{◌≡◌, ℕ, Result, Ok, sym, ap, ◌∙◌}
 use Rattle.rp_base.specs.Splits.{split_of}
 use Rattle.rp_base.specs.declared.ranges.Desc.{Desc}
 use Rattle.rp_base.specs.declared.ranges.SplitFault.{SplitFault}
-use Rattle.rp_request.specs.Table.{Table, below}
+use Rattle.rp_base.specs.Tables.{Table, below}
 use Rattle.rp_request.specs.declared.commands.Command.{Command}
 use Rattle.rp_request.specs.declared.requests.Request.TheVariants.{Split}
-use Rattle.rp_apply.specs.Applied.{AppliedState, left_of, desc_after, taken}
-use Rattle.rp_eval.specs.Batches.{after_batch}
+use Rattle.rp_request.specs.Applied.{AppliedState, left_of, desc_after, taken}
+use Rattle.rp_request.specs.Batches.{after_batch}
 
 -- the left part of a split that is made
 pub split_state : (s : AppliedState) (key : ℕ) (parts : Desc × Desc) (t : Table) (r : Result (Desc × Desc) SplitFault) → r ≡ split_of s.desc key → r ≡ Ok parts → t ≡ below s.table key

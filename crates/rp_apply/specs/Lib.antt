@@ -1,4 +1,1 @@
-pub mod Applied
-pub mod History
-pub mod Onward
 pub mod Rooms

@@ -1,5 +1,5 @@
 ghost use Rattle.std.specs.Prelude.{◌≡◌, ◌+◌, ◌≤◌, length};
-ghost use Rattle.rp_eval.specs.Batches.{write, write_all};
+ghost use Rattle.rp_request.specs.Batches.{write, write_all};
 
 use rp_request::Op;
 use rp_table::Table;

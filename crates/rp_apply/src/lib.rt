@@ -3,14 +3,12 @@
 #![tactic(auto)]
 
 mod batches;
-pub mod laws;
 mod machines;
 mod pieces;
 mod states;
 #[cfg(test)]
 mod tests;
-mod verdicts;
 
 pub use pieces::Piece;
+pub use rp_request::Verdict;
 pub use states::{ApplyState, check};
-pub use verdicts::Verdict;

@@ -1,15 +1,15 @@
 ghost use Rattle.std.specs.Prelude.{◌≡◌, ◌+◌, ◌-◌, ◌^◌, ◌<◌, ◌≤◌, length, IsOk, OnOk};
 ghost use Rattle.rp_base.specs.Splits.{split_of};
-ghost use Rattle.rp_request.specs.Table.{below};
-ghost use Rattle.rp_apply.specs.declared.verdicts.Verdict.TheVariants as verdicts;
-ghost use Rattle.rp_apply.specs.Applied.{right_number, left_of, command_verdict, asked, ask_record, leased, item, command_record, taken, written, verdict, record_of, after};
-ghost use Rattle.rp_apply.specs.Rooms.{rows_of, MaySplit, Fits};
+ghost use Rattle.rp_base.specs.Tables.{below};
+ghost use Rattle.rp_request.specs.declared.verdicts.Verdict.TheVariants as verdicts;
+ghost use Rattle.rp_request.specs.Applied.{right_number, left_of, command_verdict, asked, ask_record, leased, item, command_record, taken, written, verdict, record_of, after};
+ghost use Rattle.rp_request.specs.Applicable.{MaySplit, Fits};
+ghost use Rattle.rp_apply.specs.Rooms.{rows_of};
 
 use crate::batches::write_all;
-use crate::verdicts::Verdict;
 use rp_base::{Desc, Key, Lease, LeaseAsk, LeaseIndex, NoMemory, RangeId};
 use rp_range::{after, split_at};
-use rp_request::{Command, Payload, Place, Record, Request, Why};
+use rp_request::{Command, Payload, Place, Record, Request, Verdict, Why};
 use rp_table::Table;
 use std::marker::Model;
 
@@ -25,8 +25,8 @@ pub struct Machine {
 
 impl Model for Machine {
     ghost use Rattle.std.specs.Coded.{codes};
-    ghost use Rattle.rp_request.specs.Table.{table_code};
-    ghost use Rattle.rp_apply.specs.History.{StateHeld};
+    ghost use Rattle.rp_base.specs.Tables.{table_code};
+    ghost use Rattle.rp_apply.specs.Rooms.{StateHeld};
 
     ghost Value = { StateHeld };
 
@@ -40,7 +40,7 @@ impl Model for Machine {
 
 impl Machine {
     /// What the check says of a command: its lease sequence is tested before its index.
-    #[tactic(auto, unfolding(crate::specs::Applied::command_verdict))]
+    #[tactic(auto, unfolding(rp_request::specs::Applied::command_verdict))]
     fn check_command(&self, command: &Command) -> Verdict
         ensures { result ≡ command_verdict self.now.state command.now }
     {
@@ -56,7 +56,7 @@ impl Machine {
     }
 
     /// What the check says of a payload.
-    #[tactic(auto, unfolding(crate::specs::Applied::asked))]
+    #[tactic(auto, unfolding(rp_request::specs::Applied::asked))]
     pub fn check(&self, payload: &Payload) -> Verdict
         ensures { result ≡ verdict self.now.state payload.now }
     {
@@ -148,7 +148,7 @@ impl Machine {
     }
 
     /// Takes a lease ask, or passes it. The record of it.
-    #[tactic(auto, unfolding(crate::specs::Applied::asked))]
+    #[tactic(auto, unfolding(rp_request::specs::Applied::asked))]
     fn ask(&mut self, ask: LeaseAsk) -> Record
         requires { self.old.state.lease.seq < 2 ^ 64 - 1 }
         ensures record_kept { result ≡ ask_record (asked self.old.state ask) }

@@ -13,7 +13,7 @@ pub struct Piece {
 
 impl Model for Piece {
     ghost use Rattle.std.specs.Prelude.{◌+◌};
-    ghost use Rattle.rp_apply.specs.History as histories;
+    ghost use Rattle.rp_request.specs.History as histories;
 
     ghost Value = { histories.Piece };
 

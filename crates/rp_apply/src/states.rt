@@ -1,13 +1,13 @@
 ghost use Rattle.std.specs.Prelude.{◌≡◌, ◌+◌, ◌-◌, ◌^◌, ◌<◌, ◌≤◌, length, IfOk, OnOk};
-ghost use Rattle.rp_apply.specs.Applied.{verdict};
-ghost use Rattle.rp_apply.specs.History.{started, applied, reset_to};
-ghost use Rattle.rp_apply.specs.Rooms.{IsWithin, needed, together, Fits};
+ghost use Rattle.rp_request.specs.Applied.{verdict};
+ghost use Rattle.rp_request.specs.History.{started, applied, reset_to};
+ghost use Rattle.rp_request.specs.Applicable.{Fits};
+ghost use Rattle.rp_apply.specs.Rooms.{IsWithin, needed, together};
 
 use crate::machines::Machine;
 use crate::pieces::Piece;
-use crate::verdicts::Verdict;
 use rp_base::{Desc, Lease, LeaseIndex, NoMemory};
-use rp_request::{Payload, Record};
+use rp_request::{Payload, Record, Verdict};
 use rp_table::Table;
 use std::alloc::Global;
 use std::marker::Model;
@@ -27,8 +27,8 @@ pub struct ApplyState {
 impl Model for ApplyState {
     ghost use Rattle.std.specs.Prelude.{◌≡◌, ◌+◌, ◌-◌, length, vec_len, vec_capacity};
     ghost use Rattle.std.specs.Coded.{codes};
-    ghost use Rattle.rp_request.specs.Table.{table_code};
-    ghost use Rattle.rp_apply.specs.History.{Held};
+    ghost use Rattle.rp_base.specs.Tables.{table_code};
+    ghost use Rattle.rp_apply.specs.Rooms.{Held};
 
     ghost Value = { Held };
 

@@ -66,12 +66,15 @@ no_further = refl
 not_inside : split_of (right_part first_desc 0x6d000000000000000000000000000000 refl) 0x6d000000000000000000000000000000 ≡ Err NotInside
 not_inside = refl
 
--- leases: to node 2, back to node 1, and an ask that comes late
+-- leases: to node 2, back to node 1, renewed by its holder, and an ask that comes late
 there : lease_after first_lease (record { holder = 2; prev = 1; expires = 40 }) ≡ Some (record { holder = 2; seq = 2; expires = 40 })
 there = refl
 
 back : lease_after (record { holder = 2; seq = 2; expires = 40 }) (record { holder = 1; prev = 2; expires = 56 }) ≡ Some (record { holder = 1; seq = 3; expires = 56 })
 back = refl
+
+renewed : lease_after (record { holder = 2; seq = 2; expires = 40 }) (record { holder = 2; prev = 2; expires = 0 }) ≡ Some (record { holder = 2; seq = 3; expires = 40 })
+renewed = refl
 
 late : lease_after (record { holder = 2; seq = 2; expires = 40 }) (record { holder = 1; prev = 1; expires = 56 }) ≡ None
 late = refl

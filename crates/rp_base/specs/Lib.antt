@@ -1,6 +1,13 @@
+pub mod ClientCounts
+pub mod Gives
+pub mod Ids
 pub mod Kept
 pub mod Keys
 pub mod Leases
+pub mod Limits
 pub mod Numbers
+pub mod ShortTexts
 pub mod Spans
 pub mod Splits
+pub mod Tables
+pub mod Values

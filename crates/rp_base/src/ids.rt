@@ -1,3 +1,4 @@
+//! Nodes, ranges and attempts, by their numbers.
 ghost use Rattle.std.specs.Prelude.{◌≡◌, ◌≤◌, ◌↔◌, IsSome, IfSome};
 
 use std::marker::Model;

@@ -1,3 +1,4 @@
+//! What waits in a proposal buffer.
 use crate::ids::CmdId;
 use crate::leases::LeaseAsk;
 use crate::lists::Grown;

@@ -1,4 +1,5 @@
-ghost use Rattle.std.specs.Prelude.{◌≡◌, ◌-◌, ◌^◌, ◌<◌, ◌≤◌, ◌==◌, ◌++◌, length, replicate, OnOk, OnErr};
+//! Keys: how they are read, kept and written.
+ghost use Rattle.std.specs.Prelude.{◌≡◌, ◌-◌, ◌^◌, ◌<◌, ◌≤◌, ◌==◌, ◌↔◌, ◌⊎◌, ◌++◌, length, replicate, IsNone, IfSome, OnOk, OnErr};
 ghost use Rattle.std.specs.List.{prefix_len, position_or_len};
 ghost use Rattle.rp_base.specs.Keys.{is_key_byte, key_of, key_text, IsKey, IsShown, bound_text};
 
@@ -74,6 +75,19 @@ impl Key {
             return Err(BadKey { place: good });
         }
         Ok(Key(u128::from_be_bytes(in_front(text))))
+    }
+
+    /// The key with this number, of a bound that is shown. None exactly for the least bound and the
+    /// greatest, which are no keys.
+    pub fn of_bound(bound: u128) -> Option<Key>
+        requires { IsShown bound }
+        ensures none { IsNone result ↔ ((bound ≡ 0) ⊎ (bound ≡ 2 ^ 128 - 1)) }
+        ensures value { IfSome result (λ key. key ≡ bound) }
+    {
+        if bound == 0 || bound == u128::MAX {
+            return None;
+        }
+        Some(Key(bound))
     }
 
     /// The key's number. It is neither the least bound nor the greatest.

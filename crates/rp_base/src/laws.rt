@@ -1,5 +1,5 @@
 //! Laws of the definitions, for the proofs above. No program calls these functions.
-ghost use Rattle.std.specs.Prelude.{◌≡◌, ◌≢◌, ℕ, ◌+◌, ◌^◌, ◌<◌, ◌≤◌, ◌↔◌, ◌⊎◌, IsTrue, List, length, Some, Ok, Err};
+ghost use Rattle.std.specs.Prelude.{◌≡◌, ◌≢◌, ℕ, ◌+◌, ◌^◌, ◌<◌, ◌≤◌, ◌↔◌, ◌⊎◌, IsTrue, true, List, length, Some, Ok, Err};
 ghost use Rattle.std.specs.List.{prefix_len};
 ghost use Rattle.std.specs.Fmt.{decimal};
 ghost use Rattle.std.specs.Ordering.{nat_cmp};
@@ -8,12 +8,20 @@ ghost use Rattle.rp_base.specs.Keys.{is_key_byte, key_of, key_text, IsKey, IsBad
 ghost use Rattle.rp_base.specs.Numbers.{number_of, u64_of};
 ghost use Rattle.rp_base.specs.Spans.{Holds, Overlaps, meets, LiesWithin, within, one_key};
 ghost use Rattle.rp_base.specs.Splits.{InBounds, split_of, ComesFrom};
-ghost use Rattle.rp_base.specs.Leases.{lease_after};
+ghost use Rattle.rp_base.specs.Leases.{lease_after, Follows};
+ghost use Rattle.rp_base.specs.Limits.{buffer_capacity, batch_most, first_term};
+ghost use Rattle.rp_base.specs.ShortTexts.{text_of, IsText, IsBadTextPlace};
+ghost use Rattle.rp_base.specs.Values.{IsValue, value_eq, value_text};
 ghost use Rattle.rp_base.specs.declared.keys.BadKey.{BadKey};
 ghost use Rattle.rp_base.specs.declared.spans.Span.{Span};
 ghost use Rattle.rp_base.specs.declared.ranges.Desc.{Desc};
 ghost use Rattle.rp_base.specs.declared.leases.Lease.{Lease};
 ghost use Rattle.rp_base.specs.declared.leases.LeaseAsk.{LeaseAsk};
+ghost use Rattle.rp_base.specs.declared.short_texts.BadText.{BadText};
+ghost use Rattle.rp_base.specs.declared.values.Value.{Value};
+ghost use Rattle.rp_base.specs.declared.values.Value.TheVariants.{Number, Text};
+
+use crate::limits::{BATCH_MOST, BUFFER_CAPACITY, FIRST_TERM};
 
 /// A key that is read is so spelled.
 #[tactic(auto, using(crate::proofs::KeyLaws::spelled_as_read))]
@@ -118,13 +126,63 @@ pub fn range_ids_differ()
 /// A lease's sequence never falls.
 #[tactic(auto, using(crate::proofs::LeaseLaws::lease_seq_rises))]
 pub fn lease_seq_never_falls()
-    ensures { (old : Lease) (ask : LeaseAsk) (new : Lease) → lease_after old ask ≡ Some new → old.seq ≤ new.seq }
+    ensures { (old : Lease) (ask : LeaseAsk) (new : Lease)
+        → lease_after old ask ≡ Some new → old.seq ≤ new.seq }
 {}
 
-/// Either holder and sequence stay and the expiry does not fall, or the holder is another and the
-/// sequence rises by one.
+/// Holder and sequence stay and the expiry does not fall, or the sequence rises by one.
 #[tactic(auto, using(crate::proofs::LeaseLaws::lease_follows))]
 pub fn lease_stays_or_moves()
-    ensures { (old : Lease) (ask : LeaseAsk) (new : Lease) → lease_after old ask ≡ Some new
-        → ((new.holder ≡ old.holder) × (new.seq ≡ old.seq) × (old.expires ≤ new.expires)) ⊎ ((new.holder ≢ old.holder) × (new.seq ≡ old.seq + 1)) }
+    ensures { (old : Lease) (ask : LeaseAsk) (new : Lease)
+        → lease_after old ask ≡ Some new → Follows old new }
+{}
+
+/// Of two leases that follow each other under one sequence the holder is the same.
+pub fn one_sequence_has_one_holder()
+    ensures { (old : Lease) (new : Lease)
+        → Follows old new → new.seq ≡ old.seq → new.holder ≡ old.holder }
+{}
+
+/// The constants are the numbers that definitions name.
+pub fn constants_as_named()
+    ensures buffer { BUFFER_CAPACITY ≡ buffer_capacity }
+    ensures batch { BATCH_MOST ≡ batch_most }
+    ensures term { FIRST_TERM ≡ first_term }
+{}
+
+/// What is read as a text is as it was, and is a text.
+pub fn text_read_as_it_was()
+    ensures { (bs : List ℕ) (text : List ℕ) → text_of bs ≡ Ok text → (text ≡ bs) × IsText text }
+{}
+
+/// Each text is read.
+#[tactic(auto, using(crate::proofs::TextLaws::read_as_it_is))]
+pub fn texts_are_read()
+    ensures { (bs : List ℕ) → IsText bs → text_of bs ≡ Ok bs }
+{}
+
+/// Bytes that are no text are refused at a place that keeps them from being one, and no lesser place
+/// does.
+pub fn text_refused_at_least_place()
+    ensures { (bs : List ℕ) (e : BadText) → text_of bs ≡ Err e
+        → IsBadTextPlace bs e.place × ((k : ℕ) → k < e.place → ¬ (IsBadTextPlace bs k)) }
+{}
+
+/// A number and a text are never spelled alike.
+#[tactic(auto, using(crate::proofs::ValueLaws::number_no_text))]
+pub fn numbers_shown_unlike_texts()
+    ensures { (n : ℕ) (text : List ℕ) → n < 2 ^ 64
+        → ¬ (value_text (Number n) ≡ value_text (Text text)) }
+{}
+
+/// The test of two values says whether they are the same.
+pub fn values_equal_where_same()
+    ensures { (v : Value) (w : Value) → (value_eq v w ≡ true) ↔ (v ≡ w) }
+{}
+
+/// Values that are spelled alike are the same.
+#[tactic(auto, using(crate::proofs::ValueLaws::one_value))]
+pub fn values_shown_apart()
+    ensures { (v : Value) (w : Value) → IsValue v → IsValue w
+        → value_text v ≡ value_text w → v ≡ w }
 {}

@@ -1,3 +1,4 @@
+//! Leases, and the numbers and ticks that they name.
 ghost use Rattle.std.specs.Prelude.{◌≡◌};
 
 use crate::ids::NodeId;

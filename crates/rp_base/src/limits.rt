@@ -1,3 +1,14 @@
+//! The limits of the program, and the numbers that several crates share.
+
+/// How many items a proposal buffer takes.
+pub const BUFFER_CAPACITY: usize = 16;
+
+/// How many writes a batch has at most.
+pub const BATCH_MOST: usize = 16;
+
+/// The first term of a range's log.
+pub const FIRST_TERM: u64 = 1;
+
 /// Which limit of the program a script or a report passes.
 #[derive(Clone, Copy, Debug, PartialEq, Eq, Hash)]
 pub enum Which {

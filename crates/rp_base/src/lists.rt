@@ -1,4 +1,5 @@
-ghost use Rattle.std.specs.Prelude.{◌≡◌, ◌+◌, ◌<◌, ◌≤◌, List, [], ◌∷◌, ◌++◌, length, take, drop, slice_get, IfOk, OnOk, OnErr};
+//! Lists that contracts see as lists.
+ghost use Rattle.std.specs.Prelude.{◌≡◌, ◌+◌, ◌-◌, ◌<◌, ◌≤◌, List, [], ◌∷◌, ◌++◌, length, take, drop, slice_get, IfOk, OnOk, OnErr, vec_len, vec_capacity};
 
 use crate::memory::NoMemory;
 use std::alloc::Global;
@@ -71,6 +72,27 @@ impl<T: Drop> Seq<T> {
         self.items.push(item)?;
         Ok(())
     }
+
+    /// Keeps the first n items. It takes no memory.
+    pub fn truncate(&mut self, n: usize)
+        ensures { self.new ≡ take n self.old }
+    {
+        self.items.truncate(n);
+    }
+
+    /// Puts a list at the end. Behind the empty list it takes no memory.
+    pub fn append(&mut self, more: Seq<T>) -> Result<(), NoMemory>
+        ensures ok { OnOk result (self.new ≡ self.old ++ more) }
+        ensures err { OnErr result (self.new ≡ self.old) }
+    {
+        if self.items.is_empty() {
+            *self = more;
+            return Ok(());
+        }
+        let mut more = more.into_vec();
+        self.items.append(&mut more)?;
+        Ok(())
+    }
 }
 
 impl<T: Copy> Seq<T> {
@@ -108,6 +130,23 @@ impl<T> Grown<T> {
         Grown {
             items: Vec::new(alloc),
         }
+    }
+
+    /// The items of a vector, with its spare room. It takes no memory.
+    pub fn from_vec(items: Vec<T>) -> Grown<T>
+        ensures list { result.list ≡ items.items }
+        ensures spare { result.spare ≡ vec_capacity items - vec_len items }
+    {
+        Grown { items }
+    }
+
+    /// The items as a vector, with their spare room. It takes no memory.
+    pub fn into_vec(self) -> Vec<T>
+        ensures list { result.items ≡ self.list }
+        ensures spare { vec_capacity result - vec_len result ≡ self.spare }
+    {
+        let Grown { items } = self;
+        items
     }
 
     /// Makes room for n items more.

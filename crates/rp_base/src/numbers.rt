@@ -1,3 +1,4 @@
+//! Decimal numbers of 64 bits, as they are read.
 ghost use Rattle.std.specs.Prelude.{◌≡◌, ◌<◌, ◌^◌, length};
 ghost use Rattle.std.specs.Option.{SomeIff};
 ghost use Rattle.rp_base.specs.Numbers.{number_of, digits_len, u64_of};

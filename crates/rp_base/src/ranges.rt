@@ -1,3 +1,4 @@
+//! What a range is, and why it is not split.
 ghost use Rattle.std.specs.Prelude.{◌≡◌, ◌≤◌, ◌<◌, ◌+◌, ◌^◌};
 
 use crate::ids::RangeId;

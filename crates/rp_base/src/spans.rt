@@ -1,3 +1,4 @@
+//! Spans of the key space.
 ghost use Rattle.std.specs.Prelude.{◌<◌};
 ghost use Rattle.rp_base.specs.Keys.{end_of};
 
@@ -84,10 +85,11 @@ impl Span {
 
 impl KeySpan {
     ghost use Rattle.std.specs.Prelude.{◌≡◌, ◌≤◌, ◌↔◌, IsNone, IfSome, IsSomeAnd};
-    ghost use Rattle.rp_base.specs.Spans.{span_of};
+    ghost use Rattle.rp_base.specs.Spans.{key_span_of, span_of};
 
     /// None exactly where the end is a key at or below the start.
     pub fn new(start: Key, end: Option<Key>) -> Option<KeySpan>
+        ensures span { result ≡ key_span_of start end }
         ensures none { IsNone result ↔ IsSomeAnd end (λ e. e ≤ start) }
         ensures start { IfSome result (λ s. s.start ≡ start) }
         ensures end { IfSome result (λ s. s.end ≡ end) }

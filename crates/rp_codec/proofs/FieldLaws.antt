@@ -10,7 +10,7 @@ use Rattle.rp_base.specs.declared.BadKey.{BadKey}
 use Rattle.rp_base.specs.declared.KeySpan.{KeySpan}
 use Rattle.rp_base.proofs.KeyLaws.{spelled_as_read, read_as_spelled, key_text_len}
 use Rattle.rp_codec.specs.Cursors.{Left, past}
-use Rattle.rp_codec.specs.Fits.{AreBytes, FitsValue, FitsOption, FitsEnd, FitsSpan}
+use Rattle.rp_request.specs.Fits.{AreBytes, FitsValue, FitsOption, FitsEnd, FitsSpan}
 use Rattle.rp_codec.specs.Reading.{bad, ◌>>=◌, given, refused, bytes_at, first_of, byte_at, byte_parts, byte_in, number_at, value_at, as_key, key_parts, key_at, option_parts, option_at, begins_with, end_where, end_at, span_of, span_parts, span_at}
 use Rattle.rp_codec.specs.Spelling.{value_bytes, key_bytes, option_bytes, end_bytes, span_bytes}
 use Rattle.rp_codec.proofs.Readers.{AreBytes-drop, AreBytes-take, AreBytes-rest, from_place, Again, again_given, again_then, again_last, again_one_field, Taken, Takes, takes_so, takes_given, takes_refused, takes_then, takes_last, takes_one_field, takes_if, found, found_is}

@@ -17,7 +17,7 @@ use Rattle.rp_request.specs.declared.Reply.{Reply}
 use Rattle.rp_request.specs.declared.Reply.TheVariants as replies
 use Rattle.rp_request.specs.declared.Request.{Request}
 use Rattle.rp_request.specs.declared.Request.TheVariants as requests
-use Rattle.rp_codec.specs.Fits.{FitsValue, FitsOption, FitsRequest, FitsReply, FitsOp, FitsBatch, FitsId, FitsCommand, FitsAsk, FitsPayload}
+use Rattle.rp_request.specs.Fits.{FitsValue, FitsOption, FitsRequest, FitsReply, FitsOp, FitsBatch, FitsId, FitsCommand, FitsAsk, FitsPayload}
 use Rattle.rp_codec.specs.Reading.{Reader, ◌>>=◌, given, byte_in, number_at, value_at, key_at, option_at, span_at, put_at, add_at, cput_at, del_at, wipe_at, move_at, split_at, request_of, request_at, old_at, now_at, count_at, range_at, reply_of, reply_at, set_at, remove_at, op_at, ops_at, batch_at, id_at, command_at, ask_at, payload_of, payload_at}
 use Rattle.rp_codec.specs.Spelling.{value_bytes, key_bytes, option_bytes, span_bytes, request_bytes, reply_bytes, op_bytes, batch_bytes, id_bytes, command_bytes, ask_bytes, spelling}
 use Rattle.rp_codec.proofs.Readers.{Again, again_given, again_then, again_last, Takes, takes_so, takes_given, Then, takes_then, Made, takes_last, takes_if}

@@ -3,7 +3,7 @@ use Rattle.std.proofs.Common.{◌≡◌, ℕ, suc, ◌+◌, Bool, true, false, L
 use Rattle.std.proofs.lemmas.Bool.{cases_lt}
 use Rattle.std.proofs.lemmas.List.{length-append, length-take, get_or-drop, get_or-take, get_or_past}
 use Rattle.rp_codec.specs.Cursors.{Left}
-use Rattle.rp_codec.specs.Fits.{AreBytes}
+use Rattle.rp_request.specs.Fits.{AreBytes}
 use Rattle.rp_codec.specs.declared.faults.BadField.{BadField}
 use Rattle.rp_codec.specs.Reading.{Reader, going_on, ◌>>=◌, given, refused, begun_at, as_one_field}
 

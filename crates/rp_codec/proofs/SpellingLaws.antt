@@ -6,7 +6,7 @@ use Rattle.std.proofs.lemmas.Bool.Decides.{nat_tests}
 use Rattle.std.proofs.lemmas.List.{append-nil, nil_from_length}
 use Rattle.rp_request.specs.declared.Payload.{Payload}
 use Rattle.rp_codec.specs.Cursors.{Left, whole}
-use Rattle.rp_codec.specs.Fits.{AreBytes, FitsPayload}
+use Rattle.rp_request.specs.Fits.{AreBytes, FitsPayload}
 use Rattle.rp_codec.specs.Reading.{bad, ended, payload_at, payload_in, Gives}
 use Rattle.rp_codec.specs.Spelling.{spelling}
 use Rattle.rp_codec.specs.declared.faults.BadField.{BadField}

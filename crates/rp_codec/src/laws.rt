@@ -1,7 +1,7 @@
 //! Laws of the definitions, for the proofs above. No program calls these functions.
 ghost use Rattle.std.specs.Prelude.{◌≡◌, ℕ, List, [], ◌∷◌, ◌++◌, length, take, Ok};
 ghost use Rattle.rp_request.specs.declared.Payload.{Payload};
-ghost use Rattle.rp_codec.specs.Fits.{AreBytes, FitsPayload};
+ghost use Rattle.rp_request.specs.Fits.{AreBytes, FitsPayload};
 ghost use Rattle.rp_codec.specs.Reading.{bad, payload_in};
 ghost use Rattle.rp_codec.specs.Spelling.{spelling};
 ghost use Rattle.rp_codec.specs.Worked.{put_of_a, put_bytes};

@@ -1,6 +1,6 @@
 ghost use Rattle.std.specs.Prelude.{◌≡◌, ◌≤◌, IfOk, Ok};
 ghost use Rattle.rp_request.specs.declared.Payload.{Payload};
-ghost use Rattle.rp_codec.specs.Fits.{FitsPayload};
+ghost use Rattle.rp_request.specs.Fits.{FitsPayload};
 ghost use Rattle.rp_codec.specs.Reading.{Decodes, Gives, ops_at, batch_at, command_at, payload_of, payload_at, payload_in};
 ghost use Rattle.rp_codec.specs.Spelling.{spelling};
 

@@ -2,7 +2,7 @@ ghost use Rattle.std.specs.Prelude.{◌≡◌, ◌<◌, ◌^◌, ◌≤◌, ◌�
 ghost use Rattle.std.specs.List.{flat_map, AllByRecursion};
 ghost use Rattle.std.specs.Int.{w64, to_be_bytes};
 ghost use Rattle.rp_base.specs.Keys.{IsKey};
-ghost use Rattle.rp_codec.specs.Fits.{FitsValue, FitsOption, FitsEnd, FitsSpan, FitsRequest, FitsReply, FitsOp, FitsBatch, FitsId, FitsCommand, FitsAsk, FitsPayload};
+ghost use Rattle.rp_request.specs.Fits.{FitsValue, FitsOption, FitsEnd, FitsSpan, FitsRequest, FitsReply, FitsOp, FitsBatch, FitsId, FitsCommand, FitsAsk, FitsPayload};
 ghost use Rattle.rp_codec.specs.Reading.{payload_in};
 ghost use Rattle.rp_codec.specs.Spelling.{value_bytes, key_bytes, option_bytes, end_bytes, span_bytes, request_bytes, reply_bytes, op_bytes, batch_bytes, id_bytes, command_bytes, ask_bytes, spelling};
 

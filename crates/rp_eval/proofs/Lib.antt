@@ -1,4 +1,1 @@
 pub mod Does
-pub mod ReadParts
-pub mod Inside
-pub mod Few

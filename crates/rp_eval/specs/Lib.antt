@@ -1,3 +1,1 @@
-pub mod Batches
-pub mod Evaluations
-pub mod Bounds
+pub mod Faults

@@ -1,6 +1,7 @@
+//! Whether a range takes a request.
 ghost use Rattle.std.specs.Prelude.{◌≡◌};
+ghost use Rattle.rp_base.specs.Spans.{all_within};
 ghost use Rattle.rp_request.specs.Covers.{in_bounds};
-ghost use Rattle.rp_eval.specs.Bounds.{all_within};
 
 use rp_base::{Desc, Spans};
 use rp_request::Request;

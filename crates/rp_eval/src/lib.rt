@@ -4,7 +4,7 @@
 
 mod bounds;
 mod evaluations;
-pub mod laws;
 
 pub use bounds::in_bounds;
-pub use evaluations::{EvalFault, Evaluated, evaluate};
+pub use evaluations::{EvalFault, evaluate};
+pub use rp_request::Evaluated;

@@ -8,4 +8,4 @@ mod tests;
 mod waits;
 
 pub use assigns::{Assigned, assign};
-pub use waits::WaitList;
+pub use rp_request::WaitList;

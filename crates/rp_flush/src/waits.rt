@@ -1,16 +1,13 @@
 ghost use Rattle.std.specs.Prelude.{◌≡◌, IfOk};
 ghost use Rattle.std.specs.BTreeMap.{get};
+ghost use Rattle.rp_base.specs.Ids.{cmd_cmp};
 ghost use Rattle.rp_base.specs.declared.ids.CmdId.{CmdId};
 ghost use Rattle.rp_flush.specs.Assigns.{seq_of};
-ghost use Rattle.rp_flush.specs.Steps.{cmd_cmp};
 
-use rp_base::{CmdId, LeaseSeq, NoMemory, Seq};
+use rp_base::{CmdId, LeaseSeq, NoMemory};
 use rp_request::Waiting;
 use std::alloc::Global;
 use std::collections::BTreeMap;
-
-/// The commands that wait for a lease index, each with the lease sequence under which it was evaluated.
-pub type WaitList = Seq<Waiting>;
 
 /// The sequence of each command that waits; the first counts where an id stands twice.
 pub(crate) fn seqs_by_id(

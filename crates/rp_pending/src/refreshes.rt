@@ -9,8 +9,7 @@ ghost use Rattle.rp_pending.specs.Dues.{again_due, back_due, due, id_of};
 use crate::proposals::{Proposal, Stage};
 use crate::slots::Slots;
 use rp_base::{CmdId, LeaseIndex, NoMemory, Seq, Tick};
-use rp_flush::WaitList;
-use rp_request::Waiting;
+use rp_request::{WaitList, Waiting};
 use std::alloc::{AllocError, Global};
 
 /// Attempts in an order that the function says.

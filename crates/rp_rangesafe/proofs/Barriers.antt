@@ -1,18 +1,20 @@
 -- A node's barrier: what it admits after a restart is under a later lease sequence.
-use Rattle.std.proofs.Common.{◌≡◌, ℕ, suc, ◌<◌, ◌≤◌, ◌⊎◌, inl, inr, List, [], ◌∷◌, refl, sym, ap, subst, arith}
+use Rattle.std.proofs.Common.{◌≡◌, ℕ, suc, ◌<◌, ◌≤◌, true, ◌⊎◌, inl, inr, List, [], ◌∷◌, length, refl, sym, ap, subst, ◌∙◌, arith}
 use Rattle.rp_base.specs.declared.ids.CmdId.{CmdId}
 use Rattle.rp_request.specs.declared.commands.Payload.{Payload}
-use Rattle.rp_apply.specs.Applied.{AppliedState}
+use Rattle.rp_request.specs.Applied.{AppliedState}
 use Rattle.rp_rangesafe.specs.Attempts.{Stage, Unborn, Waiting, Proposed, Success, Refused, Overtaken, Removed, Restarted, Attempt, IsBorn}
 use Rattle.rp_rangesafe.specs.Along.{entry, state}
 use Rattle.rp_rangesafe.specs.World.{World, here, begin, Event, Admit, Flush, Return, Refuse, Commit, Apply, Snapshot, Remove, Restart, Lawful, AllLawful, admitted, happens, run, with_node}
 use Rattle.rp_rangesafe.specs.Places.{IsReached, IsLater}
-use Rattle.rp_rangesafe.proofs.Tables.{at_with_node, at_attempt}
-use Rattle.rp_rangesafe.proofs.Numbers.{onward}
+use Rattle.rp_rangesafe.proofs.Tables.{node_same, at_with_node, at_attempt}
+use Rattle.rp_rangesafe.proofs.Numbers.{onward, one_holder}
+use Rattle.rp_rangesafe.proofs.One.{Good}
+use Rattle.rp_rangesafe.proofs.Moves.{seq_behind}
 use Rattle.rp_rangesafe.proofs.Worlds.{Extends, extends_itself, state_so_far, Sound, sound_begin}
 use Rattle.rp_rangesafe.proofs.Sounds.{extends_before, sound_step}
 use Rattle.rp_rangesafe.proofs.Growth.{Same, grown_run, Admits, made_before}
-use Rattle.rp_rangesafe.proofs.Runs.{run_extends, sound_reached, later_extends}
+use Rattle.rp_rangesafe.proofs.Runs.{run_extends, sound_reached, later_extends, later_reached, later_further, later_grown}
 
 -- no barrier is above the lease sequence where the node stands
 pub record Barred (f : ℕ → Payload) (w : World) : Type 0 where
@@ -130,3 +132,67 @@ past_barrier w r later l id new born =
     subst (λ (v : World). w.barrier (v.attempt id).node < (v.attempt id).seq) l.reached
     (past_run (entry later.log) w l.events l.lawful (subst (λ (v : World). Extends (entry later.log) v.log) (sym l.reached) (extends_itself later.log))
     (sound_reached (entry later.log) w r x) (barred_reached (entry later.log) w r x) id new born')
+
+-- attempts under one sequence are admitted at one node
+pub one_node : (w : World) → IsReached w → (x y : CmdId) → IsBorn (w.attempt x).stage → IsBorn (w.attempt y).stage
+    → (w.attempt x).seq ≡ (w.attempt y).seq → (w.attempt x).node ≡ (w.attempt y).node
+one_node w r x y bx by e =
+    let s = sound_reached (entry w.log) w r (extends_itself w.log) in
+    let gx = s.good x in
+    let gy = s.good y in
+    sym (gx.holder bx)
+    ∙ one_holder w.start (entry w.log) (w.attempt x).from (w.attempt y).from (gx.seq bx ∙ e ∙ sym (gy.seq by))
+    ∙ gy.holder by
+
+-- a node restarts, and admits an attempt later
+module _ (w : World) (r : IsReached w) (node : ℕ) (live : w.alive node ≡ true) (later : World)
+    (l : IsLater (happens w (Restart node)) later) where
+  abbrev restart : World
+  restart = happens w (Restart node)
+
+  to_restart : IsLater w restart
+  to_restart = record { events = Restart node ∷ []; lawful = (live, tt); reached = refl }
+
+  restart_reached : IsReached restart
+  restart_reached = later_reached w restart r to_restart
+
+  all_reached : IsReached later
+  all_reached = later_reached restart later restart_reached l
+
+  still_unborn : (y : CmdId) → (w.attempt y).stage ≡ Unborn → (restart.attempt y).stage ≡ Unborn
+  still_unborn y new = go (unborn_or restart y) where
+    back : IsBorn (w.attempt y).stage ⊎ Admits (Restart node) y → (restart.attempt y).stage ≡ Unborn
+    back (inl b) = absurd (subst IsBorn new b)
+    back (inr a) = absurd a
+
+    go : ((restart.attempt y).stage ≡ Unborn) ⊎ IsBorn (restart.attempt y).stage → (restart.attempt y).stage ≡ Unborn
+    go (inl e) = e
+    go (inr b) = back (made_before w (Restart node) live y b)
+
+  -- what was admitted before the restart is not under the sequence of what this node admits after it
+  pub restart_parts : (x y : CmdId) → IsBorn (w.attempt x).stage → (w.attempt y).stage ≡ Unborn → IsBorn (later.attempt y).stage
+      → (later.attempt y).node ≡ node → (w.attempt x).seq ≡ (later.attempt y).seq → ⊥
+  restart_parts x y bx new by at same = omega (arith, below, above, same) where
+    grown : Same (w.attempt x) (later.attempt x)
+    grown = (later_grown w later (later_further w restart later to_restart l) x).same bx
+
+    here_x : (w.attempt x).node ≡ node
+    here_x = grown.node ∙ one_node later all_reached x y grown.born by (sym grown.seq ∙ same) ∙ at
+
+    good : Good w.start (entry w.log) (length w.log) (w.index (w.attempt x).node) (w.alive (w.attempt x).node)
+        (w.barrier (w.attempt x).node) x (w.attempt x)
+    good = (sound_reached (entry w.log) w r (extends_itself w.log)).good x
+
+    below : (w.attempt x).seq ≤ (here w node).lease.seq
+    below = subst (λ m. (w.attempt x).seq ≤ (here w m).lease.seq) here_x (seq_behind good bx)
+
+    above : (here w node).lease.seq < (later.attempt y).seq
+    above =
+        let passed = past_barrier restart restart_reached later l y (still_unborn y new) by in
+        let set = node_same w.barrier node (here w node).lease.seq in
+        let e : restart.barrier (later.attempt y).node ≡ restart.barrier node = ap restart.barrier at in
+        omega (arith, passed, set, e)
+
+-- no barrier is above its node's present sequence
+pub barrier_reached : (w : World) → IsReached w → (node : ℕ) → w.barrier node ≤ (here w node).lease.seq
+barrier_reached w r node = (barred_reached (entry w.log) w r (extends_itself w.log)).below node

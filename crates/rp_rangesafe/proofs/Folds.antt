@@ -13,19 +13,19 @@ use Rattle.rp_request.specs.declared.commands.Command.{Command}
 use Rattle.rp_request.specs.declared.outcomes.Refusal.{Refusal}
 use Rattle.rp_request.specs.declared.requests.Request.{Request}
 use Rattle.rp_request.specs.declared.requests.Request.TheVariants.{Put, Add, CPut, Del, Wipe, Move, Split}
-use Rattle.rp_request.specs.Table.{Table}
+use Rattle.rp_base.specs.Tables.{Table}
 use Rattle.rp_request.specs.Effect.{Effect, effect, split}
 use Rattle.rp_request.specs.Items.{State, left_by, after_request, after_item, fold}
 use Rattle.rp_request.specs.Records.{item_of, applied}
 use Rattle.rp_request.proofs.Locality.{keeps_desc}
 use Rattle.rp_request.proofs.Folds.{fold_further}
-use Rattle.rp_eval.specs.Evaluations.{Does}
-use Rattle.rp_eval.proofs.Does.{evaluated_does}
-use Rattle.rp_apply.specs.Applied.{AppliedState, command_verdict, asked, written, leased, taken, after, desc_after, left_of, item_by, command_record, ask_record, record_of, after_all, records_of}
-use Rattle.rp_apply.specs.declared.verdicts.Verdict.{Verdict}
-use Rattle.rp_apply.specs.declared.verdicts.Verdict.TheVariants.{Took, OldLease, OldIndex, LeaseMoved}
-use Rattle.rp_apply.specs.declared.verdicts.Verdict.TheVariants as verdicts
-use Rattle.rp_apply.proofs.Numbers.{after_further, records_further}
+use Rattle.rp_request.specs.Evaluations.{Does}
+use Rattle.rp_request.proofs.Does.{evaluated_does}
+use Rattle.rp_request.specs.Applied.{AppliedState, command_verdict, asked, written, leased, taken, after, desc_after, left_of, item_by, command_record, ask_record, record_of, after_all, records_of}
+use Rattle.rp_request.specs.declared.verdicts.Verdict.{Verdict}
+use Rattle.rp_request.specs.declared.verdicts.Verdict.TheVariants.{Took, OldLease, OldIndex, LeaseMoved}
+use Rattle.rp_request.specs.declared.verdicts.Verdict.TheVariants as verdicts
+use Rattle.rp_request.proofs.Numbers.{after_further, records_further}
 use Rattle.rp_rangesafe.specs.Along.{entry, state, Takes}
 use Rattle.rp_rangesafe.specs.World.{World, state_at, IsEvaluated}
 use Rattle.rp_rangesafe.specs.Places.{shown, items_to, body_of}

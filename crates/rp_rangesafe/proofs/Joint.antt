@@ -7,7 +7,7 @@ use Rattle.rp_request.specs.declared.items.Place.{Place}
 use Rattle.rp_request.specs.declared.items.Record.TheVariants as kept
 use Rattle.rp_request.specs.declared.outcomes.Reply.{Reply}
 use Rattle.rp_request.specs.Records.{applied}
-use Rattle.rp_apply.specs.Applied.{AppliedState, command_record, record_of, after, records_of, item}
+use Rattle.rp_request.specs.Applied.{AppliedState, command_record, record_of, after, records_of, item}
 use Rattle.rp_rangesafe.specs.Attempts.{IsBorn, Success, Refused}
 use Rattle.rp_rangesafe.specs.Along.{entry, state}
 use Rattle.rp_rangesafe.specs.World.{World, state_at}

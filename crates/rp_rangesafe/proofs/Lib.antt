@@ -15,7 +15,9 @@ pub mod Listed
 pub mod Whole
 pub mod Once
 pub mod Barriers
+pub mod Leases
 pub mod Rights
 pub mod Splits
 pub mod Joint
 pub mod Worked
+pub mod WorkedRestart

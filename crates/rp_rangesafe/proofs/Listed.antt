@@ -11,10 +11,10 @@ use Rattle.rp_request.specs.declared.requests.Request.{Request}
 use Rattle.rp_request.specs.declared.requests.Request.TheVariants.{Put, Add, CPut, Del, Wipe, Move, Split}
 use Rattle.rp_request.specs.Places.{is_of, names}
 use Rattle.rp_request.specs.Records.{applied}
-use Rattle.rp_apply.specs.Applied.{AppliedState, command_verdict, asked, item, item_by, command_record, ask_record, record_of}
-use Rattle.rp_apply.specs.declared.verdicts.Verdict.{Verdict}
-use Rattle.rp_apply.specs.declared.verdicts.Verdict.TheVariants.{Took, OldLease, OldIndex, LeaseMoved}
-use Rattle.rp_apply.specs.declared.verdicts.Verdict.TheVariants as verdicts
+use Rattle.rp_request.specs.Applied.{AppliedState, command_verdict, asked, item, item_by, command_record, ask_record, record_of}
+use Rattle.rp_request.specs.declared.verdicts.Verdict.{Verdict}
+use Rattle.rp_request.specs.declared.verdicts.Verdict.TheVariants.{Took, OldLease, OldIndex, LeaseMoved}
+use Rattle.rp_request.specs.declared.verdicts.Verdict.TheVariants as verdicts
 use Rattle.rp_rangesafe.specs.Along.{entry, Takes}
 use Rattle.rp_rangesafe.specs.World.{World, state_at}
 use Rattle.rp_rangesafe.specs.Places.{items_to}

@@ -5,7 +5,7 @@ use Rattle.rp_base.specs.declared.ids.CmdId.{CmdId}
 use Rattle.rp_request.specs.declared.commands.Payload.{Payload}
 use Rattle.rp_request.specs.declared.commands.Command.{Command}
 use Rattle.rp_request.specs.declared.outcomes.Reply.{Reply}
-use Rattle.rp_apply.specs.Applied.{AppliedState, IsBlocked}
+use Rattle.rp_request.specs.Applied.{AppliedState, IsBlocked}
 use Rattle.rp_rangesafe.specs.Attempts.{Stage, Unborn, Waiting, Proposed, Success, Refused, Overtaken, Removed, Restarted, Attempt, IsBorn, IsOpen, IsUntaken, staged}
 use Rattle.rp_rangesafe.specs.Along.{state}
 use Rattle.rp_rangesafe.proofs.Numbers.{onward, blocked_later}

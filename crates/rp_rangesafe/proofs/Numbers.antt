@@ -3,7 +3,7 @@ use Rattle.std.proofs.Common.{◌≡◌, ℕ, zero, suc, ◌<◌, ◌≤◌, ◌
 use Rattle.std.proofs.lemmas.Bool.{cases_order, cases_lt}
 use Rattle.rp_request.specs.declared.commands.Payload.{Payload}
 use Rattle.rp_request.specs.declared.commands.Command.{Command}
-use Rattle.rp_apply.specs.Applied.{AppliedState, after, IsBlocked}
+use Rattle.rp_request.specs.Applied.{AppliedState, after, IsBlocked}
 use Rattle.rp_rangesafe.specs.Along.{state, Takes}
 use Rattle.rp_rangesafe.specs.Places.{IsFurther}
 use Rattle.rp_rangesafe.proofs.Steps.{further_same, further_trans, further_one, IsTimely, timely, taken_lai, blocked_further, blocked_untaken}

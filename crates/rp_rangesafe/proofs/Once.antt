@@ -2,6 +2,7 @@
 use Rattle.std.proofs.Common.{◌≡◌, ℕ, ◌<◌, eqb, IsTrue, ◌⊎◌, inl, inr, length, refl, sym, ap, subst, ◌∙◌, arith, eqb-true}
 use Rattle.std.proofs.lemmas.Bool.{cases_order, and_parts}
 use Rattle.rp_base.specs.declared.ids.CmdId.{CmdId}
+use Rattle.rp_base.proofs.IdLaws.{id_by_parts}
 use Rattle.rp_request.specs.declared.commands.Command.{Command}
 use Rattle.rp_request.specs.Places.{is_of, IsOnce, IsOnceInAll}
 use Rattle.rp_request.proofs.Once.{once_by_index}
@@ -10,7 +11,6 @@ use Rattle.rp_rangesafe.specs.Along.{entry}
 use Rattle.rp_rangesafe.specs.World.{World}
 use Rattle.rp_rangesafe.specs.Places.{IsReached, IsPlace, items_to}
 use Rattle.rp_rangesafe.specs.Ranges.{At, Ranges, IsMade, IsRefusedAt, IsRefused, AreReached, lists}
-use Rattle.rp_rangesafe.proofs.Tables.{id_by}
 use Rattle.rp_rangesafe.proofs.One.{born_with}
 use Rattle.rp_rangesafe.proofs.Worlds.{extends_itself}
 use Rattle.rp_rangesafe.proofs.Runs.{sound_reached, later_itself}
@@ -53,7 +53,7 @@ once_over w reach q r j k x y c d same_client same_seq t u = go (cases_order x.a
   range_of e = cc
 
   go : (x.attempt ≡ y.attempt) ⊎ ((x.attempt < y.attempt) ⊎ (y.attempt < x.attempt)) → (q ≡ r) × (j ≡ k)
-  go (inl e) = let same : x ≡ y = id_by x y same_client same_seq e in here same (range_of (sym at_x ∙ ap w.owner same ∙ at_y))
+  go (inl e) = let same : x ≡ y = id_by_parts x y same_client same_seq e in here same (range_of (sym at_x ∙ ap w.owner same ∙ at_y))
   go (inr (inl l)) = absurd (unrefused x q j c at_x t (h.turns x y same_client same_seq (h.counted x (made x q at_x)) l (made y r at_y)))
   go (inr (inr l)) = absurd (unrefused y r k d at_y u (h.turns y x (sym same_client) (sym same_seq) (h.counted y (made y r at_y)) l (made x q at_x)))
 

@@ -5,8 +5,8 @@ use Rattle.rp_base.specs.declared.ids.CmdId.{CmdId}
 use Rattle.rp_request.specs.declared.commands.Command.{Command}
 use Rattle.rp_request.specs.declared.outcomes.Reply.{Reply}
 use Rattle.rp_request.specs.Items as items
-use Rattle.rp_eval.specs.Evaluations.{Does}
-use Rattle.rp_apply.specs.Applied.{IsBlocked}
+use Rattle.rp_request.specs.Evaluations.{Does}
+use Rattle.rp_request.specs.Applied.{IsBlocked}
 use Rattle.rp_rangesafe.specs.Attempts.{Stage, Unborn, Success, Refused, Overtaken, Restarted, Attempt, IsEnded, IsOpen, IsUntaken, IsAmong}
 use Rattle.rp_rangesafe.specs.Along.{entry, state, Takes}
 use Rattle.rp_rangesafe.specs.World.{World, state_at, here}

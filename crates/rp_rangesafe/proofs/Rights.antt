@@ -1,7 +1,7 @@
 -- Right ranges start from the one split that opens them.
 use Rattle.std.proofs.Common.{◌≡◌, ℕ, zero, suc, ◌+◌, ◌^◌, ◌<◌, ◌≤◌, Bool, true, false, cond, ◌⊎◌, inl, inr, List, [], ◌∷◌, ◌++◌, length, Option, Some, None, Result, Ok, Err, refl, sym, ap, subst, ◌∙◌, arith}
 use Rattle.std.proofs.Math.Seq.{get_or-append_seam}
-use Rattle.std.proofs.lemmas.List.{length-append}
+use Rattle.std.proofs.lemmas.List.{length-append, append-nil, append_assoc}
 use Rattle.std.proofs.lemmas.Bool.{cases_lt}
 use Rattle.std.proofs.lemmas.Bool.Decides.{nat_tests}
 use Rattle.rp_base.specs.Splits.{split_of}
@@ -15,13 +15,13 @@ use Rattle.rp_request.specs.declared.requests.Request.{Request}
 use Rattle.rp_request.specs.declared.requests.Request.TheVariants.{Put, Add, CPut, Del, Wipe, Move, Split}
 use Rattle.rp_request.specs.declared.items.Place.{Place}
 use Rattle.rp_request.specs.declared.items.Place.TheVariants as places
-use Rattle.rp_request.specs.Table.{from_on}
+use Rattle.rp_base.specs.Tables.{from_on}
 use Rattle.rp_request.specs.Records.{applied}
 use Rattle.rp_request.specs.Starts.{left_range, IsRightStart, SplitsOff, IsStart, first, split_off}
-use Rattle.rp_apply.specs.Applied.{AppliedState, command_verdict, record_of, item_by, command_record, right_number}
-use Rattle.rp_apply.specs.declared.verdicts.Verdict.{Verdict}
-use Rattle.rp_apply.specs.declared.verdicts.Verdict.TheVariants.{Took, OldLease, OldIndex, LeaseMoved}
-use Rattle.rp_apply.specs.declared.verdicts.Verdict.TheVariants as verdicts
+use Rattle.rp_request.specs.Applied.{AppliedState, command_verdict, record_of, item_by, command_record, right_number}
+use Rattle.rp_request.specs.declared.verdicts.Verdict.{Verdict}
+use Rattle.rp_request.specs.declared.verdicts.Verdict.TheVariants.{Took, OldLease, OldIndex, LeaseMoved}
+use Rattle.rp_request.specs.declared.verdicts.Verdict.TheVariants as verdicts
 use Rattle.rp_rangesafe.specs.Along.{entry}
 use Rattle.rp_rangesafe.specs.World.{World, begin, state_at, Admit, Flush, Return, Refuse, Commit, Apply, Snapshot, Remove, Restart, happens, with_node}
 use Rattle.rp_rangesafe.specs.Places.{shown, items_to}
@@ -209,28 +209,14 @@ left_is (suc (suc (suc n))) id q l h e = absurd (omega arith)
 
 -- the items up to an index begin those up to a later one
 pub begin_with : (w : World) (i j : ℕ) → i ≤ j → j ≤ length w.log → (rest : List Place) × (items_to w j ≡ items_to w i ++ rest)
-begin_with w i zero l h = ([], ap (items_to w) same ∙ sym (nothing (items_to w i))) where
-  same : 0 ≡ i
-  same = omega arith
-
-  nothing : (xs : List Place) → xs ++ [] ≡ xs
-  nothing [] = refl
-  nothing (x ∷ xs) = ap (λ ys. x ∷ ys) (nothing xs)
+begin_with w i zero l h = let same : 0 ≡ i = omega arith in ([], ap (items_to w) same ∙ sym (append-nil (items_to w i)))
 begin_with w i (suc j) l h = go (cases_lt i (suc j)) (λ k. begin_with w i j k (omega arith)) where
-  nothing : (xs : List Place) → xs ++ [] ≡ xs
-  nothing [] = refl
-  nothing (x ∷ xs) = ap (λ ys. x ∷ ys) (nothing xs)
-
-  joined : (xs ys zs : List Place) → (xs ++ ys) ++ zs ≡ xs ++ (ys ++ zs)
-  joined [] ys zs = refl
-  joined (x ∷ xs) ys zs = ap (λ us. x ∷ us) (joined xs ys zs)
-
   go : (i < suc j) ⊎ (suc j ≤ i) → (i ≤ j → (rest : List Place) × (items_to w j ≡ items_to w i ++ rest)) → (rest : List Place) × (items_to w (suc j) ≡ items_to w i ++ rest)
   go (inl lt) ih =
       let k = ih (omega arith) in
       let last : List Place = applied (record_of (state_at w j) (entry w.log j) ∷ []) in
-      (k.0 ++ last, one_more w.start w.log j (omega arith) ∙ ap (λ xs. xs ++ last) k.1 ∙ joined (items_to w i) k.0 last)
-  go (inr ge) ih = let same : suc j ≡ i = omega arith in ([], ap (items_to w) same ∙ sym (nothing (items_to w i)))
+      (k.0 ++ last, one_more w.start w.log j (omega arith) ∙ ap (λ xs. xs ++ last) k.1 ∙ append_assoc (items_to w i) k.0 last)
+  go (inr ge) ih = let same : suc j ≡ i = omega arith in ([], ap (items_to w) same ∙ sym (append-nil (items_to w i)))
 
 -- the item of a split
 split_item : (d : Desc) (c : Command) (r : Request) (key : ℕ) → r ≡ Split key → item_by d c r ≡ places.Split c.id key (right_number d) c.seq
@@ -293,10 +279,6 @@ module _ (w : Ranges) (reach : AreReached w) (q : ℕ) (there : w.opened q ≡ t
     numbered : right_number split_state.desc ≡ q
     numbered = ap (λ n. n + 2 ^ split_state.desc.level) left_number ∙ sym number
 
-    joined : (xs ys : List Place) (y : Place) → (xs ++ y ∷ []) ++ ys ≡ xs ++ y ∷ ys
-    joined [] ys y = refl
-    joined (z ∷ xs) ys y = ap (λ us. z ∷ us) (joined xs ys y)
-
     items : lists w x.left ≡ items_to left x.index ++ places.Split opening.command.id opening.key q opening.command.seq
         ∷ (begin_with left (suc x.index) (length left.log) (let b = x.below in omega arith) (omega arith)).0
     items =
@@ -306,7 +288,7 @@ module _ (w : Ranges) (reach : AreReached w) (q : ℕ) (there : w.opened q ≡ t
         ∙ ap (λ n. places.Split opening.command.id opening.key n opening.command.seq ∷ []) numbered in
         k.1
         ∙ ap (λ xs. xs ++ k.0) (one_more left.start left.log x.index x.below ∙ ap (λ ys. items_to left x.index ++ ys) last)
-        ∙ joined (items_to left x.index) k.0 (places.Split opening.command.id opening.key q opening.command.seq)
+        ∙ append_assoc (items_to left x.index) (places.Split opening.command.id opening.key q opening.command.seq ∷ []) k.0
 
 -- each range starts from the split that opens it
 start_below : (w : Ranges) (reach : AreReached w) (n q : ℕ) → q < n → w.opened q ≡ true → IsStart (lists w) q (shown (w.range q).start)

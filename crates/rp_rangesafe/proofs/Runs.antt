@@ -5,7 +5,7 @@ use Rattle.rp_base.specs.declared.ids.CmdId.{CmdId}
 use Rattle.rp_request.specs.declared.commands.Payload.{Payload}
 use Rattle.rp_request.specs.declared.commands.Payload.TheVariants.{Write}
 use Rattle.rp_request.specs.declared.commands.Command.{Command}
-use Rattle.rp_apply.specs.Applied.{verdict}
+use Rattle.rp_request.specs.Applied.{verdict}
 use Rattle.rp_rangesafe.specs.Along.{entry, state, Takes}
 use Rattle.rp_rangesafe.specs.World.{World, state_at, begin, Event, Admit, Flush, Return, Refuse, Commit, Apply, Snapshot, Remove, Restart, AllLawful, happens, run}
 use Rattle.rp_rangesafe.specs.Places.{IsReached, IsLater, IsPlace}

@@ -6,8 +6,8 @@ use Rattle.rp_request.specs.declared.commands.Payload.{Payload}
 use Rattle.rp_request.specs.declared.commands.Payload.TheVariants.{Nothing, Write, Lease}
 use Rattle.rp_request.specs.declared.commands.Command.{Command}
 use Rattle.rp_request.specs.Covers.{covers, Apart}
-use Rattle.rp_apply.specs.Applied.{AppliedState, verdict, IsBlocked}
-use Rattle.rp_apply.specs.declared.verdicts.Verdict.{Verdict}
+use Rattle.rp_request.specs.Applied.{AppliedState, verdict, IsBlocked}
+use Rattle.rp_request.specs.declared.verdicts.Verdict.{Verdict}
 use Rattle.rp_rangesafe.specs.Attempts.{Body, Stage, Unborn, Waiting, Proposed, Success, Refused, Overtaken, Removed, Restarted, Attempt, Attempts, IsBorn, IsPending, IsEnded, IsClosed, IsOpen, IsOf, staged, handed_out, with_attempt, at_node}
 use Rattle.rp_rangesafe.specs.Along.{entry, state}
 use Rattle.rp_rangesafe.specs.World.{World, here, Event, Admit, Flush, Return, Refuse, Commit, Apply, Snapshot, Remove, Restart, MayAdmit, IsEvaluated, MayCommit, IsPassed, MayJump, Lawful, admitted, with_node, told, after_entry, overtaken, removed, restarted, happens}

@@ -7,7 +7,7 @@ use Rattle.rp_base.proofs.SplitLaws.{AreParts, parts}
 use Rattle.rp_request.specs.declared.commands.Payload.{Payload}
 use Rattle.rp_request.specs.declared.commands.Payload.TheVariants.{Nothing}
 use Rattle.rp_request.specs.Starts.{left_range}
-use Rattle.rp_apply.specs.Applied.{AppliedState, written, after, desc_after, left_of}
+use Rattle.rp_request.specs.Applied.{AppliedState, written, after, desc_after, left_of}
 use Rattle.rp_rangesafe.specs.Along.{entry}
 use Rattle.rp_rangesafe.specs.World.{World, begin, state_at, Admit, Flush, Return, Refuse, Commit, Apply, Snapshot, Remove, Restart, happens, with_node}
 use Rattle.rp_rangesafe.specs.Places.{IsLater}

@@ -1,6 +1,6 @@
 -- What one entry does to an applied state, as far as the numbers go. Beside the laws on tables and descriptions this is
 -- all that the other proofs know of the check and the step.
-use Rattle.std.proofs.Common.{◌≡◌, ℕ, ◌<◌, ◌≤◌, Bool, true, false, cond, ◌==◌, eqb, nat_le, nat_lt, ◌⊎◌, inl, inr, Option, Some, None, Err, refl, ap, ◌∙◌, arith}
+use Rattle.std.proofs.Common.{◌≡◌, ℕ, ◌<◌, ◌≤◌, Bool, true, false, cond, ◌==◌, eqb, nat_le, nat_lt, ◌⊎◌, inl, inr, Option, Some, None, Err, refl, sym, ap, subst, ◌∙◌, arith}
 use Rattle.rp_base.specs.declared.ranges.Desc.{Desc}
 use Rattle.rp_base.specs.declared.ranges.SplitFault.TheVariants.{NotInside}
 use Rattle.rp_base.specs.declared.leases.Lease as leases
@@ -10,12 +10,12 @@ use Rattle.rp_request.specs.declared.requests.Request.TheVariants.{Put, Add, CPu
 use Rattle.rp_request.specs.declared.commands.Payload.{Payload}
 use Rattle.rp_request.specs.declared.commands.Payload.TheVariants.{Nothing, Write, Lease}
 use Rattle.rp_request.specs.declared.commands.Command.{Command}
-use Rattle.rp_apply.specs.Applied.{AppliedState, verdict, after, written, leased, desc_after, left_of, command_verdict, asked, IsBlocked}
-use Rattle.rp_apply.specs.declared.verdicts.Verdict.{Verdict}
-use Rattle.rp_apply.specs.declared.verdicts.Verdict.TheVariants.{Took, OldLease, OldIndex, LeaseMoved}
-use Rattle.rp_apply.specs.declared.verdicts.Verdict.TheVariants as verdicts
-use Rattle.rp_apply.proofs.Opened.{by_tests, took_tells, old_lease_tells, old_index_tells}
-use Rattle.rp_apply.proofs.Numbers.{onward_one}
+use Rattle.rp_request.specs.Applied.{AppliedState, verdict, after, written, leased, desc_after, left_of, command_verdict, asked, IsBlocked}
+use Rattle.rp_request.specs.declared.verdicts.Verdict.{Verdict}
+use Rattle.rp_request.specs.declared.verdicts.Verdict.TheVariants.{Took, OldLease, OldIndex, LeaseMoved}
+use Rattle.rp_request.specs.declared.verdicts.Verdict.TheVariants as verdicts
+use Rattle.rp_request.proofs.Opened.{by_tests, took_tells, old_lease_tells, old_index_tells}
+use Rattle.rp_request.proofs.Numbers.{onward_one, blocked_onward, blocked_not_taken}
 use Rattle.rp_rangesafe.specs.Places.{IsFurther}
 
 pub further_same : (s : AppliedState) → IsFurther s s
@@ -110,14 +110,8 @@ taken_lai s c e = ap (λ v. (written s c v).lai) e
 
 -- what is blocked stays so
 pub blocked_further : (s t : AppliedState) (seq max : ℕ) → IsFurther s t → IsBlocked s seq max → IsBlocked t seq max
-blocked_further s t seq max o = go where
-  go : IsBlocked s seq max → IsBlocked t seq max
-  go (inl le) = inl (omega arith)
-  go (inr lt) = inr (omega arith)
+blocked_further s t seq max o = blocked_onward s t seq max o.numbers
 
 -- and is not taken
 pub blocked_untaken : (s : AppliedState) (c : Command) (seq : ℕ) → c.seq ≡ seq → IsBlocked s seq c.max → verdict s (Write c) ≡ Took → ⊥
-blocked_untaken s c seq e b v = go b (timely s c v) where
-  go : IsBlocked s seq c.max → IsTimely s c → ⊥
-  go (inl le) t = omega arith
-  go (inr lt) t = omega arith
+blocked_untaken s c seq e b = blocked_not_taken s c (subst (λ n. IsBlocked s n c.max) (sym e) b)

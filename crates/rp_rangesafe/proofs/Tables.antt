@@ -1,39 +1,17 @@
 -- A table of attempts, or of what nodes have, that is changed.
-use Rattle.std.proofs.Common.{◌≡◌, ℕ, ◌&&◌, eqb, Bool, true, false, ◌⊎◌, inl, inr, refl, sym, ap, subst, eqb-true, ⊎_elim}
-use Rattle.std.proofs.lemmas.Bool.{cond_both, eqb-false, and_parts, and_cases}
+use Rattle.std.proofs.Common.{◌≡◌, ℕ, eqb, refl, sym, subst, eqb-true}
+use Rattle.std.proofs.lemmas.Bool.{cond_both, eqb-false}
+use Rattle.rp_base.specs.Ids.{same_id}
 use Rattle.rp_base.specs.declared.ids.CmdId.{CmdId}
-use Rattle.rp_rangesafe.specs.Attempts.{Stage, Attempt, Attempts, same_id, with_attempt, at_node, staged}
+use Rattle.rp_base.proofs.IdLaws.{same_is, not_same_apart}
+use Rattle.rp_rangesafe.specs.Attempts.{Stage, Attempt, Attempts, with_attempt, at_node, staged}
 use Rattle.rp_rangesafe.specs.World.{with_node}
-
-pub id_by : (x y : CmdId) → x.client ≡ y.client → x.seq ≡ y.seq → x.attempt ≡ y.attempt → x ≡ y
-id_by x y a b c i = record { client = a i; seq = b i; attempt = c i }
-
-pub same_id_is : (x y : CmdId) → same_id x y ≡ true → x ≡ y
-same_id_is x y e =
-    let h = and_parts (eqb x.client y.client) (eqb x.seq y.seq && eqb x.attempt y.attempt) e in
-    let k = and_parts (eqb x.seq y.seq) (eqb x.attempt y.attempt) h.1 in
-    id_by x y (eqb-true _ _ h.0) (eqb-true _ _ k.0) (eqb-true _ _ k.1)
-
-pub other_id : (x y : CmdId) → same_id x y ≡ false → x ≡ y → ⊥
-other_id x y e same = ⊎_elim
-    (λ no. eqb-false x.client y.client no (ap (λ (z : CmdId). z.client) same))
-    (λ more. ⊎_elim
-    (λ no. eqb-false x.seq y.seq no (ap (λ (z : CmdId). z.seq) same))
-    (λ no. eqb-false x.attempt y.attempt no (ap (λ (z : CmdId). z.attempt) same))
-    (and_cases (eqb x.seq y.seq) (eqb x.attempt y.attempt) more))
-    (and_cases (eqb x.client y.client) (eqb x.seq y.seq && eqb x.attempt y.attempt) e)
-
-pub id_cases : (x y : CmdId) → (x ≡ y) ⊎ (x ≡ y → ⊥)
-id_cases x y = go (same_id x y) refl where
-  go : (b : Bool) → same_id x y ≡ b → (x ≡ y) ⊎ (x ≡ y → ⊥)
-  go true e = inl (same_id_is x y e)
-  go false e = inr (other_id x y e)
 
 -- what holds of the changed attempt and of each other one
 pub at_attempt : (P : CmdId → Attempt → Type 0) (f : Attempts) (id : CmdId) (a : Attempt) → P id a
     → ((q : CmdId) → (q ≡ id → ⊥) → P q (f q)) → (q : CmdId) → P q (with_attempt f id a q)
 unfolding with_attempt
-at_attempt P f id a h k q = cond_both (same_id q id) a (f q) (P q) (λ e. subst (λ x. P x a) (sym (same_id_is q id e)) h) (λ e. k q (other_id q id e))
+at_attempt P f id a h k q = cond_both (same_id q id) a (f q) (P q) (λ e. subst (λ x. P x a) (sym (same_is q id e)) h) (λ e. k q (not_same_apart q id e))
 
 pub at_same : (f : Attempts) (id : CmdId) (a : Attempt) → with_attempt f id a id ≡ a
 at_same f id a = at_attempt (λ q x. q ≡ id → x ≡ a) f id a (λ _. refl) (λ q ne e. absurd (ne e)) id refl

@@ -7,6 +7,7 @@ use Rattle.std.specs.FinMap.{retain_keys}
 use Rattle.rp_base.specs.declared.ids.CmdId.{CmdId}
 use Rattle.rp_base.specs.declared.ranges.Desc.{Desc}
 use Rattle.rp_base.specs.declared.leases.Lease as leases
+use Rattle.rp_base.proofs.IdLaws.{id_cases}
 use Rattle.rp_request.specs.declared.commands.Payload.{Payload}
 use Rattle.rp_request.specs.declared.commands.Payload.TheVariants.{Nothing, Write, Lease}
 use Rattle.rp_request.specs.declared.commands.Command.{Command}
@@ -17,17 +18,16 @@ use Rattle.rp_request.specs.Effect.{Effect}
 use Rattle.rp_request.specs.declared.outcomes.Refusal.{Refusal}
 use Rattle.rp_request.proofs.Locality.{leaves}
 use Rattle.rp_request.proofs.Covering.{some_key}
-use Rattle.rp_eval.proofs.ReadParts.{evaluated_reads}
-use Rattle.rp_eval.proofs.Does.{evaluated_does}
-use Rattle.rp_apply.specs.Applied.{AppliedState, command_verdict, asked, written, leased, taken, after, desc_after}
-use Rattle.rp_apply.specs.declared.verdicts.Verdict.{Verdict}
-use Rattle.rp_apply.specs.declared.verdicts.Verdict.TheVariants.{Took, OldLease, OldIndex, LeaseMoved}
-use Rattle.rp_apply.specs.declared.verdicts.Verdict.TheVariants as verdicts
+use Rattle.rp_request.proofs.ReadParts.{evaluated_reads}
+use Rattle.rp_request.proofs.Does.{evaluated_does}
+use Rattle.rp_request.specs.Applied.{AppliedState, command_verdict, asked, written, leased, taken, after, desc_after}
+use Rattle.rp_request.specs.declared.verdicts.Verdict.{Verdict}
+use Rattle.rp_request.specs.declared.verdicts.Verdict.TheVariants.{Took, OldLease, OldIndex, LeaseMoved}
+use Rattle.rp_request.specs.declared.verdicts.Verdict.TheVariants as verdicts
 use Rattle.rp_rangesafe.specs.Attempts.{Attempt, IsBorn}
 use Rattle.rp_rangesafe.specs.Along.{state, Takes}
 use Rattle.rp_rangesafe.specs.World.{World, IsEvaluated}
 use Rattle.rp_rangesafe.specs.Places.{body_of}
-use Rattle.rp_rangesafe.proofs.Tables.{id_cases}
 use Rattle.rp_rangesafe.proofs.Numbers.{onward, one_holder, timely_at, blocked_never}
 use Rattle.rp_rangesafe.proofs.One.{Made, one_place, born_with}
 use Rattle.rp_rangesafe.proofs.Worlds.{Done, Sound}

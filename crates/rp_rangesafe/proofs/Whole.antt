@@ -1,13 +1,15 @@
 -- What holds of the ranges together at any time.
 use Rattle.std.proofs.Common.{◌≡◌, ℕ, ◌-◌, ◌<◌, ◌≤◌, Bool, true, false, cond, ◌⊎◌, inl, inr, List, [], ◌∷◌, length, Option, Some, None, refl, sym, ap, subst, ◌∙◌, arith}
 use Rattle.std.proofs.lemmas.Bool.{cases_lt, cond_both}
+use Rattle.rp_base.specs.Ids.{same_id}
 use Rattle.rp_base.specs.declared.ids.CmdId.{CmdId}
-use Rattle.rp_apply.specs.Applied.{AppliedState}
-use Rattle.rp_rangesafe.specs.Attempts.{Unborn, Refused, Attempt, IsBorn, IsEnded, same_id}
+use Rattle.rp_base.proofs.IdLaws.{id_by_parts, same_is, not_same_apart, id_cases}
+use Rattle.rp_request.specs.Applied.{AppliedState}
+use Rattle.rp_rangesafe.specs.Attempts.{Unborn, Refused, Attempt, IsBorn, IsEnded}
 use Rattle.rp_rangesafe.specs.World.{World, begin, state_at, Event, Admit, Flush, Return, Refuse, Commit, Apply, Snapshot, Remove, Restart, Lawful, happens, with_node}
 use Rattle.rp_rangesafe.specs.Places.{IsReached, IsLater}
 use Rattle.rp_rangesafe.specs.Ranges.{Owner, Nobody, Turned, At, Ranges, first_applied, at_first, Step, In, Turn_away, IsMade, IsRefusedAt, IsRefused, previous, MayBegin, IsLawfulIn, IsLawful, right_of, with_right, with_owner, within, after_event, after_step, AreLawful, after_steps, AreReached, AreLater}
-use Rattle.rp_rangesafe.proofs.Tables.{id_by, same_id_is, other_id, id_cases, node_other, at_with_node}
+use Rattle.rp_rangesafe.proofs.Tables.{node_other, at_with_node}
 use Rattle.rp_rangesafe.proofs.Growth.{Admits, made_before}
 use Rattle.rp_rangesafe.proofs.Runs.{later_itself, later_further, later_reached, later_grown}
 
@@ -15,7 +17,7 @@ use Rattle.rp_rangesafe.proofs.Runs.{later_itself, later_further, later_reached,
 at_owner : (P : CmdId → Owner → Type 0) (f : CmdId → Owner) (id : CmdId) (o : Owner) → P id o
     → ((q : CmdId) → (q ≡ id → ⊥) → P q (f q)) → (q : CmdId) → P q (with_owner f id o q)
 unfolding with_owner
-at_owner P f id o h k q = cond_both (same_id q id) o (f q) (P q) (λ e. subst (λ x. P x o) (sym (same_id_is q id e)) h) (λ e. k q (other_id q id e))
+at_owner P f id o h k q = cond_both (same_id q id) o (f q) (P q) (λ e. subst (λ x. P x o) (sym (same_is q id e)) h) (λ e. k q (not_same_apart q id e))
 
 -- a range that there is, before and after a step
 pub record Onto (w v : Ranges) : Type 0 where
@@ -88,7 +90,7 @@ module _ (w v : Ranges) (h : Whole w) (k : Onto w v) where
         last : (x.attempt < id.attempt - 1) ⊎ (id.attempt - 1 ≤ x.attempt) → IsRefused w x
         last (inl lt) = h.turns x (previous id) c s p lt (is_made w (previous id) (w.owner (previous id)) q.1)
         last (inr ge) =
-            let same : x ≡ previous id = id_by x (previous id) c s (omega arith) in
+            let same : x ≡ previous id = id_by_parts x (previous id) c s (omega arith) in
             subst (IsRefused w) (sym same) q.1
 
     other : (x : CmdId) → (x ≡ id → ⊥) → v.owner x ≡ w.owner x

@@ -1,15 +1,18 @@
 -- A worked run, lawful and computed: the laws do not speak of ranges in which nothing happens.
-use Rattle.std.proofs.Common.{◌≡◌, ℕ, ◌+◌, true, inl, inr, List, [], ◌∷◌, ◌++◌, Some, None, Ok, Err, cond, nat_lt, nat_le, unwrap_or, refl, ap, ◌∙◌, arith}
+use Rattle.std.proofs.Common.{◌≡◌, ℕ, ◌+◌, true, inl, inr, List, [], ◌∷◌, ◌++◌, Option, Some, None, Ok, Err, cond, nat_lt, nat_le, refl, ap, ◌∙◌, arith}
 use Rattle.std.specs.Ordering.{nat_cmp}
 use Rattle.std.specs.FinMap.{empty, get, insert, get-empty}
 use Rattle.rp_base.specs.Splits.{first_desc}
 use Rattle.rp_base.specs.declared.ids.CmdId.{CmdId}
 use Rattle.rp_base.specs.declared.ranges.Desc.{Desc}
-use Rattle.rp_request.specs.declared.outcomes.Refusal.TheVariants.{Overflow}
-use Rattle.rp_request.specs.Table.{Table, greatest, from_on}
+use Rattle.rp_base.specs.Values.{is_text, number_in}
+use Rattle.rp_base.specs.declared.values.Value.{Value}
+use Rattle.rp_base.specs.declared.values.Value.TheVariants.{Number}
+use Rattle.rp_request.specs.declared.outcomes.Refusal.TheVariants.{IsText, Overflow}
+use Rattle.rp_base.specs.Tables.{Table, greatest, from_on}
 use Rattle.rp_request.specs.Effect.{writes}
 use Rattle.rp_request.proofs.Tables.{get_kept, get_inserted}
-use Rattle.rp_eval.specs.Evaluations.{evaluated, with_batch}
+use Rattle.rp_request.specs.Evaluations.{evaluated, with_batch}
 use Rattle.rp_request.specs.declared.commands.Op.TheVariants.{Set}
 use Rattle.rp_request.specs.declared.commands.Command.{Command}
 use Rattle.rp_request.specs.declared.commands.Payload.TheVariants.{Nothing, Write}
@@ -18,16 +21,16 @@ use Rattle.rp_request.specs.declared.items.Record.TheVariants as records
 use Rattle.rp_request.specs.declared.items.Why.TheVariants as reasons
 use Rattle.rp_request.specs.declared.outcomes.Reply.TheVariants.{Old, Now, Range}
 use Rattle.rp_request.specs.declared.requests.Request.TheVariants.{Put, Add, Split}
-use Rattle.rp_apply.specs.Applied.{command_verdict, records_of}
+use Rattle.rp_request.specs.Applied.{command_verdict, records_of}
 use Rattle.rp_rangesafe.specs.Attempts.{Body, Success, Overtaken, Attempt, Attempts, IsPending, with_attempt, at_node}
 use Rattle.rp_rangesafe.specs.World.{Admit, Flush, Commit, Apply, Snapshot, Restart, with_node}
 use Rattle.rp_rangesafe.specs.Ranges.{Ranges, Turned, at_first, Step, In, Turn_away, after_step, AreLawful, after_steps, AreReached, with_owner, lists}
 use Rattle.rp_rangesafe.proofs.Tables.{at_attempt}
 
-abbrev one : CmdId
+abbrev pub one : CmdId
 one = record { client = 1; seq = 1; attempt = 1 }
 
-abbrev two : CmdId
+abbrev pub two : CmdId
 two = record { client = 1; seq = 2; attempt = 1 }
 
 abbrev two_again : CmdId
@@ -36,17 +39,17 @@ two_again = record { client = 1; seq = 2; attempt = 2 }
 abbrev three : CmdId
 three = record { client = 2; seq = 1; attempt = 1 }
 
-abbrev put_body : Body
-put_body = record { request = Put 9 7; batch = Set 9 7 ∷ []; reply = Old None }
+abbrev pub put_body : Body
+put_body = record { request = Put 9 (Number 7); batch = Set 9 (Number 7) ∷ []; reply = Old None }
 
 abbrev split_body : Body
 split_body = record { request = Split 5; batch = []; reply = Range 1 }
 
 abbrev add_body : Body
-add_body = record { request = Add 9 1; batch = Set 9 8 ∷ []; reply = Now 8 }
+add_body = record { request = Add 9 1; batch = Set 9 (Number 8) ∷ []; reply = Now 8 }
 
 -- an attempt with this maximum, under the first lease sequence
-abbrev made : CmdId → Body → ℕ → Command
+abbrev pub made : CmdId → Body → ℕ → Command
 made id body max = record { id = id; request = body.request; batch = body.batch; reply = body.reply; seq = 1; max = max }
 
 -- node 1 admits a put, which is committed twice behind an entry Nothing, and applies all three
@@ -83,7 +86,7 @@ unfolding with_attempt at_node with_node with_owner command_verdict
 add_is_overtaken = refl
 
 records_left : records_of (end.range 0).start (end.range 0).log
-    ≡ records.Passed reasons.Nothing ∷ records.Took (places.Write one (Put 9 7) 1 (Old None)) ∷ records.Passed reasons.OldIndex ∷ records.Took (places.Split two_again 5 1 1) ∷ []
+    ≡ records.Passed reasons.Nothing ∷ records.Took (places.Write one (Put 9 (Number 7)) 1 (Old None)) ∷ records.Passed reasons.OldIndex ∷ records.Took (places.Split two_again 5 1 1) ∷ []
 unfolding with_attempt at_node with_node with_owner command_verdict
 records_left = refl
 
@@ -100,11 +103,11 @@ unfolding with_attempt at_node with_node with_owner command_verdict
 turned_away = refl
 
 -- nobody else is pending where the attempts that were changed are not
-settled : (f : Attempts) (id : CmdId) (a : Attempt) → (IsPending a.stage → ⊥) → ((q : CmdId) → (q ≡ id → ⊥) → IsPending (f q).stage → ⊥)
+pub settled : (f : Attempts) (id : CmdId) (a : Attempt) → (IsPending a.stage → ⊥) → ((q : CmdId) → (q ≡ id → ⊥) → IsPending (f q).stage → ⊥)
     → (q : CmdId) → IsPending (with_attempt f id a q).stage → ⊥
 settled f id a h k = at_attempt (λ q x. IsPending x.stage → ⊥) f id a h k
 
-past : (f : Attempts) (id : CmdId) (a : Attempt) → ((q : CmdId) → (q ≡ id → ⊥) → IsPending (f q).stage → ⊥)
+pub past : (f : Attempts) (id : CmdId) (a : Attempt) → ((q : CmdId) → (q ≡ id → ⊥) → IsPending (f q).stage → ⊥)
     → (q : CmdId) → (q ≡ id → ⊥) → IsPending (with_attempt f id a q).stage → ⊥
 past f id a k = at_attempt (λ q x. (q ≡ id → ⊥) → IsPending x.stage → ⊥) f id a (λ ne. absurd (ne refl)) (λ q _. k q)
 
@@ -116,16 +119,26 @@ none_pending : (q : CmdId) → IsPending ((after_put.range 0).attempt q).stage �
 unfolding with_attempt at_node with_node command_verdict
 none_pending = settled _ one _ (λ h. h) (past _ one _ (past _ one _ (past _ one _ (λ q ne h. h))))
 
-put_evaluates : (d : Desc) → evaluated empty d (Put 9 7) ≡ Ok (record { batch = Set 9 7 ∷ []; reply = Old None })
-put_evaluates d = ap (λ o. Ok (record { batch = Set 9 7 ∷ []; reply = Old o })) (get-empty nat_cmp 9)
+pub put_evaluates : (d : Desc)
+    → evaluated empty d (Put 9 (Number 7)) ≡ Ok (record { batch = Set 9 (Number 7) ∷ []; reply = Old None })
+put_evaluates d = ap (λ o. Ok (record { batch = Set 9 (Number 7) ∷ []; reply = Old o })) (get-empty nat_cmp 9)
 
-add_evaluates : (t : Table) (d : Desc) → get t 9 ≡ Some 7 → evaluated t d (Add 9 1) ≡ Ok (record { batch = Set 9 8 ∷ []; reply = Now 8 })
-add_evaluates t d e = ap (λ o. with_batch (Set 9 (unwrap_or o 0 + 1) ∷ []) (cond (nat_lt greatest (unwrap_or o 0 + 1)) (Err (Overflow (unwrap_or o 0)))
-    (writes (insert t 9 (unwrap_or o 0 + 1)) d (Now (unwrap_or o 0 + 1))))) e
+-- an add reads its key alone
+pub add_reads : (t : Table) (d : Desc) (o : Option Value) → get t 9 ≡ o
+    → evaluated t d (Add 9 1) ≡ with_batch (Set 9 (Number (number_in o + 1)) ∷ [])
+    (cond (is_text o) (Err (IsText 9)) (cond (nat_lt greatest (number_in o + 1)) (Err (Overflow (number_in o)))
+    (writes (insert t 9 (Number (number_in o + 1))) d (Now (number_in o + 1)))))
+add_reads t d o e = ap (λ v. with_batch (Set 9 (Number (number_in v + 1)) ∷ [])
+    (cond (is_text v) (Err (IsText 9)) (cond (nat_lt greatest (number_in v + 1)) (Err (Overflow (number_in v)))
+    (writes (insert t 9 (Number (number_in v + 1))) d (Now (number_in v + 1)))))) e
+
+add_evaluates : (t : Table) (d : Desc) → get t 9 ≡ Some (Number 7)
+    → evaluated t d (Add 9 1) ≡ Ok (record { batch = Set 9 (Number 8) ∷ []; reply = Now 8 })
+add_evaluates t d e = add_reads t d (Some (Number 7)) e
 
 -- the value that the right range has
-value_there : get (from_on (insert empty 9 7) 5) 9 ≡ Some 7
-value_there = get_kept (insert empty 9 7) (λ k. nat_le 5 k) 9 ∙ get_inserted empty 9 7 9
+value_there : get (from_on (insert empty 9 (Number 7)) 5) 9 ≡ Some (Number 7)
+value_there = get_kept (insert empty 9 (Number 7)) (λ k. nat_le 5 k) 9 ∙ get_inserted empty 9 (Number 7) 9
 
 put_lawful : AreLawful at_first put_steps
 unfolding with_attempt at_node with_node with_owner command_verdict
@@ -139,7 +152,7 @@ add_lawful : AreLawful (after_steps at_first (put_steps ++ split_steps)) add_ste
 unfolding with_attempt at_node with_node with_owner command_verdict
 add_lawful = (record { there = refl; lawful = record { new = refl; live = refl; holds = refl; passed = omega arith; evaluates = record { bounded = refl; evaluation = add_evaluates _ _ value_there }; latched = λ q h. absurd h }; begins = record { new = refl; turn = inl refl } }, (record { there = refl; lawful = (refl, omega arith); begins = tt }, (record { there = refl; lawful = record { seq = refl; request = refl; batch = refl; reply = refl; max = inl refl }; begins = tt }, (record { there = refl; lawful = record { live = refl; onward = omega arith; within = omega arith }; begins = tt }, (record { there = refl; lawful = refl; begins = tt }, tt)))))
 
-joined : (w : Ranges) (xs ys : List Step) → AreLawful w xs → AreLawful (after_steps w xs) ys → AreLawful w (xs ++ ys)
+pub joined : (w : Ranges) (xs ys : List Step) → AreLawful w xs → AreLawful (after_steps w xs) ys → AreLawful w (xs ++ ys)
 joined w [] ys h k = k
 joined w (x ∷ xs) ys h k = (h.0, joined (after_step w x) xs ys h.1 k)
 

@@ -7,7 +7,7 @@ use Rattle.rp_base.specs.declared.ids.CmdId.{CmdId}
 use Rattle.rp_request.specs.declared.commands.Payload.{Payload}
 use Rattle.rp_request.specs.declared.commands.Payload.TheVariants.{Nothing}
 use Rattle.rp_request.specs.Covers.{covers, Apart}
-use Rattle.rp_apply.specs.Applied.{AppliedState, IsBlocked}
+use Rattle.rp_request.specs.Applied.{AppliedState, IsBlocked}
 use Rattle.rp_rangesafe.specs.Attempts.{Body, Stage, Attempt, Attempts, IsBorn, IsEnded, IsClosed, IsAmong, staged}
 use Rattle.rp_rangesafe.specs.Along.{entry, state}
 use Rattle.rp_rangesafe.specs.World.{World, state_at, begin}

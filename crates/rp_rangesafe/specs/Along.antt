@@ -3,8 +3,8 @@ use Rattle.std.specs.Prelude.{◌≡◌, ℕ, zero, suc, List, slice_index_or}
 use Rattle.rp_request.specs.declared.commands.Payload.{Payload}
 use Rattle.rp_request.specs.declared.commands.Payload.TheVariants.{Nothing, Write}
 use Rattle.rp_request.specs.declared.commands.Command.{Command}
-use Rattle.rp_apply.specs.Applied.{AppliedState, verdict, after}
-use Rattle.rp_apply.specs.declared.verdicts.Verdict.TheVariants.{Took}
+use Rattle.rp_request.specs.Applied.{AppliedState, verdict, after}
+use Rattle.rp_request.specs.declared.verdicts.Verdict.TheVariants.{Took}
 
 -- the list's entry with this index, from 0
 abbrev pub entry : List Payload → ℕ → Payload

@@ -1,5 +1,6 @@
 -- An attempt of a command, as one range knows it (after CockroachDB's proposals).
-use Rattle.std.specs.Prelude.{◌≡◌, ℕ, Bool, ◌==◌, ◌&&◌, if◌then◌else◌, ◌⊎◌, List, [], ◌∷◌}
+use Rattle.std.specs.Prelude.{◌≡◌, ℕ, ◌==◌, if◌then◌else◌, ◌⊎◌, List, [], ◌∷◌}
+use Rattle.rp_base.specs.Ids.{same_id}
 use Rattle.rp_base.specs.declared.ids.CmdId.{CmdId}
 use Rattle.rp_request.specs.declared.commands.Op.{Op}
 use Rattle.rp_request.specs.declared.commands.Command.{Command}
@@ -131,10 +132,6 @@ handed_out a max = record a { stage = Proposed max; maxima = max ∷ a.maxima }
 -- all attempts, of which most are unborn
 abbrev pub Attempts : Type 0
 Attempts = CmdId → Attempt
-
--- whether two attempts are one
-abbrev pub same_id : CmdId → CmdId → Bool
-same_id x y = x.client == y.client && (x.seq == y.seq && x.attempt == y.attempt)
 
 -- one attempt becomes this
 unfoldable pub with_attempt : Attempts → CmdId → Attempt → Attempts

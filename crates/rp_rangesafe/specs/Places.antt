@@ -6,8 +6,8 @@ use Rattle.rp_request.specs.declared.outcomes.Reply.{Reply}
 use Rattle.rp_request.specs.declared.items.Place.{Place}
 use Rattle.rp_request.specs.Items as items
 use Rattle.rp_request.specs.Records.{applied}
-use Rattle.rp_apply.specs.Applied.{AppliedState, records_of, IsBlocked}
-use Rattle.rp_apply.specs.Onward.{IsOnward}
+use Rattle.rp_request.specs.Applied.{AppliedState, records_of, IsBlocked}
+use Rattle.rp_request.specs.Onward.{IsOnward}
 use Rattle.rp_rangesafe.specs.Attempts.{Body, IsOf, IsAmong, IsOpen, IsUntaken}
 use Rattle.rp_rangesafe.specs.Along.{entry, Takes}
 use Rattle.rp_rangesafe.specs.World.{World, IsEvaluated, state_at, here, begin, Event, AllLawful, run}

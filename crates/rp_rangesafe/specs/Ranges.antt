@@ -1,5 +1,6 @@
 -- The ranges together: commands with further attempts after a refusal, and right ranges that a split opens.
 use Rattle.std.specs.Prelude.{◌≡◌, ℕ, ◌-◌, ◌<◌, Bool, true, ◌==◌, if◌then◌else◌, ◌⊎◌, List, [], ◌∷◌, length, Option, None, Some, Result, Ok, Err}
+use Rattle.rp_base.specs.Ids.{same_id}
 use Rattle.rp_base.specs.Splits.{split_of}
 use Rattle.rp_base.specs.declared.ids.CmdId.{CmdId}
 use Rattle.rp_base.specs.declared.ranges.Desc.{Desc}
@@ -11,13 +12,13 @@ use Rattle.rp_request.specs.declared.requests.Request.{Request}
 use Rattle.rp_request.specs.declared.requests.Request.TheVariants.{Put, Add, CPut, Del, Wipe, Move, Split}
 use Rattle.rp_request.specs.declared.items.Place.{Place}
 use Rattle.rp_request.specs.declared.outcomes.Reply.{Reply}
-use Rattle.rp_request.specs.Table.{from_on}
+use Rattle.rp_base.specs.Tables.{from_on}
 use Rattle.rp_request.specs.Starts.{first_state}
-use Rattle.rp_apply.specs.Applied.{AppliedState, command_verdict}
-use Rattle.rp_apply.specs.declared.verdicts.Verdict.{Verdict}
-use Rattle.rp_apply.specs.declared.verdicts.Verdict.TheVariants.{Took, OldLease, OldIndex, LeaseMoved}
-use Rattle.rp_apply.specs.declared.verdicts.Verdict.TheVariants as verdicts
-use Rattle.rp_rangesafe.specs.Attempts.{Refused, same_id}
+use Rattle.rp_request.specs.Applied.{AppliedState, command_verdict}
+use Rattle.rp_request.specs.declared.verdicts.Verdict.{Verdict}
+use Rattle.rp_request.specs.declared.verdicts.Verdict.TheVariants.{Took, OldLease, OldIndex, LeaseMoved}
+use Rattle.rp_request.specs.declared.verdicts.Verdict.TheVariants as verdicts
+use Rattle.rp_rangesafe.specs.Attempts.{Refused}
 use Rattle.rp_rangesafe.specs.World.{World, begin, state_at, Event, Admit, Flush, Return, Refuse, Commit, Apply, Snapshot, Remove, Restart, Lawful, happens, with_node}
 use Rattle.rp_rangesafe.specs.Places.{IsPlace, items_to}
 

@@ -8,11 +8,11 @@ use Rattle.rp_request.specs.declared.commands.Command.{Command}
 use Rattle.rp_request.specs.declared.requests.Request.TheVariants as requests
 use Rattle.rp_request.specs.declared.outcomes.Reply.TheVariants as replies
 use Rattle.rp_request.specs.Covers.{covers, in_bounds, Apart}
-use Rattle.rp_eval.specs.Evaluations.{evaluated}
-use Rattle.rp_apply.specs.Applied.{AppliedState, verdict}
-use Rattle.rp_apply.specs.declared.verdicts.Verdict.{Verdict}
-use Rattle.rp_apply.specs.declared.verdicts.Verdict.TheVariants.{Took, OldLease, OldIndex, LeaseMoved}
-use Rattle.rp_apply.specs.declared.verdicts.Verdict.TheVariants as verdicts
+use Rattle.rp_request.specs.Evaluations.{evaluated}
+use Rattle.rp_request.specs.Applied.{AppliedState, verdict}
+use Rattle.rp_request.specs.declared.verdicts.Verdict.{Verdict}
+use Rattle.rp_request.specs.declared.verdicts.Verdict.TheVariants.{Took, OldLease, OldIndex, LeaseMoved}
+use Rattle.rp_request.specs.declared.verdicts.Verdict.TheVariants as verdicts
 use Rattle.rp_rangesafe.specs.Attempts.{Body, Stage, Unborn, Waiting, Proposed, Success, Refused, Overtaken, Removed, Restarted, Attempt, Attempts, IsPending, IsOf, staged, handed_out, with_attempt, at_node}
 use Rattle.rp_rangesafe.specs.Along.{entry, state}
 
@@ -74,7 +74,7 @@ pub data Event : Type 0 where
   Snapshot : (node to : ℕ) → Event
   -- a node's replica is removed
   Remove : (node : ℕ) → Event
-  -- a node restarts
+  -- a node restarts, and admits no more under the present lease sequence: its own ask of tick 0 gives it the next one
   Restart : (node : ℕ) → Event
 
 -- on this state the request lies in the bounds, and was evaluated so

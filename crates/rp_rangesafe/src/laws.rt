@@ -1,18 +1,21 @@
 //! Laws of the range machine, for every list of lawful events. No program calls these functions.
 
-ghost use Rattle.std.specs.Prelude.{◌≡◌, ℕ, ◌<◌, ◌≤◌, true, Some, [], length, take, slice_get};
+ghost use Rattle.std.specs.Prelude.{◌≡◌, ℕ, suc, ◌<◌, ◌≤◌, true, Some, [], length, take, slice_get};
 ghost use Rattle.rp_base.specs.declared.ids.CmdId.{CmdId};
+ghost use Rattle.rp_base.specs.declared.leases.LeaseAsk.{LeaseAsk};
+ghost use Rattle.rp_base.specs.Leases.{Follows, renewed};
 ghost use Rattle.rp_request.specs.declared.commands.Command.{Command};
+ghost use Rattle.rp_request.specs.declared.commands.Payload.TheVariants.{Lease};
 ghost use Rattle.rp_request.specs.declared.outcomes.Reply.{Reply};
 ghost use Rattle.rp_request.specs.declared.items.Record.TheVariants as kept;
 ghost use Rattle.rp_request.specs.Items.{fold};
 ghost use Rattle.rp_request.specs.Places.{IsOnce, IsOnceInAll};
 ghost use Rattle.rp_request.specs.Starts.{IsStart};
-ghost use Rattle.rp_eval.specs.Evaluations.{Does};
-ghost use Rattle.rp_apply.specs.Applied.{AppliedState, item, records_of, after_all};
+ghost use Rattle.rp_request.specs.Evaluations.{Does};
+ghost use Rattle.rp_request.specs.Applied.{AppliedState, item, records_of, after_all};
 ghost use Rattle.rp_rangesafe.specs.Attempts.{Unborn, Success, Refused, Overtaken, Restarted, IsBorn, IsEnded, IsAmong, IsOpen};
 ghost use Rattle.rp_rangesafe.specs.Along.{entry};
-ghost use Rattle.rp_rangesafe.specs.World.{World, state_at, here};
+ghost use Rattle.rp_rangesafe.specs.World.{World, state_at, here, Apply, Restart, happens};
 ghost use Rattle.rp_rangesafe.specs.Places.{IsReached, IsLater, IsFurther, IsPlace, IsDeadByStage, IsDeadForGood, HasNever, IsPlacedWith, IsLawfulPlace, shown, items_to};
 ghost use Rattle.rp_rangesafe.specs.Ranges.{Ranges, AreReached, AreLater, IsRefused, IsTheOnePlace, HasNowhere, lists, right_of};
 
@@ -90,10 +93,39 @@ pub fn places_are_lawful()
     ensures { (w : World) → IsReached w → (id : CmdId) (k : ℕ) (c : Command) → IsPlace w id k c → IsLawfulPlace w id k c }
 {}
 
-/// No attempt is admitted under a lease sequence at or below its node's barrier.
+/// A node's barrier is at or below its present lease sequence, and no attempt is admitted under a sequence at or below it.
 pub fn no_admission_below_the_barrier()
-    ensures { (w : World) → IsReached w → (later : World) → IsLater w later → (id : CmdId) → (w.attempt id).stage ≡ Unborn
+    ensures behind { (w : World) → IsReached w → (node : ℕ) → w.barrier node ≤ (here w node).lease.seq }
+    ensures past { (w : World) → IsReached w → (later : World) → IsLater w later → (id : CmdId) → (w.attempt id).stage ≡ Unborn
         → IsBorn (later.attempt id).stage → w.barrier (later.attempt id).node < (later.attempt id).seq }
+{}
+
+/// All attempts of a range under one lease sequence are admitted at one node, and between two restarts of it: what the node
+/// admits after a restart is under another sequence than all that was admitted before.
+pub fn one_sequence_is_admitted_at_one_node()
+    ensures node { (w : World) → IsReached w → (x : CmdId) (y : CmdId) → IsBorn (w.attempt x).stage → IsBorn (w.attempt y).stage
+        → (w.attempt x).seq ≡ (w.attempt y).seq → (w.attempt x).node ≡ (w.attempt y).node }
+    ensures between { (w : World) → IsReached w → (node : ℕ) → w.alive node ≡ true
+        → (later : World) → IsLater (happens w (Restart node)) later → (x : CmdId) (y : CmdId)
+        → IsBorn (w.attempt x).stage → (w.attempt y).stage ≡ Unborn → IsBorn (later.attempt y).stage
+        → (later.attempt y).node ≡ node → (w.attempt x).seq ≡ (later.attempt y).seq → ⊥ }
+{}
+
+/// Along a range's list each lease follows the one before: holder and sequence stay and the expiry does not fall, or the
+/// sequence rises by one.
+pub fn each_lease_follows_the_one_before()
+    ensures { (w : World) (k : ℕ) → Follows (state_at w k).lease (state_at w (suc k)).lease }
+{}
+
+/// A holder passes its barrier by its own ask of the present sequence and tick 0: where it applies such an ask, its lease is
+/// the next one, to the same tick, and the sequence is above the barrier.
+pub fn a_holder_passes_its_barrier()
+    ensures renewed { (w : World) → (node : ℕ) (ask : LeaseAsk) → entry w.log (w.index node) ≡ Lease ask
+        → ask.holder ≡ (here w node).lease.holder → ask.prev ≡ (here w node).lease.seq → ask.expires ≡ 0
+        → (here (happens w (Apply node)) node).lease ≡ renewed (here w node).lease }
+    ensures passed { (w : World) → IsReached w → (node : ℕ) (ask : LeaseAsk) → entry w.log (w.index node) ≡ Lease ask
+        → ask.holder ≡ (here w node).lease.holder → ask.prev ≡ (here w node).lease.seq → ask.expires ≡ 0
+        → (happens w (Apply node)).barrier node < (here (happens w (Apply node)) node).lease.seq }
 {}
 
 /// Whatever comes, an attempt that a restart ended has no place but under its last maximum.

@@ -12,14 +12,15 @@ use Rattle.rp_request.specs.declared.outcomes.Refusal.{Refusal}
 use Rattle.rp_request.specs.declared.outcomes.Refusal.TheVariants.{NotLeaseHolder, RangeMismatch}
 use Rattle.rp_request.specs.declared.requests.Request.{Request}
 use Rattle.rp_request.proofs.Covering.{apart}
-use Rattle.rp_latch.specs.Holds.{meets_one, any_meet, met_in, held_or, conflict, refused_by, answer}
+use Rattle.rp_base.specs.Spans.{meets_one, any_meet}
+use Rattle.rp_latch.specs.Holds.{met_in, held_or, conflict, refused_by, answer}
 use Rattle.rp_latch.specs.declared.holds.Held.{Held}
 use Rattle.rp_latch.specs.declared.holds.Hold.{Hold}
-use Rattle.rp_eval.specs.Evaluations.{evaluated}
-use Rattle.rp_eval.specs.declared.evaluations.Evaluated.{Evaluated}
+use Rattle.rp_request.specs.Evaluations.{evaluated}
+use Rattle.rp_request.specs.declared.evaluations.Evaluated.{Evaluated}
 use Rattle.rp_pending.specs.declared.proposals.Proposal.{Proposal}
 use Rattle.rp_pending.specs.Proposals.{proposal_of}
-use Rattle.rp_apply.specs.Applied.{AppliedState}
+use Rattle.rp_request.specs.Applied.{AppliedState}
 use Rattle.rp_replica.specs.declared.events.ReplicaEvent.TheVariants.{Admit}
 use Rattle.rp_replica.specs.Replicas.{Replica}
 use Rattle.rp_replica.specs.Admissions.{unlatched, guarded, proposal, admitted_by, admitted}

@@ -18,13 +18,13 @@ use Rattle.rp_pending.specs.declared.proposals.Proposal.{Proposal}
 use Rattle.rp_pending.specs.declared.proposals.Stage as places
 use Rattle.rp_pending.specs.declared.proposals.Stage.TheVariants as stages
 use Rattle.rp_pending.specs.Proposals.{proposal_of, waiting_again}
-use Rattle.rp_apply.specs.Applied.{command_verdict, after, after_all, record_of, records_of}
-use Rattle.rp_apply.specs.declared.verdicts.Verdict.{Verdict}
-use Rattle.rp_apply.specs.declared.verdicts.Verdict.TheVariants.{Took, OldLease, OldIndex, LeaseMoved}
-use Rattle.rp_apply.specs.declared.verdicts.Verdict.TheVariants as verdicts
-use Rattle.rp_apply.specs.History.{History}
-use Rattle.rp_apply.specs.History as history
-use Rattle.rp_apply.proofs.Numbers.{records_further}
+use Rattle.rp_request.specs.Applied.{command_verdict, after, after_all, record_of, records_of}
+use Rattle.rp_request.specs.declared.verdicts.Verdict.{Verdict}
+use Rattle.rp_request.specs.declared.verdicts.Verdict.TheVariants.{Took, OldLease, OldIndex, LeaseMoved}
+use Rattle.rp_request.specs.declared.verdicts.Verdict.TheVariants as verdicts
+use Rattle.rp_request.specs.History.{History}
+use Rattle.rp_request.specs.History as history
+use Rattle.rp_request.proofs.Numbers.{records_further}
 use Rattle.rp_replica.specs.declared.events.ReplicaEvent.TheVariants.{Apply}
 use Rattle.rp_replica.specs.declared.plans.Turn.{Turn}
 use Rattle.rp_replica.specs.declared.plans.Turn.TheVariants as turns
@@ -35,7 +35,8 @@ use Rattle.rp_rangesafe.specs.Along.{entry, state}
 use Rattle.rp_rangesafe.specs.World.{World, here, happens, by_verdict, after_entry, with_node}
 use Rattle.rp_rangesafe.specs.World as machine
 use Rattle.rp_rangesafe.specs.Ranges.{Owner, At, Ranges, first_applied}
-use Rattle.rp_rangesafe.proofs.Tables.{at_same, at_other, at_nodes, id_cases, node_same}
+use Rattle.rp_base.proofs.IdLaws.{id_cases}
+use Rattle.rp_rangesafe.proofs.Tables.{at_same, at_other, at_nodes, node_same}
 use Rattle.rp_rangesafe.proofs.Folds.{state_is}
 use Rattle.rp_refine.specs.Runs.{Outcomes, Run, with_ended, left_by}
 use Rattle.rp_refine.proofs.Stands.{HasStage, found_holds, stands_drop, stands_turn}

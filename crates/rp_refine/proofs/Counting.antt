@@ -15,15 +15,16 @@ use Rattle.rp_request.specs.declared.outcomes.Refusal.{Refusal}
 use Rattle.rp_request.specs.declared.requests.Request.{Request}
 use Rattle.rp_raftlog.specs.LogState.{last_index}
 use Rattle.rp_raftlog.specs.declared.entries.Entry.{Entry}
-use Rattle.rp_eval.specs.declared.evaluations.Evaluated.{Evaluated}
+use Rattle.rp_request.specs.declared.evaluations.Evaluated.{Evaluated}
+use Rattle.rp_flush.proofs.Numbering.{last_counts}
 use Rattle.rp_flush.specs.Assigns.{asks_of, ids_of, once, numbered, waits_under}
 use Rattle.rp_pending.specs.declared.proposals.Proposal.{Proposal}
 use Rattle.rp_pending.specs.Proposals.{proposal_of}
 use Rattle.rp_pending.specs.Refreshes.{waiting_of}
-use Rattle.rp_apply.specs.Applied.{AppliedState, command_verdict, written, leased, asked, after}
-use Rattle.rp_apply.specs.declared.verdicts.Verdict.{Verdict}
-use Rattle.rp_apply.specs.declared.verdicts.Verdict.TheVariants.{Took, OldLease, OldIndex, LeaseMoved}
-use Rattle.rp_apply.specs.declared.verdicts.Verdict.TheVariants as verdicts
+use Rattle.rp_request.specs.Applied.{AppliedState, command_verdict, written, leased, asked, after}
+use Rattle.rp_request.specs.declared.verdicts.Verdict.{Verdict}
+use Rattle.rp_request.specs.declared.verdicts.Verdict.TheVariants.{Took, OldLease, OldIndex, LeaseMoved}
+use Rattle.rp_request.specs.declared.verdicts.Verdict.TheVariants as verdicts
 use Rattle.rp_replica.proofs.Assigning.{few_entries, length_entries}
 use Rattle.rp_replica.specs.declared.events.ReplicaEvent.{ReplicaEvent}
 use Rattle.rp_replica.specs.declared.events.ReplicaEvent.TheVariants.{Admit, Collect, Flush, Apply, Peek}
@@ -124,20 +125,21 @@ counted_flushed r n ticks round read h =
     let e = h.entries in
     let l = h.lai in
     let same : last ≡ r.assigned = omega (arith, l) in
+    let count : (assigning r).last ≡ r.assigned + length under = last_counts r.applied.state.lai r.assigned under l in
     let more = length-append r.log.entries (map entry_of (payloads_of r.pending (assigning r))) in
-    let few = few_entries r.inbox r.pending (waiting_of r.pending) r.applied.state.lease.seq last in
+    let few = few_entries r.inbox r.pending (waiting_of r.pending) r.applied.state.lease.seq r.applied.state.lai r.assigned in
     let long = length_entries r.pending (assigning r) in
     record {
       base = h.base;
-      assigned = omega (arith, a, b, c, d, same);
+      assigned = omega (arith, a, b, c, d, count);
       entries = omega (arith, e, more, few, long);
-      lai = omega (arith, l, same);
+      lai = omega (arith, l, count);
       seq = h.seq;
       below = all_both (IsEntryBelow (assigning r).last) r.log.entries (map entry_of (payloads_of r.pending (assigning r)))
-          (below_more r.assigned (assigning r).last r.log.entries (omega (arith, same)) h.below)
+          (below_more r.assigned (assigning r).last r.log.entries (omega (arith, count)) h.below)
           (below_entries (assigning r).last (payloads_of r.pending (assigning r)) read
           (below_asks (assigning r).last (asks_of r.inbox) (filter_map (write_of r.pending) (assigning r).writes)
-          (below_writes r.pending under last (assigning r).last (omega arith))));
+          (below_writes r.pending under last (assigning r).last (omega (arith, same, count)))));
     }
 
 -- the state after a payload

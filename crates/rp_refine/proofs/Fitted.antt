@@ -17,16 +17,17 @@ use Rattle.rp_request.specs.declared.commands.Payload.TheVariants as payloads
 use Rattle.rp_request.specs.declared.outcomes.Refusal.{Refusal}
 use Rattle.rp_request.specs.declared.requests.Request.{Request}
 use Rattle.rp_raftlog.specs.declared.entries.Entry.{Entry}
-use Rattle.rp_codec.specs.Fits.{FitsId, FitsRequest, FitsReply, FitsBatch, FitsPayload}
-use Rattle.rp_eval.specs.declared.evaluations.Evaluated.{Evaluated}
-use Rattle.rp_flush.specs.Assigns.{asks_of, ids_of, once, numbered, waits_under, same_id}
+use Rattle.rp_request.specs.Fits.{FitsId, FitsRequest, FitsReply, FitsBatch, FitsPayload}
+use Rattle.rp_request.specs.declared.evaluations.Evaluated.{Evaluated}
+use Rattle.rp_base.specs.Ids.{same_id}
+use Rattle.rp_flush.specs.Assigns.{asks_of, ids_of, once, numbered, waits_under}
 use Rattle.rp_pending.specs.declared.proposals.Proposal.{Proposal}
 use Rattle.rp_pending.specs.Proposals.{has_id, proposal_of, with_changed, without, proposed, waiting_again}
 use Rattle.rp_pending.specs.Refreshes.{waiting_of}
-use Rattle.rp_apply.specs.Applied.{AppliedState, command_verdict, written, leased, asked, after}
-use Rattle.rp_apply.specs.declared.verdicts.Verdict.{Verdict}
-use Rattle.rp_apply.specs.declared.verdicts.Verdict.TheVariants.{Took, OldLease, OldIndex, LeaseMoved}
-use Rattle.rp_apply.specs.declared.verdicts.Verdict.TheVariants as verdicts
+use Rattle.rp_request.specs.Applied.{AppliedState, command_verdict, written, leased, asked, after}
+use Rattle.rp_request.specs.declared.verdicts.Verdict.{Verdict}
+use Rattle.rp_request.specs.declared.verdicts.Verdict.TheVariants.{Took, OldLease, OldIndex, LeaseMoved}
+use Rattle.rp_request.specs.declared.verdicts.Verdict.TheVariants as verdicts
 use Rattle.rp_replica.proofs.Carrying.{read_back}
 use Rattle.rp_replica.specs.declared.events.ReplicaEvent.{ReplicaEvent}
 use Rattle.rp_replica.specs.declared.events.ReplicaEvent.TheVariants.{Admit, Collect, Flush, Apply, Peek}

@@ -18,9 +18,9 @@ use Rattle.rp_flush.specs.Assigns.{ids_of, once, waits_under}
 use Rattle.rp_pending.specs.declared.proposals.Proposal.{Proposal}
 use Rattle.rp_pending.specs.Proposals.{has_id, proposal_of, without, with_changed, proposed}
 use Rattle.rp_pending.specs.Refreshes.{waiting_of}
-use Rattle.rp_apply.specs.Applied.{records_of}
-use Rattle.rp_apply.specs.History.{History}
-use Rattle.rp_replica.proofs.Known.{one_id}
+use Rattle.rp_request.specs.Applied.{records_of}
+use Rattle.rp_request.specs.History.{History}
+use Rattle.rp_base.proofs.IdLaws.{same_is}
 use Rattle.rp_replica.specs.declared.events.ReplicaEvent.TheVariants as events
 use Rattle.rp_replica.specs.Replicas.{Replica}
 use Rattle.rp_replica.specs.Applications.{payload_of}
@@ -30,7 +30,8 @@ use Rattle.rp_rangesafe.specs.World.{World, here, Event, Refuse, Commit, Lawful,
 use Rattle.rp_rangesafe.specs.World as machine
 use Rattle.rp_rangesafe.specs.Places.{IsLater}
 use Rattle.rp_rangesafe.specs.Ranges.{Owner, Ranges, first_applied}
-use Rattle.rp_rangesafe.proofs.Tables.{at_same, at_other, id_cases}
+use Rattle.rp_base.proofs.IdLaws.{id_cases}
+use Rattle.rp_rangesafe.proofs.Tables.{at_same, at_other}
 use Rattle.rp_rangesafe.proofs.Runs.{later_state}
 use Rattle.rp_replica.specs.Writes.{assigning}
 use Rattle.rp_refine.specs.Runs.{Outcomes, Run, with_outcome, with_ended, left_by}
@@ -121,7 +122,7 @@ found_made f id (x ∷ ps) p h e = go (found_made f id ps p h.1) (has_id id x) r
   here same is = subst (λ (y : Proposal). (y.id ≡ id) × IsMade y (f id)) (cc) (sym same, subst (λ z. IsMade x (f z)) (sym same) h.0)
 
   go : (proposal_of id ps ≡ Some p → (p.id ≡ id) × IsMade p (f id)) → (b : Bool) → has_id id x ≡ b → cond b (Some x) (proposal_of id ps) ≡ Some p → (p.id ≡ id) × IsMade p (f id)
-  go ih true t is = here (one_id id x.id t) is
+  go ih true t is = here (same_is id x.id t) is
   go ih false t is = ih is
 
 carries_more : (es : List Entry) (ps : List Payload) (p : Payload) → IsReadBack p → Carries es ps → Carries (es ++ entry_of p ∷ []) (ps ++ p ∷ [])

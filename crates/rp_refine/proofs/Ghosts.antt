@@ -1,7 +1,7 @@
 -- Events of range 0 as steps of the ranges together: the range goes as by itself, and other ranges may open.
 use Rattle.std.proofs.Common.{◌≡◌, ℕ, Bool, true, false, cond, List, [], ◌∷◌, ◌++◌, length, Option, Some, None, refl, sym, ap, subst, ◌∙◌}
 use Rattle.rp_base.specs.declared.ids.CmdId.{CmdId}
-use Rattle.rp_apply.specs.Applied.{AppliedState}
+use Rattle.rp_request.specs.Applied.{AppliedState}
 use Rattle.rp_rangesafe.specs.Attempts.{Body}
 use Rattle.rp_rangesafe.specs.World.{World, begin, state_at, Event, Admit, Flush, Return, Refuse, Commit, Apply, Snapshot, Remove, Restart, Lawful, AllLawful, happens, run, with_node}
 use Rattle.rp_rangesafe.specs.Ranges.{At, Ranges, at_first, Step, In, MayBegin, IsLawful, right_of, with_right, with_owner, within, after_step, AreLawful, after_steps, AreReached, AreLater}

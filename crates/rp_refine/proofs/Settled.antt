@@ -5,15 +5,16 @@ use Rattle.std.specs.List.{AllByRecursion, filter, find, cons_option}
 use Rattle.rp_base.specs.declared.ids.CmdId.{CmdId}
 use Rattle.rp_base.specs.declared.items.Item.{Item}
 use Rattle.rp_request.specs.declared.commands.Waiting as waitings
-use Rattle.rp_flush.specs.Assigns.{same_id, ids_of, once, seq_of, waits_under, waits_under_another, numbered}
+use Rattle.rp_base.specs.Ids.{same_id}
+use Rattle.rp_flush.specs.Assigns.{ids_of, once, seq_of, waits_under, waits_under_another, numbered}
 use Rattle.rp_pending.specs.declared.proposals.Proposal.{Proposal}
 use Rattle.rp_pending.specs.declared.proposals.Stage as places
 use Rattle.rp_pending.specs.declared.proposals.Stage.TheVariants as stages
 use Rattle.rp_pending.specs.Proposals.{is_proposed}
 use Rattle.rp_pending.specs.Refreshes.{waiting_of}
-use Rattle.rp_replica.proofs.Known.{one_id}
+use Rattle.rp_base.proofs.IdLaws.{same_is, not_same_apart}
 use Rattle.rp_rangesafe.specs.Attempts.{Waiting, Attempts}
-use Rattle.rp_refine.proofs.Stands.{AllHold, HasStage, apart}
+use Rattle.rp_refine.proofs.Stands.{AllHold, HasStage}
 
 -- no id stands twice
 abbrev pub Distinct : List CmdId → Type 0
@@ -61,7 +62,7 @@ not_true false e = refl
 distinct_once : (xs : List CmdId) → Distinct (once xs)
 distinct_once [] = tt
 distinct_once (x ∷ xs) = (
-  all_weaker (λ y. not (same_id x y) ≡ true) (λ y. x ≡ y → ⊥) (λ y e. apart x y (not_true (same_id x y) e)) (filter (λ y. not (same_id x y)) (once xs)) (all_pass (λ y. not (same_id x y)) (once xs)),
+  all_weaker (λ y. not (same_id x y) ≡ true) (λ y. x ≡ y → ⊥) (λ y e. not_same_apart x y (not_true (same_id x y) e)) (filter (λ y. not (same_id x y)) (once xs)) (all_pass (λ y. not (same_id x y)) (once xs)),
   distinct_filtered (λ y. not (same_id x y)) (once xs) (distinct_once xs),
 )
 
@@ -87,7 +88,7 @@ found_waits f id [] h e = absurd cc
 found_waits f id (p ∷ ps) h e = go (found_waits f id ps h.1) p.stage h.0.stage e where
   one : ((f p.id).stage ≡ Waiting) → (b : Bool) → same_id p.id id ≡ b → (is_some (find (λ w. same_id w.id id) (waiting_of ps)) ≡ true → (f id).stage ≡ Waiting)
       → is_some (cond b (Some (record { id = p.id; seq = p.seq })) (find (λ w. same_id w.id id) (waiting_of ps))) ≡ true → (f id).stage ≡ Waiting
-  one w true t ih k = subst (λ z. (f z).stage ≡ Waiting) (one_id p.id id t) w
+  one w true t ih k = subst (λ z. (f z).stage ≡ Waiting) (same_is p.id id t) w
   one w false t ih k = ih k
 
   go : (is_some (find (λ w. same_id w.id id) (waiting_of ps)) ≡ true → (f id).stage ≡ Waiting) → (s : places.Stage) → HasStage s p.max (f p.id).stage

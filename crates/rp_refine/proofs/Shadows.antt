@@ -9,14 +9,16 @@ use Rattle.rp_raftlog.specs.LogState.{LogState}
 use Rattle.rp_raftlog.specs.declared.entries.Entry.{Entry}
 use Rattle.rp_latch.specs.declared.holds.Hold.{Hold}
 use Rattle.rp_pending.specs.declared.proposals.Proposal.{Proposal}
-use Rattle.rp_apply.specs.Applied.{records_of}
-use Rattle.rp_apply.specs.History.{History}
+use Rattle.rp_request.specs.Applied.{records_of}
+use Rattle.rp_request.specs.History.{History}
 use Rattle.rp_replica.specs.Applications.{payload_of}
-use Rattle.rp_rangesafe.specs.Attempts.{Stage, Unborn, Success, Refused, Attempt, Attempts, IsBorn, IsPending, same_id, with_attempt}
+use Rattle.rp_base.specs.Ids.{same_id}
+use Rattle.rp_rangesafe.specs.Attempts.{Stage, Unborn, Success, Refused, Attempt, Attempts, IsBorn, IsPending, with_attempt}
 use Rattle.rp_rangesafe.specs.World.{World, here, Event, AllLawful, happens, run}
 use Rattle.rp_rangesafe.specs.World as machine
 use Rattle.rp_rangesafe.specs.Ranges.{Owner, Nobody, Turned, At, Ranges, first_applied, AreLater, with_owner}
-use Rattle.rp_rangesafe.proofs.Tables.{same_id_is, other_id, id_cases, at_same, at_other}
+use Rattle.rp_base.proofs.IdLaws.{same_is, not_same_apart, id_cases}
+use Rattle.rp_rangesafe.proofs.Tables.{at_same, at_other}
 use Rattle.rp_rangesafe.proofs.Growth.{Admits, grown_run, made_before}
 use Rattle.rp_refine.specs.Runs.{Outcomes, Run, with_outcome}
 use Rattle.rp_refine.proofs.Stands.{Stands}
@@ -122,13 +124,13 @@ follows w y x s t =
 at_outcome : (P : CmdId → Option Outcome → Type 0) (f : Outcomes) (id : CmdId) (o : Outcome) → P id (Some o)
     → ((q : CmdId) → (q ≡ id → ⊥) → P q (f q)) → (q : CmdId) → P q (with_outcome f id o q)
 unfolding with_outcome
-at_outcome P f id o h k q = cond_both (same_id q id) (Some o) (f q) (P q) (λ e. subst (λ x. P x (Some o)) (sym (same_id_is q id e)) h) (λ e. k q (other_id q id e))
+at_outcome P f id o h k q = cond_both (same_id q id) (Some o) (f q) (P q) (λ e. subst (λ x. P x (Some o)) (sym (same_is q id e)) h) (λ e. k q (not_same_apart q id e))
 
 -- where one attempt was made, and all others
 at_owner : (P : CmdId → Owner → Type 0) (f : CmdId → Owner) (id : CmdId) (o : Owner) → P id o
     → ((q : CmdId) → (q ≡ id → ⊥) → P q (f q)) → (q : CmdId) → P q (with_owner f id o q)
 unfolding with_owner
-at_owner P f id o h k q = cond_both (same_id q id) o (f q) (P q) (λ e. subst (λ x. P x o) (sym (same_id_is q id e)) h) (λ e. k q (other_id q id e))
+at_owner P f id o h k q = cond_both (same_id q id) o (f q) (P q) (λ e. subst (λ x. P x o) (sym (same_is q id e)) h) (λ e. k q (not_same_apart q id e))
 
 -- one attempt is told another thing, at another stage
 pub agrees_told : (outcome : Outcomes) (owner : CmdId → Owner) (f : Attempts) (id : CmdId) (o : Outcome) (a : Attempt)

@@ -6,14 +6,15 @@ use Rattle.std.specs.List.{AllByRecursion, filter, IsDistinct}
 use Rattle.rp_base.specs.declared.ids.CmdId.{CmdId}
 use Rattle.rp_base.specs.declared.spans.Spans.{Spans}
 use Rattle.rp_request.specs.Covers.{spans_of, HasKeys}
-use Rattle.rp_flush.specs.Assigns.{same_id}
+use Rattle.rp_base.specs.Ids.{same_id}
 use Rattle.rp_latch.specs.Holds.{is_of_other}
 use Rattle.rp_latch.specs.declared.holds.Hold.{Hold}
 use Rattle.rp_pending.specs.declared.proposals.Proposal.{Proposal}
 use Rattle.rp_pending.specs.declared.proposals.Stage as places
 use Rattle.rp_pending.specs.declared.proposals.Stage.TheVariants as stages
 use Rattle.rp_pending.specs.Proposals.{has_id, proposal_of, without, with_changed}
-use Rattle.rp_replica.proofs.Known.{one_id, known_without}
+use Rattle.rp_base.proofs.IdLaws.{same_is, not_same_apart}
+use Rattle.rp_replica.proofs.Known.{known_without}
 use Rattle.rp_rangesafe.specs.Attempts.{Body, Stage, Waiting, Proposed, Attempt, Attempts, IsPending, with_attempt}
 use Rattle.rp_refine.specs.Laws.{hold_of, HaveDistinctIds}
 use Rattle.rp_rangesafe.proofs.Tables.{at_attempt, at_same, at_other}
@@ -64,15 +65,6 @@ pub record Stands (f : Attempts) (ls : List Hold) (ps : List Proposal) : Type 0 
   pub listed : (q : CmdId) → IsPending (f q).stage → IsListed q ps
   pub latched : (q : CmdId) → IsPending (f q).stage → IsHeld q (spans_of (f q).body.request) ls
 
-pub apart : (x y : CmdId) → same_id x y ≡ false → x ≡ y → ⊥
-apart x y e same = ⊎_elim
-    (λ some. ⊎_elim
-    (λ no. eqb-false x.client y.client no (ap (λ (z : CmdId). z.client) same))
-    (λ no. eqb-false x.seq y.seq no (ap (λ (z : CmdId). z.seq) same))
-    (and_cases (eqb x.client y.client) (eqb x.seq y.seq) some))
-    (λ no. eqb-false x.attempt y.attempt no (ap (λ (z : CmdId). z.attempt) same))
-    (and_cases (eqb x.client y.client && eqb x.seq y.seq) (eqb x.attempt y.attempt) e)
-
 -- a proposal that is listed is pending
 pub stage_pending : (p : places.Stage) (max : ℕ) (s : Stage) → HasStage p max s → IsPending s
 stage_pending stages.Waiting max s e = subst IsPending (sym e) tt
@@ -90,7 +82,7 @@ found_holds f id (x ∷ ps) p h e = go (found_holds f id ps p h.1) (has_id id x)
 
   go : (proposal_of id ps ≡ Some p → (p.id ≡ id) × Holds p (f id)) → (b : Bool) → has_id id x ≡ b → cond b (Some x) (proposal_of id ps) ≡ Some p
       → (p.id ≡ id) × Holds p (f id)
-  go ih true t is = here (one_id id x.id t) is
+  go ih true t is = here (same_is id x.id t) is
   go ih false t is = ih is
 
 -- a hold stays where another attempt's are freed
@@ -99,7 +91,7 @@ held_freed id q spans [] ne h = h
 held_freed id q spans (x ∷ hs) ne h = go (same_id x.id id) refl h (held_freed id q spans hs ne) where
   go : (b : Bool) → same_id x.id id ≡ b → IsHeld q spans (x ∷ hs) → (IsHeld q spans hs → IsHeld q spans (filter (is_of_other id) hs))
       → IsHeld q spans (cond (not b) (x ∷ filter (is_of_other id) hs) (filter (is_of_other id) hs))
-  go true e (inl k) ih = absurd (ne (sym k.0 ∙ one_id x.id id e))
+  go true e (inl k) ih = absurd (ne (sym k.0 ∙ same_is x.id id e))
   go true e (inr k) ih = ih k
   go false e (inl k) ih = inl k
   go false e (inr k) ih = inr (ih k)
@@ -118,7 +110,7 @@ all_dropped f id a [] h = tt
 all_dropped f id a (p ∷ ps) h = go (has_id id p) refl (all_dropped f id a ps h.1) where
   go : (b : Bool) → has_id id p ≡ b → AllHold (with_attempt f id a) (without id ps) → AllHold (with_attempt f id a) (cond (not b) (p ∷ without id ps) (without id ps))
   go true e ih = ih
-  go false e ih = (subst (Holds p) (sym (at_other f id a p.id (λ s. apart id p.id e (sym s)))) h.0, ih)
+  go false e ih = (subst (Holds p) (sym (at_other f id a p.id (λ s. not_same_apart id p.id e (sym s)))) h.0, ih)
 
 none_left : (id other : CmdId) (ps : List Proposal) → HasNone other ps → HasNone other (without id ps)
 none_left id other [] h = tt
@@ -139,8 +131,8 @@ same_back x y = go (same_id x y) (same_id y x) refl refl where
   go : (b c : Bool) → same_id x y ≡ b → same_id y x ≡ c → b ≡ c
   go true true e f = refl
   go false false e f = refl
-  go true false e f = absurd (apart y x f (sym (one_id x y e)))
-  go false true e f = absurd (apart x y e (sym (one_id y x f)))
+  go true false e f = absurd (not_same_apart y x f (sym (same_is x y e)))
+  go false true e f = absurd (not_same_apart x y e (sym (same_is y x f)))
 
 held_left : (id : CmdId) (ps : List Proposal) → filter (is_of_other id) (map hold_of ps) ≡ map hold_of (without id ps)
 held_left id [] = refl
@@ -207,10 +199,10 @@ module _ (g : Proposal → Proposal) (same : (p : Proposal) → (g p).id ≡ p.i
     all_turned (p ∷ ps) h = (go (has_id id p) refl, all_turned ps h.1) where
       go : (b : Bool) → has_id id p ≡ b → Holds (cond b (g p) p) (with_attempt f id a (cond b (g p) p).id)
       go true e =
-          let is : (g p).id ≡ id = same p ∙ sym (one_id id p.id e) in
+          let is : (g p).id ≡ id = same p ∙ sym (same_is id p.id e) in
           subst (λ z. Holds (g p) (with_attempt f id a z)) (sym is) (subst (Holds (g p)) (sym (at_same f id a))
-          (turns p (subst (λ z. Holds p (f z)) (sym (one_id id p.id e)) h.0)))
-      go false e = subst (Holds p) (sym (at_other f id a p.id (λ s. apart id p.id e (sym s)))) h.0
+          (turns p (subst (λ z. Holds p (f z)) (sym (same_is id p.id e)) h.0)))
+      go false e = subst (Holds p) (sym (at_other f id a p.id (λ s. not_same_apart id p.id e (sym s)))) h.0
 
     -- the attempt and its proposal go to another stage
     pub stands_turn : (ls : List Hold) (ps : List Proposal) → Stands f ls ps → IsPending (f id).stage → a.body ≡ (f id).body
@@ -242,7 +234,7 @@ itself : (p : Proposal) → has_id p.id p ≡ true
 itself p = go (has_id p.id p) refl where
   go : (b : Bool) → has_id p.id p ≡ b → has_id p.id p ≡ true
   go true e = e
-  go false e = absurd (apart p.id p.id e refl)
+  go false e = absurd (not_same_apart p.id p.id e refl)
 
 known_last : (ps : List Proposal) (p : Proposal) → IsListed p.id (ps ++ p ∷ [])
 known_last [] p = ap (λ b. is_some (cond b (Some p) None)) (itself p)
@@ -287,7 +279,7 @@ none_same id [] h = tt
 none_same id (p ∷ ps) h = (go (same_id id p.id) refl, none_same id ps h.1) where
   go : (b : Bool) → same_id id p.id ≡ b → same_id id p.id ≡ false
   go false e = e
-  go true e = absurd (h.0 (one_id id p.id e))
+  go true e = absurd (h.0 (same_is id p.id e))
 
 pub have_distinct : (ps : List Proposal) → AreDistinct ps → HaveDistinctIds ps
 unfolding IsDistinct

@@ -23,17 +23,17 @@ use Rattle.rp_request.specs.Items.{fold}
 use Rattle.rp_request.specs.Places.{IsOnce, places_of}
 use Rattle.rp_request.specs.Records.{applied}
 use Rattle.rp_request.specs.Starts.{first_state}
-use Rattle.rp_request.specs.Table.{Table}
+use Rattle.rp_base.specs.Tables.{Table}
 use Rattle.rp_request.specs.Effect.{split}
 use Rattle.rp_request.proofs.Once.{places_further}
-use Rattle.rp_eval.specs.Evaluations.{Does, evaluated, with_batch}
-use Rattle.rp_eval.specs.declared.evaluations.Evaluated.{Evaluated}
+use Rattle.rp_request.specs.Evaluations.{Does, evaluated, with_batch}
+use Rattle.rp_request.specs.declared.evaluations.Evaluated.{Evaluated}
 use Rattle.rp_raftlog.specs.LogState.{entry_at}
 use Rattle.rp_raftlog.specs.declared.entries.Entry.{Entry}
 use Rattle.rp_pending.specs.declared.proposals.Proposal.{Proposal}
 use Rattle.rp_pending.specs.Proposals.{proposal_of}
-use Rattle.rp_apply.specs.Applied.{AppliedState, command_verdict, item, after_all, records_of}
-use Rattle.rp_apply.specs.Rooms.{Fits, MaySplit}
+use Rattle.rp_request.specs.Applied.{AppliedState, command_verdict, item, after_all, records_of}
+use Rattle.rp_request.specs.Applicable.{Fits, MaySplit}
 use Rattle.rp_replica.specs.Applications.{payload_of}
 use Rattle.rp_replica.specs.Carried.{Carries, AllCarry}
 use Rattle.rp_replica.specs.Allows.{MayApplyNext}

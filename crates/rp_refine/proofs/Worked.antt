@@ -5,15 +5,16 @@ use Rattle.std.specs.FinMap.{get, get-empty}
 use Rattle.rp_base.specs.Keys.{IsKey, key_of, key_number}
 use Rattle.rp_base.specs.declared.ids.CmdId.{CmdId}
 use Rattle.rp_base.specs.declared.items.Item.TheVariants as kinds
+use Rattle.rp_base.specs.declared.values.Value.TheVariants.{Number}
 use Rattle.rp_request.specs.declared.commands.Command.{Command}
 use Rattle.rp_request.specs.declared.commands.Op.TheVariants.{Set}
 use Rattle.rp_request.specs.declared.commands.Payload.TheVariants as payloads
 use Rattle.rp_request.specs.declared.outcomes.Outcome.TheVariants as outcomes
 use Rattle.rp_request.specs.declared.outcomes.Reply.TheVariants.{Old}
 use Rattle.rp_request.specs.declared.requests.Request.TheVariants.{Put}
-use Rattle.rp_codec.specs.Fits.{FitsOption, FitsPayload}
+use Rattle.rp_request.specs.Fits.{FitsOption, FitsPayload}
 use Rattle.rp_codec.specs.Worked.{key_a}
-use Rattle.rp_apply.specs.Applied.{command_verdict}
+use Rattle.rp_request.specs.Applied.{command_verdict}
 use Rattle.rp_replica.proofs.Carrying.{read_back}
 use Rattle.rp_replica.specs.declared.events.ReplicaEvent.TheVariants.{Admit, Collect, Flush, Apply}
 use Rattle.rp_replica.specs.Applications.{next_payload, applied_where}
@@ -26,7 +27,7 @@ one = record { client = 1; seq = 1; attempt = 1 }
 -- client 1 puts 5 under `a`; the command goes by the buffer and the log
 abbrev asked : List Input
 asked =
-    record { event = Admit one (Put key_a 5); ticks = 0; round = 0; taken = [] }
+    record { event = Admit one (Put key_a (Number 5)); ticks = 0; round = 0; taken = [] }
     ∷ record { event = Collect; ticks = 0; round = 0; taken = kinds.Write one ∷ [] }
     ∷ record { event = Flush; ticks = 0; round = 0; taken = [] } ∷ []
 
@@ -39,8 +40,8 @@ proposed = play begun asked
 abbrev command : Command
 command = record {
   id = one;
-  request = Put key_a 5;
-  batch = Set key_a 5 ∷ [];
+  request = Put key_a (Number 5);
+  batch = Set key_a (Number 5) ∷ [];
   reply = Old (get first_applied.table key_a);
   seq = 1;
   max = 1;

@@ -12,10 +12,10 @@ use Rattle.rp_request.specs.Records.{applied}
 use Rattle.rp_raftlog.specs.declared.entries.Entry.{Entry}
 use Rattle.rp_latch.specs.declared.holds.Hold.{Hold}
 use Rattle.rp_request.specs.Covers.{spans_of}
-use Rattle.rp_eval.specs.Evaluations.{Does}
-use Rattle.rp_flush.specs.Assigns.{same_id}
+use Rattle.rp_request.specs.Evaluations.{Does}
+use Rattle.rp_base.specs.Ids.{same_id}
 use Rattle.rp_pending.specs.declared.proposals.Proposal.{Proposal}
-use Rattle.rp_apply.specs.Applied.{AppliedState}
+use Rattle.rp_request.specs.Applied.{AppliedState}
 use Rattle.rp_replica.specs.Applications.{payload_of}
 use Rattle.rp_rangesafe.specs.Along.{entry, state, Takes}
 use Rattle.rp_rangesafe.specs.World.{IsEvaluated}

@@ -9,7 +9,7 @@ use Rattle.rp_request.specs.Covers.{HasKeys}
 use Rattle.rp_request.specs.declared.outcomes.Outcome.{Outcome}
 use Rattle.rp_request.specs.declared.outcomes.Outcome.TheVariants.{Success, Refused, Ambiguous, Pending}
 use Rattle.rp_request.specs.declared.requests.Request.{Request}
-use Rattle.rp_codec.specs.Fits.{FitsId, FitsRequest, FitsAsk}
+use Rattle.rp_request.specs.Fits.{FitsId, FitsRequest, FitsAsk}
 use Rattle.rp_replica.specs.declared.events.Ended.{Ended}
 use Rattle.rp_replica.specs.declared.events.EventAnswer.{EventAnswer}
 use Rattle.rp_replica.specs.declared.events.EventAnswer.TheVariants as answers
@@ -18,7 +18,7 @@ use Rattle.rp_replica.specs.declared.events.ReplicaEvent.TheVariants.{Admit, Col
 use Rattle.rp_replica.specs.Replicas.{Replica, Done, started}
 use Rattle.rp_replica.specs.Allows.{MayFlush}
 use Rattle.rp_replica.specs.Events.{event}
-use Rattle.rp_rangesafe.specs.Attempts.{same_id}
+use Rattle.rp_base.specs.Ids.{same_id}
 use Rattle.rp_rangesafe.specs.Ranges.{first_applied, previous}
 
 -- an event, with the tick and the round of the node, and what the buffer gave

@@ -13,7 +13,7 @@ ghost use Rattle.rp_request.specs.Records.{applied};
 ghost use Rattle.rp_request.specs.Starts.{first_state};
 ghost use Rattle.rp_raftlog.specs.LogState.{entry_at, last_index};
 ghost use Rattle.rp_pending.specs.Proposals.{proposal_of};
-ghost use Rattle.rp_apply.specs.Applied.{item, after_all, records_of};
+ghost use Rattle.rp_request.specs.Applied.{item, after_all, records_of};
 ghost use Rattle.rp_replica.specs.Carried.{AllCarry};
 ghost use Rattle.rp_replica.specs.Allows.{Allows, MayApplyNext, MayFlush};
 ghost use Rattle.rp_rangesafe.specs.Places.{shown};

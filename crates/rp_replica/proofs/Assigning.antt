@@ -1,5 +1,5 @@
 -- What a flush assigns is pending, and is no more than the inbox holds.
-use Rattle.std.proofs.Common.{◌≡◌, ◌≤◌, ◌+◌, ◌==◌, ℕ, suc, Bool, true, false, cond, not, List, [], ◌∷◌, ◌++◌, length, map, Option, None, Some, is_some, refl, sym, ap, subst, ◌∙◌, arith, length-append}
+use Rattle.std.proofs.Common.{◌≡◌, ◌≤◌, ◌+◌, ◌==◌, ℕ, suc, max, Bool, true, false, cond, not, List, [], ◌∷◌, ◌++◌, length, map, Option, None, Some, is_some, refl, sym, ap, subst, ◌∙◌, arith, length-append}
 use Rattle.std.specs.Prelude.{filter_map, IsSome}
 use Rattle.std.specs.List.{All, filter, find, cons_option}
 use Rattle.std.specs.Option.{option_map, option_map_or}
@@ -13,13 +13,15 @@ use Rattle.rp_request.specs.declared.commands.Payload.{Payload}
 use Rattle.rp_request.specs.declared.commands.Payload.TheVariants as payloads
 use Rattle.rp_request.specs.declared.commands.Waiting.{Waiting}
 use Rattle.rp_flush.specs.declared.assigns.Assigned.{Assigned}
-use Rattle.rp_flush.specs.Assigns.{same_id, asks_of, ids_of, once, seq_of, waits_under, waits_under_another, numbered, assigned_of}
+use Rattle.rp_base.specs.Ids.{same_id}
+use Rattle.rp_flush.specs.Assigns.{asks_of, ids_of, once, seq_of, waits_under, waits_under_another, numbered, assigned_of}
 use Rattle.rp_pending.specs.declared.proposals.Proposal.{Proposal}
 use Rattle.rp_pending.specs.Proposals.{is_proposed, proposal_of}
 use Rattle.rp_pending.specs.Refreshes.{waiting_of}
 use Rattle.rp_replica.specs.Flushes.{entry_of, payloads_of, write_of, without_all}
 use Rattle.rp_replica.specs.Plans.{ArePending}
-use Rattle.rp_replica.proofs.Known.{one_id, known_without_all}
+use Rattle.rp_base.proofs.IdLaws.{same_is}
+use Rattle.rp_replica.proofs.Known.{known_without_all}
 
 -- a command that waits under a sequence does not wait under another
 not_both : (o : Option ℕ) (seq : ℕ) → option_map_or (λ s. s == seq) o false ≡ true → option_map_or (λ s. not (s == seq)) o false ≡ true → ⊥
@@ -43,7 +45,7 @@ all_apart waiting seq id h (other ∷ ids) a =
 
 -- the test of ids is the same from both sides
 same_swap : (x y : CmdId) → same_id x y ≡ true → same_id y x ≡ true
-same_swap x y h = subst (λ z. same_id z x ≡ true) (one_id x y h) (subst (λ z. same_id x z ≡ true) (sym (one_id x y h)) h)
+same_swap x y h = subst (λ z. same_id z x ≡ true) (same_is x y h) (subst (λ z. same_id x z ≡ true) (sym (same_is x y h)) h)
 
 -- what waits is pending
 some_more : (d : Bool) (p : Proposal) (r : Option Proposal) → is_some r ≡ true → is_some (cond d (Some p) r) ≡ true
@@ -85,10 +87,10 @@ numbers_pending last (id ∷ ids) ps h =
     (numbers_pending (last + 1) ids ps (All-tail (λ x. IsSome (proposal_of x ps)) id ids h))
 
 -- what is proposed is pending once the refused ones have ended
-pub assigned_pending : (inbox : List Item) (ps : List Proposal) (seq last : ℕ)
-    → ArePending (assigned_of inbox (waiting_of ps) seq last).writes (without_all (assigned_of inbox (waiting_of ps) seq last).refused ps)
-assigned_pending inbox ps seq last =
-    numbers_pending last _ _ (each_pending ps seq _ _ (filter_passes (waits_under_another (waiting_of ps) seq) (once (ids_of inbox)))
+pub assigned_pending : (inbox : List Item) (ps : List Proposal) (seq lai assigned : ℕ)
+    → ArePending (assigned_of inbox (waiting_of ps) seq lai assigned).writes (without_all (assigned_of inbox (waiting_of ps) seq lai assigned).refused ps)
+assigned_pending inbox ps seq lai assigned =
+    numbers_pending (max assigned lai) _ _ (each_pending ps seq _ _ (filter_passes (waits_under_another (waiting_of ps) seq) (once (ids_of inbox)))
     (filter_passes (waits_under (waiting_of ps) seq) (once (ids_of inbox))))
 
 -- each item is an ask or a command
@@ -125,9 +127,10 @@ length_numbered last [] = refl
 length_numbered last (id ∷ ids) = ap suc (length_numbered (last + 1) ids)
 
 -- a flush makes no more entries than the inbox has items
-pub few_entries : (inbox : List Item) (ps : List Proposal) (waiting : List Waiting) (seq last : ℕ)
-    → length (asks_of inbox) + length (filter_map (write_of ps) (assigned_of inbox waiting seq last).writes) ≤ length inbox
-few_entries inbox ps waiting seq last =
+pub few_entries : (inbox : List Item) (ps : List Proposal) (waiting : List Waiting) (seq lai assigned : ℕ)
+    → length (asks_of inbox) + length (filter_map (write_of ps) (assigned_of inbox waiting seq lai assigned).writes) ≤ length inbox
+few_entries inbox ps waiting seq lai assigned =
+    let last = max assigned lai in
     let ids = once (ids_of inbox) in
     let proposed = filter (waits_under waiting seq) ids in
     let a = fewer_mapped (write_of ps) (numbered last proposed) in

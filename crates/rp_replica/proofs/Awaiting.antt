@@ -1,5 +1,5 @@
 -- A flush reads of what waits only what its inbox names.
-use Rattle.std.proofs.Common.{◌≡◌, ℕ, ◌+◌, ◌==◌, ◌&&◌, ◌||◌, Bool, true, false, cond, List, [], ◌∷◌, length, map, Option, None, Some, refl, sym, ap, subst, ◌∙◌, eq-eqb}
+use Rattle.std.proofs.Common.{◌≡◌, ℕ, ◌+◌, max, ◌==◌, ◌&&◌, ◌||◌, Bool, true, false, cond, List, [], ◌∷◌, length, map, Option, None, Some, refl, sym, ap, subst, ◌∙◌, eq-eqb}
 use Rattle.std.specs.Prelude.{not, option_and_then, option_map}
 use Rattle.std.specs.Option.{option_map_or}
 use Rattle.std.specs.List.{All, AllByRecursion, IsDistinct, cons_option, filter, find}
@@ -9,17 +9,18 @@ use Rattle.rp_base.specs.declared.items.Item.{Item}
 use Rattle.rp_base.specs.declared.items.Item.TheVariants.{Write, Lease}
 use Rattle.rp_request.specs.declared.commands.Waiting.{Waiting}
 use Rattle.rp_flush.specs.declared.assigns.Assigned.{Assigned}
-use Rattle.rp_flush.specs.Assigns.{same_id, asks_of, ids_of, once, seq_of, waits_under, waits_under_another, numbered, assigned_of}
+use Rattle.rp_base.specs.Ids.{same_id}
+use Rattle.rp_flush.specs.Assigns.{asks_of, ids_of, last_after, once, seq_of, waits_under, waits_under_another, numbered, assigned_of}
 use Rattle.rp_flush.specs.Counts.{stands}
 use Rattle.rp_pending.specs.declared.proposals.Proposal.{Proposal}
 use Rattle.rp_pending.specs.Proposals.{is_proposed, proposal_of}
 use Rattle.rp_pending.specs.Refreshes.{waits, waiting_of}
 use Rattle.rp_replica.specs.Waits.{waiting_in}
-use Rattle.rp_replica.proofs.Known.{one_id}
+use Rattle.rp_base.proofs.IdLaws.{same_is}
 
 -- the test of ids is the same from both sides
 swapped : (x y : CmdId) → same_id x y ≡ true → same_id y x ≡ true
-swapped x y h = subst (λ z. same_id z x ≡ true) (one_id x y h) (subst (λ z. same_id x z ≡ true) (sym (one_id x y h)) h)
+swapped x y h = subst (λ z. same_id z x ≡ true) (same_is x y h) (subst (λ z. same_id x z ≡ true) (sym (same_is x y h)) h)
 
 either_side : (x y : CmdId) (b c : Bool) → same_id x y ≡ b → same_id y x ≡ c → b ≡ c
 either_side x y true true h k = refl
@@ -51,7 +52,7 @@ none_has id (p ∷ ps) a = ap (λ b. cond b (Some p) (proposal_of id ps)) a.0 �
 
 alone : (id : CmdId) (p : Proposal) (ps : List Proposal) → IsDistinct same_id (map (λ (q : Proposal). q.id) (p ∷ ps)) → same_id p.id id ≡ true → proposal_of id ps ≡ None
 unfolding IsDistinct
-alone id p ps d e = subst (λ x. proposal_of x ps ≡ None) (one_id p.id id e) (none_has p.id ps d.0)
+alone id p ps d e = subst (λ x. proposal_of x ps ≡ None) (same_is p.id id e) (none_has p.id ps d.0)
 
 others_distinct : (p : Proposal) (ps : List Proposal) → IsDistinct same_id (map (λ (q : Proposal). q.id) (p ∷ ps)) → IsDistinct same_id (map (λ (q : Proposal). q.id) ps)
 unfolding IsDistinct
@@ -90,7 +91,7 @@ named id (p ∷ ps) w h = by (same_id id p.id) refl h (named id ps w)
   where
     by : (c : Bool) → same_id id p.id ≡ c → option_and_then waits (cond c (Some p) (proposal_of id ps)) ≡ Some w
         → (option_and_then waits (proposal_of id ps) ≡ Some w → id ≡ w.id) → id ≡ w.id
-    by true e k ih = one_id id p.id e ∙ waits_named (is_proposed p.stage) p w k
+    by true e k ih = same_is id p.id e ∙ waits_named (is_proposed p.stage) p w k
     by false e k ih = ih k
 
 none_by : (b : Bool) (o : Option ℕ) → o ≡ None → cond b o None ≡ o
@@ -101,10 +102,10 @@ item_more : (id k : CmdId) (ps : List Proposal) (s b : Bool) (o : Option Waiting
     → option_and_then waits (proposal_of k ps) ≡ o → seq_of ws id ≡ cond b (seq_when (proposal_of id ps)) None
     → seq_of (cons_option o ws) id ≡ cond (s || b) (seq_when (proposal_of id ps)) None
 item_more id k ps true b None ws e f ih =
-    let g : seq_when (proposal_of id ps) ≡ None = ap (λ x. seq_when (proposal_of x ps)) (sym (one_id k id e)) ∙ ap (option_map (λ (w : Waiting). w.seq)) f in
+    let g : seq_when (proposal_of id ps) ≡ None = ap (λ x. seq_when (proposal_of x ps)) (sym (same_is k id e)) ∙ ap (option_map (λ (w : Waiting). w.seq)) f in
     ih ∙ none_by b _ g
 item_more id k ps true b (Some w) ws e f ih =
-    let g : seq_when (proposal_of id ps) ≡ Some w.seq = ap (λ x. seq_when (proposal_of x ps)) (sym (one_id k id e)) ∙ ap (option_map (λ (w : Waiting). w.seq)) f in
+    let g : seq_when (proposal_of id ps) ≡ Some w.seq = ap (λ x. seq_when (proposal_of x ps)) (sym (same_is k id e)) ∙ ap (option_map (λ (w : Waiting). w.seq)) f in
     ap (λ d. option_map (λ (w : Waiting). w.seq) (cond d (Some w) (find (λ w. same_id w.id id) ws))) (subst (λ x. same_id x id ≡ true) (named k ps w f) e) ∙ sym g
 item_more id k ps false b None ws e f ih = ih
 item_more id k ps false b (Some w) ws e f ih =
@@ -155,24 +156,25 @@ filtered_same test f g (id ∷ ids) h =
     ap (λ o. cond (test o) (id ∷ filter (λ x. test (f x)) ids) (filter (λ x. test (f x)) ids)) (All-head (λ x. f x ≡ g x) id ids h)
     ∙ ap (λ l. cond (test (g id)) (id ∷ l) l) (filtered_same test f g ids (All-tail (λ x. f x ≡ g x) id ids h))
 
-abbrev with_lists : List Item → ℕ → List CmdId → List CmdId → Assigned
-with_lists inbox last proposed refused = record { leases = asks_of inbox; writes = numbered last proposed; refused = refused; last = last + length proposed }
+abbrev with_lists : List Item → (lai assigned : ℕ) → List CmdId → List CmdId → Assigned
+with_lists inbox lai assigned proposed refused =
+    record { leases = asks_of inbox; writes = numbered (max assigned lai) proposed; refused = refused; last = last_after lai assigned proposed }
 
-assigned_same : (inbox : List Item) (vs ws : List Waiting) (seq last : ℕ) → All (λ id. seq_of vs id ≡ seq_of ws id) (ids_of inbox)
-    → assigned_of inbox vs seq last ≡ assigned_of inbox ws seq last
-assigned_same inbox vs ws seq last h =
+assigned_same : (inbox : List Item) (vs ws : List Waiting) (seq lai assigned : ℕ) → All (λ id. seq_of vs id ≡ seq_of ws id) (ids_of inbox)
+    → assigned_of inbox vs seq lai assigned ≡ assigned_of inbox ws seq lai assigned
+assigned_same inbox vs ws seq lai assigned h =
     let each = all_once (λ id. seq_of vs id ≡ seq_of ws id) (ids_of inbox) h in
-    ap (λ l. with_lists inbox last l (filter (waits_under_another vs seq) (once (ids_of inbox)))) (filtered_same (λ o. option_map_or (λ s. s == seq) o false) (seq_of vs) (seq_of ws) _ each)
-    ∙ ap (with_lists inbox last (filter (waits_under ws seq) (once (ids_of inbox)))) (filtered_same (λ o. option_map_or (λ s. not (s == seq)) o false) (seq_of vs) (seq_of ws) _ each)
+    ap (λ l. with_lists inbox lai assigned l (filter (waits_under_another vs seq) (once (ids_of inbox)))) (filtered_same (λ o. option_map_or (λ s. s == seq) o false) (seq_of vs) (seq_of ws) _ each)
+    ∙ ap (with_lists inbox lai assigned (filter (waits_under ws seq) (once (ids_of inbox)))) (filtered_same (λ o. option_map_or (λ s. not (s == seq)) o false) (seq_of vs) (seq_of ws) _ each)
 
 -- so a flush may read what waits of its inbox alone
-pub read_of_inbox : (inbox : List Item) (ps : List Proposal) (seq last : ℕ) → IsDistinct same_id (map (λ (p : Proposal). p.id) ps)
-    → assigned_of inbox (waiting_in ps inbox) seq last ≡ assigned_of inbox (waiting_of ps) seq last
-read_of_inbox inbox ps seq last d =
-    assigned_same inbox (waiting_in ps inbox) (waiting_of ps) seq last (answer_same ps inbox (ids_of inbox) d (each_stands (ids_of inbox) (ids_of inbox) (λ id h. h)))
+pub read_of_inbox : (inbox : List Item) (ps : List Proposal) (seq lai assigned : ℕ) → IsDistinct same_id (map (λ (p : Proposal). p.id) ps)
+    → assigned_of inbox (waiting_in ps inbox) seq lai assigned ≡ assigned_of inbox (waiting_of ps) seq lai assigned
+read_of_inbox inbox ps seq lai assigned d =
+    assigned_same inbox (waiting_in ps inbox) (waiting_of ps) seq lai assigned (answer_same ps inbox (ids_of inbox) d (each_stands (ids_of inbox) (ids_of inbox) (λ id h. h)))
 
 -- the same of what a body has made
-pub read_of_items : (inbox items : List Item) (ps : List Proposal) (ws : List Waiting) (seq last : ℕ) → items ≡ inbox → ws ≡ waiting_in ps items
-    → IsDistinct same_id (map (λ (p : Proposal). p.id) ps) → assigned_of inbox ws seq last ≡ assigned_of inbox (waiting_of ps) seq last
-read_of_items inbox items ps ws seq last e w d =
-    ap (λ l. assigned_of inbox l seq last) (w ∙ ap (waiting_in ps) e) ∙ read_of_inbox inbox ps seq last d
+pub read_of_items : (inbox items : List Item) (ps : List Proposal) (ws : List Waiting) (seq lai assigned : ℕ) → items ≡ inbox → ws ≡ waiting_in ps items
+    → IsDistinct same_id (map (λ (p : Proposal). p.id) ps) → assigned_of inbox ws seq lai assigned ≡ assigned_of inbox (waiting_of ps) seq lai assigned
+read_of_items inbox items ps ws seq lai assigned e w d =
+    ap (λ l. assigned_of inbox l seq lai assigned) (w ∙ ap (waiting_in ps) e) ∙ read_of_inbox inbox ps seq lai assigned d

@@ -3,11 +3,11 @@ use Rattle.std.proofs.Common.{◌≡◌, ◌-◌, ℕ, zero, suc, Bool, true, fa
 use Rattle.std.specs.Prelude.{slice_get}
 use Rattle.std.proofs.lemmas.List.Elements.{All-nil, All-head, All-tail, All-append}
 use Rattle.rp_request.specs.declared.commands.Payload.{Payload}
-use Rattle.rp_codec.specs.Fits.{FitsPayload}
+use Rattle.rp_request.specs.Fits.{FitsPayload}
 use Rattle.rp_codec.proofs.SpellingLaws.{read_as_spelled}
 use Rattle.rp_raftlog.specs.LogState.{entry_at}
 use Rattle.rp_raftlog.specs.declared.entries.Entry.{Entry}
-use Rattle.rp_apply.specs.Applied.{AppliedState}
+use Rattle.rp_request.specs.Applied.{AppliedState}
 use Rattle.rp_replica.specs.declared.plans.ReplicaPlan.{ReplicaPlan}
 use Rattle.rp_replica.specs.declared.plans.ReplicaPlan.TheVariants.{Answers, Admits, Collects, Flushes, Applies}
 use Rattle.rp_replica.specs.declared.plans.Turn.{Turn}

@@ -5,7 +5,7 @@ use Rattle.std.specs.List.{All}
 use Rattle.std.specs.Prelude.{IsSome}
 use Rattle.std.proofs.lemmas.List.Elements.{All-nil, All-cons, All-head, All-tail}
 use Rattle.rp_base.specs.declared.ids.CmdId.{CmdId}
-use Rattle.rp_flush.specs.Assigns.{same_id}
+use Rattle.rp_base.proofs.IdLaws.{same_is}
 use Rattle.rp_pending.specs.declared.proposals.Proposal.{Proposal}
 use Rattle.rp_pending.specs.Proposals.{has_id, proposal_of, without, with_changed, proposed}
 use Rattle.rp_replica.specs.Flushes.{without_all, proposed_all}
@@ -37,24 +37,10 @@ still_pending (w ∷ ws) other max now round ps h =
     All-cons (λ (v : CmdId × ℕ). IsSome (proposal_of v.0 (with_changed other (proposed max now round) ps))) w ws
     (known_changed w.0 other max now round ps ∙ known) (still_pending ws other max now round ps rest)
 
-and_true : (a b : Bool) → (a && b) ≡ true → (a ≡ true) × (b ≡ true)
-and_true true b h = (refl, h)
-and_true false b h = cc
-
--- ids that are the same by the test are one
-pub one_id : (x y : CmdId) → same_id x y ≡ true → x ≡ y
-one_id x y h =
-    let last = and_true _ _ h in
-    let first = and_true _ _ last.0 in
-    let p = eqb-true _ _ first.0 in
-    let q = eqb-true _ _ first.1 in
-    let r = eqb-true _ _ last.1 in
-    λ i. record { client = p i; seq = q i; attempt = r i }
-
 -- the proposal of an id is not one of another id
 some_without : (id other : CmdId) (p : Proposal) (qs : List Proposal) (b c : Bool) → has_id other p ≡ b → has_id id p ≡ c → (id ≡ other → ⊥)
     → is_some (proposal_of id (cond (not b) (p ∷ qs) qs)) ≡ is_some (cond c (Some p) (proposal_of id qs))
-some_without id other p qs true true e d apart = absurd (apart (one_id id p.id d ∙ sym (one_id other p.id e)))
+some_without id other p qs true true e d apart = absurd (apart (same_is id p.id d ∙ sym (same_is other p.id e)))
 some_without id other p qs true false e d apart = refl
 some_without id other p qs false c e d apart = ap (λ t. is_some (cond t (Some p) (proposal_of id qs))) d
 

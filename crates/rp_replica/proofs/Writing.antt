@@ -8,7 +8,7 @@ use Rattle.rp_base.specs.declared.leases.Lease as leases
 use Rattle.rp_base.specs.declared.leases.LeaseAsk.{LeaseAsk}
 use Rattle.rp_request.specs.declared.commands.Payload.{Payload}
 use Rattle.rp_request.specs.declared.commands.Payload.TheVariants as payloads
-use Rattle.rp_codec.specs.Fits.{FitsPayload}
+use Rattle.rp_request.specs.Fits.{FitsPayload}
 use Rattle.rp_flush.specs.Assigns.{assigned_of}
 use Rattle.rp_flush.specs.declared.assigns.Assigned.{Assigned}
 use Rattle.rp_pending.specs.Refreshes.{waiting_of}
@@ -47,12 +47,12 @@ both_fit (x ∷ xs) ys h k = (h.0, both_fit xs ys h.1 k)
 -- of what a body has made
 pub writes_fit : (r : Replica) (lease : leases.Lease) (lai : ℕ) (a : Assigned) (asks : List LeaseAsk) (writes : List (CmdId × ℕ))
     → lease ≡ r.applied.state.lease → lai ≡ r.applied.state.lai
-    → a ≡ assigned_of r.inbox (waiting_of r.pending) lease.seq (max r.assigned lai) → asks ≡ a.leases → writes ≡ a.writes
+    → a ≡ assigned_of r.inbox (waiting_of r.pending) lease.seq lai r.assigned → asks ≡ a.leases → writes ≡ a.writes
     → AllByRecursion FitsPayload (map payloads.Lease asks) → AllByRecursion FitsPayload (filter_map (write_of r.pending) writes) → WritesFit r
 writes_fit r lease lai a asks writes l i e ls ws fa fw =
     let is : a ≡ assigning r =
-    e ∙ ap (λ l. assigned_of r.inbox (waiting_of r.pending) l.seq (max r.assigned lai)) l
-    ∙ ap (λ n. assigned_of r.inbox (waiting_of r.pending) r.applied.state.lease.seq (max r.assigned n)) i in
+    e ∙ ap (λ l. assigned_of r.inbox (waiting_of r.pending) l.seq lai r.assigned) l
+    ∙ ap (λ n. assigned_of r.inbox (waiting_of r.pending) r.applied.state.lease.seq n r.assigned) i in
     record {
       each = subst (λ b. AllByRecursion FitsPayload (payloads_of r.pending b)) is
           (both_fit _ _ (subst (λ l. AllByRecursion FitsPayload (map payloads.Lease l)) ls fa) (subst (λ l. AllByRecursion FitsPayload (filter_map (write_of r.pending) l)) ws fw));

@@ -7,8 +7,8 @@ use Rattle.rp_request.specs.declared.outcomes.Refusal.TheVariants.{NotLeaseHolde
 use Rattle.rp_request.specs.declared.requests.Request.{Request}
 use Rattle.rp_latch.specs.Holds.{answer}
 use Rattle.rp_latch.specs.declared.holds.Held.{Held}
-use Rattle.rp_eval.specs.Evaluations.{evaluated}
-use Rattle.rp_eval.specs.declared.evaluations.Evaluated.{Evaluated}
+use Rattle.rp_request.specs.Evaluations.{evaluated}
+use Rattle.rp_request.specs.declared.evaluations.Evaluated.{Evaluated}
 use Rattle.rp_pending.specs.declared.proposals.Proposal.{Proposal}
 use Rattle.rp_pending.specs.declared.proposals.Stage.TheVariants as stages
 use Rattle.rp_replica.specs.declared.events.EventAnswer.TheVariants as answers

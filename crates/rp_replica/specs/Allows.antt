@@ -3,7 +3,7 @@ use Rattle.std.specs.Prelude.{◌≡◌, ◌+◌, ◌-◌, ◌<◌, ◌^◌, max
 use Rattle.rp_raftlog.specs.LogState.{last_index, entry_at}
 use Rattle.rp_raftlog.specs.declared.entries.Entry.{Entry}
 use Rattle.rp_request.specs.declared.commands.Payload.{Payload}
-use Rattle.rp_apply.specs.Rooms.{Fits}
+use Rattle.rp_request.specs.Applicable.{Fits}
 use Rattle.rp_pending.specs.Proposals.{proposal_of}
 use Rattle.rp_replica.specs.declared.events.ReplicaEvent.{ReplicaEvent}
 use Rattle.rp_replica.specs.declared.events.ReplicaEvent.TheVariants.{Admit, Collect, Flush, Apply, Peek}

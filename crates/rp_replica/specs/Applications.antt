@@ -14,10 +14,10 @@ use Rattle.rp_raftlog.specs.declared.entries.Entry.{Entry}
 use Rattle.rp_latch.specs.Holds.{is_of_other}
 use Rattle.rp_codec.specs.Reading.{payload_in}
 use Rattle.rp_codec.specs.declared.faults.BadField.{BadField}
-use Rattle.rp_apply.specs.Applied.{command_verdict}
-use Rattle.rp_apply.specs.History as history
-use Rattle.rp_apply.specs.declared.verdicts.Verdict as verdict_type
-use Rattle.rp_apply.specs.declared.verdicts.Verdict.TheVariants as verdicts
+use Rattle.rp_request.specs.Applied.{command_verdict}
+use Rattle.rp_request.specs.History as history
+use Rattle.rp_request.specs.declared.verdicts.Verdict as verdict_type
+use Rattle.rp_request.specs.declared.verdicts.Verdict.TheVariants as verdicts
 use Rattle.rp_pending.specs.Proposals.{proposal_of, with_changed, without, waiting_again}
 use Rattle.rp_pending.specs.declared.proposals.Proposal.{Proposal}
 use Rattle.rp_pending.specs.declared.proposals.Stage.{Stage}

@@ -1,8 +1,9 @@
 -- Flush: the inbox becomes payloads in the log, each command under a lease index (after CockroachDB's proposal
 -- buffer, whose flush gives the maximum lease indexes under the replica's lock).
-use Rattle.std.specs.Prelude.{ℕ, max, List, [], ◌∷◌, ◌++◌, map, filter_map, Option, None, Some}
+use Rattle.std.specs.Prelude.{ℕ, List, [], ◌∷◌, ◌++◌, map, filter_map, Option, None, Some}
 use Rattle.std.specs.Option.{option_map}
 use Rattle.std.specs.List.{filter}
+use Rattle.rp_base.specs.Limits.{first_term}
 use Rattle.rp_base.specs.declared.ids.CmdId.{CmdId}
 use Rattle.rp_base.specs.declared.leases.Lease as leases
 use Rattle.rp_request.specs.declared.commands.Command.{Command}
@@ -41,11 +42,7 @@ listed (Some p) = p ∷ []
 abbrev pub payloads_of : List Proposal → Assigned → List Payload
 payloads_of ps a = map payloads.Lease a.leases ++ filter_map (write_of ps) a.writes
 
--- the term of the entries, for as long as no other leader stands
-abbrev pub first_term : ℕ
-first_term = 1
-
--- a payload as an entry of the log
+-- a payload as an entry of the log, in the first term for as long as no other leader stands
 abbrev pub entry_of : Payload → Entry
 entry_of p = record { term = first_term; payload = spelling p }
 
@@ -84,4 +81,4 @@ flushed_by r a ticks round = record {
 -- a flush, at a tick and in a round of the node
 abbrev pub flushed : Replica → (ticks round : ℕ) → Done
 flushed r ticks round =
-    flushed_by r (assigned_of r.inbox (waiting_of r.pending) r.applied.state.lease.seq (max r.assigned r.applied.state.lai)) ticks round
+    flushed_by r (assigned_of r.inbox (waiting_of r.pending) r.applied.state.lease.seq r.applied.state.lai r.assigned) ticks round

@@ -5,7 +5,8 @@ use Rattle.rp_base.specs.declared.ids.CmdId.{CmdId}
 use Rattle.rp_request.specs.Covers.{spans_of}
 use Rattle.rp_raftlog.specs.LogState.{appended, last_index}
 use Rattle.rp_latch.specs.Holds.{answer}
-use Rattle.rp_apply.specs.Rooms.{IsWithin, needed, Fits}
+use Rattle.rp_request.specs.Applicable.{Fits}
+use Rattle.rp_apply.specs.Rooms.{IsWithin, needed}
 use Rattle.rp_apply.specs.Rooms as applies
 use Rattle.rp_pending.specs.Proposals.{proposal_of}
 use Rattle.rp_pending.specs.declared.proposals.Proposal.{Proposal}

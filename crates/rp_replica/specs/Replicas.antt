@@ -4,9 +4,9 @@ use Rattle.rp_base.specs.declared.items.Item.{Item}
 use Rattle.rp_raftlog.specs.LogState.{LogState, last_index, log_at}
 use Rattle.rp_latch.specs.declared.holds.Hold.{Hold}
 use Rattle.rp_pending.specs.declared.proposals.Proposal.{Proposal}
-use Rattle.rp_apply.specs.Applied.{AppliedState}
-use Rattle.rp_apply.specs.History.{History}
-use Rattle.rp_apply.specs.History as history
+use Rattle.rp_request.specs.Applied.{AppliedState}
+use Rattle.rp_request.specs.History.{History}
+use Rattle.rp_request.specs.History as history
 use Rattle.rp_replica.specs.declared.events.Ended.{Ended}
 use Rattle.rp_replica.specs.declared.events.EventAnswer.{EventAnswer}
 

@@ -1,7 +1,8 @@
 ghost use Rattle.std.specs.Prelude.{◌≡◌, ◌≤◌, ◌==◌, IfOk, Result};
 ghost use Rattle.rp_request.specs.declared.outcomes.Refusal.{Refusal};
-ghost use Rattle.rp_eval.specs.Evaluations.{Gives, evaluated};
-ghost use Rattle.rp_eval.specs.declared.evaluations.Evaluated.{Evaluated};
+ghost use Rattle.rp_request.specs.Evaluations.{evaluated};
+ghost use Rattle.rp_eval.specs.Faults.{Gives};
+ghost use Rattle.rp_request.specs.declared.evaluations.Evaluated.{Evaluated};
 ghost use Rattle.rp_replica.specs.Replicas.{Replica};
 ghost use Rattle.rp_replica.specs.Admissions.{guarded, admitted, with_proposal, proposal};
 ghost use Rattle.rp_replica.specs.Plans.{Makes, AdmitFits};
@@ -17,18 +18,17 @@ use rp_request::{Refusal, Request};
 use std::alloc::Global;
 
 /// An evaluation's answer as what a client is told of it, apart from want of memory.
-fn told(answer: Result<Evaluated, EvalFault>) -> Result<Result<Evaluated, Refusal>, NoMemory>
-    ensures { (v : Result Evaluated Refusal) → Gives answer v → IfOk result (λ told. told ≡ v) }
+fn refusal_apart(
+    answer: Result<Evaluated, EvalFault>,
+) -> Result<Result<Evaluated, Refusal>, NoMemory>
+    ensures { (v : Result Evaluated Refusal) → Gives answer v → IfOk result (λ answered. answered ≡ v) }
 {
     match answer {
         Ok(evaluated) => Ok(Ok(evaluated)),
-        Err(EvalFault::ConditionFailed { actual }) => Ok(Err(Refusal::ConditionFailed { actual })),
-        Err(EvalFault::Overflow { actual }) => Ok(Err(Refusal::Overflow { actual })),
-        Err(EvalFault::Short { actual }) => Ok(Err(Refusal::Short { actual })),
-        Err(EvalFault::TooWide { count }) => Ok(Err(Refusal::TooWide { count })),
-        Err(EvalFault::NotInside) => Ok(Err(Refusal::NotInside)),
-        Err(EvalFault::SplitLimit { level }) => Ok(Err(Refusal::SplitLimit { level })),
-        Err(EvalFault::NoMemory) => Err(NoMemory),
+        Err(fault) => match fault.refusal() {
+            Some(refusal) => Ok(Err(refusal)),
+            None => Err(NoMemory),
+        },
     }
 }
 
@@ -79,7 +79,7 @@ impl Replica {
             }));
         }
         let desc = self.applied.desc();
-        told(evaluate(alloc, self.applied.table(), desc, *request))
+        refusal_apart(evaluate(alloc, self.applied.table(), desc, *request))
     }
 
     pub(crate) fn plan_admission(

@@ -4,7 +4,7 @@ ghost use Rattle.rp_replica.specs.Applications.{applied, is_own, is_own_command,
 ghost use Rattle.rp_replica.specs.Allows.{MayApply};
 ghost use Rattle.rp_replica.specs.Plans.{Makes, ApplicationFits, IsKnown};
 ghost use Rattle.rp_replica.specs.declared.events.EventAnswer.TheVariants as answers;
-ghost use Rattle.rp_apply.specs.Applied.{verdict};
+ghost use Rattle.rp_request.specs.Applied.{verdict};
 ghost use Rattle.rp_apply.specs.Rooms.{IsWithin, needed};
 ghost use Rattle.rp_replica.specs.Plans.{items_of};
 ghost use Rattle.rp_raftlog.specs.declared.entries.Entry.{Entry};

@@ -1,4 +1,4 @@
-use rp_base::{CmdId, Key, Seq};
+use rp_base::{CmdId, Key, Seq, Value};
 use rp_request::{Outcome, Refusal, Request};
 
 /// What happens at one replica (this project's events, after CockroachDB's way of a write).
@@ -28,7 +28,7 @@ pub enum EventAnswer {
     /// The attempt was refused, and never takes effect.
     Refused(Refusal),
     /// The applied value, `None` for no value, and the applied index.
-    Value { value: Option<u64>, applied: u64 },
+    Value { value: Option<Value>, applied: u64 },
 }
 
 /// How an attempt ended that had been admitted.

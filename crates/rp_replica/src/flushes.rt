@@ -8,14 +8,14 @@ ghost use Rattle.rp_replica.specs.Allows.{MayFlush};
 ghost use Rattle.rp_replica.specs.Plans.{Makes, FlushFits, ArePending, after_flush};
 ghost use Rattle.rp_replica.specs.Carried.{Carries, EachCarries};
 ghost use Rattle.rp_replica.specs.Writes.{WritesFit};
-ghost use Rattle.rp_codec.specs.Fits.{FitsPayload};
+ghost use Rattle.rp_request.specs.Fits.{FitsPayload};
 ghost use Rattle.std.specs.List.{AllByRecursion};
 
 use crate::events::{Effects, Ended, EventAnswer, Outcomes};
 use crate::plans::{FlushPlan, ReplicaPlan};
 use crate::replicas::Replica;
 use crate::waits::assign_inbox;
-use rp_base::{CmdId, Lease, LeaseAsk, LeaseIndex, NoMemory, Tick};
+use rp_base::{CmdId, FIRST_TERM, Lease, LeaseAsk, LeaseIndex, NoMemory, Tick};
 use rp_codec::encode;
 use rp_flush::Assigned;
 use rp_latch::Latches;
@@ -23,9 +23,6 @@ use rp_pending::{Pending, Proposal};
 use rp_raftlog::{Entries, Entry, Log};
 use rp_request::{Command, Outcome, Payload, Refusal};
 use std::alloc::Global;
-
-/// The term of the entries, for as long as no other leader stands.
-const FIRST_TERM: u64 = 1;
 
 /// A payload as an entry of the log.
 fn entry(alloc: Global, payload: &Payload) -> Result<Entry, NoMemory>

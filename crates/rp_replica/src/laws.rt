@@ -1,10 +1,10 @@
 //! Laws of the events of a replica, for the proofs above. No program calls these functions.
 ghost use Rattle.std.specs.Prelude.{◌≡◌, ℕ, Some};
 ghost use Rattle.rp_request.specs.declared.commands.Payload.{Payload};
-ghost use Rattle.rp_codec.specs.Fits.{FitsPayload};
+ghost use Rattle.rp_request.specs.Fits.{FitsPayload};
 ghost use Rattle.rp_raftlog.specs.LogState.{entry_at};
 ghost use Rattle.rp_raftlog.specs.declared.entries.Entry.{Entry};
-ghost use Rattle.rp_apply.specs.Applied.{AppliedState};
+ghost use Rattle.rp_request.specs.Applied.{AppliedState};
 ghost use Rattle.rp_replica.specs.declared.plans.ReplicaPlan.{ReplicaPlan};
 ghost use Rattle.rp_replica.specs.Replicas.{Replica, Done, started};
 ghost use Rattle.rp_replica.specs.Applications.{payload_of};

@@ -31,7 +31,7 @@ pub struct Replica {
 
 impl Model for Replica {
     ghost use Rattle.std.specs.Coded.{codes};
-    ghost use Rattle.rp_request.specs.Table.{table_code};
+    ghost use Rattle.rp_base.specs.Tables.{table_code};
     ghost use Rattle.rp_replica.specs.Held.{Held};
 
     ghost Value = { Held };

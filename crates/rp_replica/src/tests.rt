@@ -1,5 +1,5 @@
 ghost use Rattle.std.specs.Prelude.{IsTrue};
-ghost use Rattle.rp_apply.specs.Rooms.{Fits};
+ghost use Rattle.rp_request.specs.Applicable.{Fits};
 ghost use Rattle.rp_replica.specs.Allows.{Allows, MayApply, MayFlush};
 
 use crate::{Effects, Ended, EventAnswer, Replica, ReplicaEvent};

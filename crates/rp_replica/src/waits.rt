@@ -4,9 +4,9 @@ ghost use Rattle.rp_pending.specs.Refreshes.{waiting_of};
 ghost use Rattle.rp_replica.specs.Waits.{waiting_in, waits_in};
 
 use rp_base::{Item, Items, Lease, LeaseIndex, NoMemory};
-use rp_flush::{Assigned, WaitList, assign};
+use rp_flush::{Assigned, assign};
 use rp_pending::{Pending, Stage};
-use rp_request::Waiting;
+use rp_request::{WaitList, Waiting};
 use std::alloc::Global;
 
 /// The attempt that an item names, where it is pending and waits.
@@ -52,7 +52,7 @@ pub(crate) fn assign_inbox(
     assigned: LeaseIndex,
 ) -> Result<Assigned, NoMemory>
     requires { max assigned lai + length inbox.now.list < 2 ^ 64 }
-    ensures { IfOk result (λ all. all ≡ assigned_of inbox.now.list (waiting_of pending.now.list) lease.seq (max assigned lai)) }
+    ensures { IfOk result (λ all. all ≡ assigned_of inbox.now.list (waiting_of pending.now.list) lease.seq lai assigned) }
 {
     // An id is looked up, so none may stand twice.
     pending.ids_are_distinct();

@@ -11,7 +11,7 @@ use Rattle.std.proofs.lemmas.Cmp.{on_total, then_total, nat_cmp_total}
 use Rattle.std.proofs.lemmas.List.Folds.{list_any-append}
 use Rattle.std.proofs.lemmas.Map.Views.{btree_set_len-from_list}
 use Rattle.std.proofs.lemmas.List.{take_more, take_all, map-append}
-use Rattle.rp_request.specs.declared.notes.Answer.{Answer}
+use Rattle.rp_request.specs.declared.notes.ReplyLine.{ReplyLine}
 use Rattle.rp_report.specs.Summary.{command_of, same_command, commands_among}
 
 -- commands by client, then by number
@@ -37,7 +37,7 @@ unique_alike e f alike [] = refl
 unique_alike e f alike (x ∷ xs) = rw (member_alike e f alike x xs, unique_alike e f alike xs)
 
 -- a set has exactly the commands that the answers name
-pub record HasCommands (answers : List Answer) (s : BTreeSet (ℕ × ℕ)) : Type 0 where
+pub record HasCommands (answers : List ReplyLine) (s : BTreeSet (ℕ × ℕ)) : Type 0 where
   pub keys : (q : ℕ × ℕ) → contains command_order s q ≡ is_member (eq_by_cmp command_order) (map command_of answers) q
   pub ordered : IsOrdered command_order s
 
@@ -54,7 +54,7 @@ either true false c m same before = absurd (cc)
 either false true c m same before = absurd (cc)
 
 -- one answer more
-pub one_more : (answers : List Answer) (i : ℕ) (a d : Answer) (s n : BTreeSet (ℕ × ℕ)) → i < length answers → a ≡ get_or answers i d
+pub one_more : (answers : List ReplyLine) (i : ℕ) (a d : ReplyLine) (s n : BTreeSet (ℕ × ℕ)) → i < length answers → a ≡ get_or answers i d
     → HasCommands (take i answers) s → Updates command_order s n (command_of a) true → IsOrdered command_order n → HasCommands (take (i + 1) answers) n
 one_more answers i a d s n here is before put ordered = record {
   keys = λ q.
@@ -67,11 +67,11 @@ one_more answers i a d s n here is before put ordered = record {
   ordered = ordered;
 }
 
-pub counted : (answers : List Answer) (s : BTreeSet (ℕ × ℕ)) → HasCommands answers s → btree_set_len s ≡ commands_among answers
+pub counted : (answers : List ReplyLine) (s : BTreeSet (ℕ × ℕ)) → HasCommands answers s → btree_set_len s ≡ commands_among answers
 counted answers s h =
     btree_set_len-from_list command_order_total (map command_of answers) s (h.keys, h.ordered)
     ∙ ap length (unique_alike (eq_by_cmp command_order) same_command is_same (map command_of answers))
 
 -- all answers
-pub counted_all : (answers : List Answer) (i : ℕ) (s : BTreeSet (ℕ × ℕ)) → length answers ≤ i → HasCommands (take i answers) s → btree_set_len s ≡ commands_among answers
+pub counted_all : (answers : List ReplyLine) (i : ℕ) (s : BTreeSet (ℕ × ℕ)) → length answers ≤ i → HasCommands (take i answers) s → btree_set_len s ≡ commands_among answers
 counted_all answers i s all h = counted (take i answers) s h ∙ ap commands_among (take_all i answers all)

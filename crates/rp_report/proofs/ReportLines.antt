@@ -10,7 +10,7 @@ use Rattle.rp_base.specs.declared.Lease.{Lease}
 use Rattle.rp_request.specs.declared.items.Record.{Record}
 use Rattle.rp_request.specs.declared.items.Record.TheVariants.{Took, Passed}
 use Rattle.rp_request.specs.declared.notes.Note.{Note}
-use Rattle.rp_request.specs.declared.notes.Answer.{Answer}
+use Rattle.rp_request.specs.declared.notes.ReplyLine.{ReplyLine}
 use Rattle.rp_script.specs.Words.{begun_with}
 use Rattle.rp_report.specs.declared.views.Row.{Row}
 use Rattle.rp_report.specs.declared.views.ReplicaView.{ReplicaView}
@@ -105,14 +105,14 @@ note_shown n h =
     (one_append (codes "note" ++ spaced n.line ++ codes " ") n.text
     (one_append (codes "note" ++ spaced n.line) (codes " ") (one_append (codes "note") (spaced n.line) (one_literal (codes "note") refl) (one_number n.line h.0)) (one_literal (codes " ") refl)) h.1) refl
 
-attempt_one : (a : Answer) → IsAnswer a → IsOneLine (attempt_text (attempt_of a))
+attempt_one : (a : ReplyLine) → IsAnswer a → IsOneLine (attempt_text (attempt_of a))
 attempt_one a h =
     one_append (decimal a.client ++ codes "." ++ decimal a.seq) (spaced a.attempt)
     (one_append (decimal a.client ++ codes ".") (decimal a.seq)
     (one_append (decimal a.client) (codes ".") (one_letters (decimal a.client) (number_word a.client h.0.0).letters) (one_literal (codes ".") refl))
     (one_letters (decimal a.seq) (number_word a.seq h.0.1).letters)) (one_number a.attempt h.0.2)
 
-answer_shown : (a : Answer) → IsAnswer a → Shows (answer_line a) []
+answer_shown : (a : ReplyLine) → IsAnswer a → Shows (answer_line a) []
 answer_shown a h =
     other_line (codes "reply " ++ attempt_text (attempt_of a) ++ codes " " ++ end_text a.end)
     (one_append (codes "reply " ++ attempt_text (attempt_of a) ++ codes " ") (end_text a.end)

@@ -7,7 +7,7 @@ use Rattle.rp_base.specs.declared.Desc.{Desc}
 use Rattle.rp_base.specs.declared.Lease.{Lease}
 use Rattle.rp_request.specs.declared.items.Record.{Record}
 use Rattle.rp_request.specs.declared.notes.Note.{Note}
-use Rattle.rp_request.specs.declared.notes.Answer.{Answer}
+use Rattle.rp_request.specs.declared.notes.ReplyLine.{ReplyLine}
 use Rattle.rp_report.specs.declared.views.Row.{Row}
 use Rattle.rp_report.specs.declared.views.ReplicaView.{ReplicaView}
 use Rattle.rp_report.specs.declared.views.ReplicaView.TheVariants.{Live, Removed, Absent}
@@ -22,11 +22,11 @@ abbrev pub note_line : Note → List ℕ
 note_line note = codes "note" ++ spaced note.line ++ codes " " ++ note.text ++ newline
 
 -- the attempt that an answer names
-abbrev pub attempt_of : Answer → CmdId
+abbrev pub attempt_of : ReplyLine → CmdId
 attempt_of answer = record { client = answer.client; seq = answer.seq; attempt = answer.attempt }
 
 -- how an attempt ended
-abbrev pub answer_line : Answer → List ℕ
+abbrev pub answer_line : ReplyLine → List ℕ
 answer_line answer = codes "reply " ++ attempt_text (attempt_of answer) ++ codes " " ++ end_text answer.end ++ newline
 
 -- a range's number and its bounds

@@ -8,7 +8,7 @@ use Rattle.rp_request.specs.declared.outcomes.Outcome.{Outcome}
 use Rattle.rp_request.specs.declared.outcomes.Outcome.TheVariants.{Refused}
 use Rattle.rp_request.specs.declared.outcomes.End.{End}
 use Rattle.rp_request.specs.declared.outcomes.End.TheVariants as ends
-use Rattle.rp_request.specs.declared.notes.Answer.{Answer}
+use Rattle.rp_request.specs.declared.notes.ReplyLine.{ReplyLine}
 use Rattle.rp_report.specs.declared.views.RangeView.{RangeView}
 use Rattle.rp_report.specs.declared.views.View.{View}
 
@@ -33,7 +33,7 @@ IsShownEnd (ends.Tries last) = IsShownRefusal last
 IsShownEnd ends.Unsent = Unit {0}
 
 -- an answer can be shown
-abbrev pub IsShownAnswer : Answer → Type 0
+abbrev pub IsShownAnswer : ReplyLine → Type 0
 IsShownAnswer answer = IsShownEnd answer.end
 
 -- the bounds of a range can be shown

@@ -7,20 +7,20 @@ use Rattle.rp_request.specs.declared.outcomes.End.{End}
 use Rattle.rp_request.specs.declared.outcomes.End.TheVariants as ends
 use Rattle.rp_request.specs.declared.items.Record.{Record}
 use Rattle.rp_request.specs.declared.items.Record.TheVariants.{Took, Passed}
-use Rattle.rp_request.specs.declared.notes.Answer.{Answer}
+use Rattle.rp_request.specs.declared.notes.ReplyLine.{ReplyLine}
 use Rattle.rp_report.specs.declared.views.RangeView.{RangeView}
 use Rattle.rp_report.specs.declared.views.View.{View}
 use Rattle.rp_report.specs.Words.{newline, spaced}
 
 -- the command that an answer names: its client, and its number among the client's commands
-abbrev pub command_of : Answer → ℕ × ℕ
+abbrev pub command_of : ReplyLine → ℕ × ℕ
 command_of answer = (answer.client, answer.seq)
 
 abbrev pub same_command : ℕ × ℕ → ℕ × ℕ → Bool
 same_command a b = a.0 == b.0 && a.1 == b.1
 
 -- how many different commands the answers name
-abbrev pub commands_among : List Answer → ℕ
+abbrev pub commands_among : List ReplyLine → ℕ
 commands_among answers = distinct_count same_command (map command_of answers)
 
 -- the attempt took effect
@@ -46,7 +46,7 @@ is_pending ends.Unsent = true
 is_pending _ = false
 
 -- how many answers end so
-abbrev pub ending : (End → Bool) → List Answer → ℕ
+abbrev pub ending : (End → Bool) → List ReplyLine → ℕ
 ending p answers = count_by (λ a. p a.end) answers
 
 -- an entry took effect
@@ -67,13 +67,13 @@ abbrev pub count_line : List ℕ → ℕ → List ℕ
 count_line word n = word ++ spaced n ++ newline
 
 -- how the attempts ended
-abbrev pub ending_lines : List Answer → List ℕ
+abbrev pub ending_lines : List ReplyLine → List ℕ
 ending_lines answers =
     count_line (codes "ok") (ending is_success answers) ++ count_line (codes "refused") (ending is_refused answers)
     ++ count_line (codes "ambiguous") (ending is_ambiguous answers) ++ count_line (codes "pending") (ending is_pending answers)
 
 -- the commands and their attempts, each line of a reply being one attempt
-abbrev pub answer_counts : List Answer → List ℕ
+abbrev pub answer_counts : List ReplyLine → List ℕ
 answer_counts answers =
     count_line (codes "commands") (commands_among answers) ++ count_line (codes "attempts") (length answers) ++ ending_lines answers
 

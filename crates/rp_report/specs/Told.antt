@@ -21,7 +21,7 @@ use Rattle.rp_request.specs.declared.items.Place.TheVariants as places
 use Rattle.rp_request.specs.declared.items.Record.{Record}
 use Rattle.rp_request.specs.declared.items.Record.TheVariants.{Took, Passed}
 use Rattle.rp_request.specs.declared.notes.Note.{Note}
-use Rattle.rp_request.specs.declared.notes.Answer.{Answer}
+use Rattle.rp_request.specs.declared.notes.ReplyLine.{ReplyLine}
 use Rattle.rp_report.specs.declared.views.Row.{Row}
 use Rattle.rp_report.specs.declared.views.ReplicaView.{ReplicaView}
 use Rattle.rp_report.specs.declared.views.ReplicaView.TheVariants.{Live, Removed, Absent}
@@ -146,7 +146,7 @@ IsOneLine (b ∷ bytes) = ((b == 10) ≡ false) × IsOneLine bytes
 abbrev pub IsNote : Note → Type 0
 IsNote note = Fits note.line × IsOneLine note.text
 
-abbrev pub IsAnswer : Answer → Type 0
+abbrev pub IsAnswer : ReplyLine → Type 0
 IsAnswer answer = IsAttempt (attempt_of answer) × IsEnd answer.end
 
 abbrev pub IsRow : Row → Type 0

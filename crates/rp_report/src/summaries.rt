@@ -4,12 +4,12 @@ ghost use Rattle.rp_report.specs.Summary.{commands_among, is_success, is_refused
 use crate::views::{RangeView, View};
 use crate::words::{push_number_line, push_wide};
 use rp_base::{NoMemory, Text, push_word};
-use rp_request::{Answer, End, Outcome, Record};
+use rp_request::{ReplyLine, End, Outcome, Record};
 use std::alloc::Global;
 use std::collections::BTreeSet;
 
 /// How many different commands the replies name.
-fn commands_among(alloc: Global, replies: &[Answer]) -> Result<usize, NoMemory>
+fn commands_among(alloc: Global, replies: &[ReplyLine]) -> Result<usize, NoMemory>
     ensures { IfOk result (λ n. n ≡ commands_among replies.now) }
 {
     let mut commands = BTreeSet::new(alloc);
@@ -43,7 +43,7 @@ fn is_pending(end: &End) -> bool
     matches!(end, End::Outcome(Outcome::Pending) | End::Unsent)
 }
 
-fn successes(replies: &[Answer]) -> usize
+fn successes(replies: &[ReplyLine]) -> usize
     ensures { result ≡ ending is_success replies.now }
 {
     replies
@@ -52,7 +52,7 @@ fn successes(replies: &[Answer]) -> usize
         .count()
 }
 
-fn refusals(replies: &[Answer]) -> usize
+fn refusals(replies: &[ReplyLine]) -> usize
     ensures { result ≡ ending is_refused replies.now }
 {
     replies
@@ -61,7 +61,7 @@ fn refusals(replies: &[Answer]) -> usize
         .count()
 }
 
-fn ambiguities(replies: &[Answer]) -> usize
+fn ambiguities(replies: &[ReplyLine]) -> usize
     ensures { result ≡ ending is_ambiguous replies.now }
 {
     replies
@@ -70,7 +70,7 @@ fn ambiguities(replies: &[Answer]) -> usize
         .count()
 }
 
-fn pendings(replies: &[Answer]) -> usize
+fn pendings(replies: &[ReplyLine]) -> usize
     ensures { result ≡ ending is_pending replies.now }
 {
     replies
@@ -136,7 +136,7 @@ fn push_wide_line(out: &mut Text, word: &str, n: u128) -> Result<(), NoMemory>
 }
 
 /// How the attempts ended.
-fn push_endings(out: &mut Text, replies: &[Answer]) -> Result<(), NoMemory>
+fn push_endings(out: &mut Text, replies: &[ReplyLine]) -> Result<(), NoMemory>
     ensures { OnOk result (out.new ≡ out.old ++ ending_lines replies.now) }
 {
     push_number_line(out, "ok", successes(replies) as u64)?;
@@ -146,7 +146,7 @@ fn push_endings(out: &mut Text, replies: &[Answer]) -> Result<(), NoMemory>
 }
 
 /// The commands and their attempts.
-fn push_answer_counts(out: &mut Text, replies: &[Answer]) -> Result<(), NoMemory>
+fn push_answer_counts(out: &mut Text, replies: &[ReplyLine]) -> Result<(), NoMemory>
     ensures { OnOk result (out.new ≡ out.old ++ answer_counts replies.now) }
 {
     let commands = commands_among(out.alloc(), replies)?;

@@ -7,7 +7,7 @@ use rp_base::{
     push_word,
 };
 use rp_request::{
-    Ambiguity, Answer, End, Note, Outcome, Place, Record, Refusal, Reply, Request, Why,
+    Ambiguity, ReplyLine, End, Note, Outcome, Place, Record, Refusal, Reply, Request, Why,
 };
 use std::alloc::Global;
 use std::test::Fail;
@@ -59,7 +59,7 @@ fn answered(mut view: View, seq: u32, attempt: u16, end: End) -> Result<View, Fa
     requires end { IsShownEnd end }
     ensures { IfOk result (λ v. IsShownView v) }
 {
-    let answer = Answer {
+    let answer = ReplyLine {
         client: 1,
         seq,
         attempt,

@@ -10,7 +10,7 @@ use crate::words::{
     push_attempt, push_lease, push_number_line, push_number_word, push_spaced, push_spaced_bound,
 };
 use rp_base::{CmdId, Desc, Lease, LeaseIndex, NoMemory, Text, push_key, push_word};
-use rp_request::{Answer, Note, Record};
+use rp_request::{ReplyLine, Note, Record};
 
 fn push_note(out: &mut Text, note: &Note) -> Result<(), NoMemory>
     ensures { OnOk result (out.new ≡ out.old ++ note_line note.now) }
@@ -31,7 +31,7 @@ fn push_notes(out: &mut Text, notes: &[Note]) -> Result<(), NoMemory>
     Ok(())
 }
 
-fn push_answer(out: &mut Text, reply: &Answer) -> Result<(), NoMemory>
+fn push_answer(out: &mut Text, reply: &ReplyLine) -> Result<(), NoMemory>
     requires { IsShownEnd reply.now.end }
     ensures { OnOk result (out.new ≡ out.old ++ answer_line reply.now) }
 {
@@ -47,7 +47,7 @@ fn push_answer(out: &mut Text, reply: &Answer) -> Result<(), NoMemory>
     push_word(out, "\n")
 }
 
-fn push_replies(out: &mut Text, replies: &[Answer]) -> Result<(), NoMemory>
+fn push_replies(out: &mut Text, replies: &[ReplyLine]) -> Result<(), NoMemory>
     requires { All IsShownAnswer replies.now }
     ensures { OnOk result (out.new ≡ out.old ++ flat_map answer_line replies.now) }
 {

@@ -3,12 +3,12 @@ use Rattle.std.proofs.Common.{◌≡◌, ℕ, ◌+◌, ◌-◌, ◌^◌, ◌<◌
 use Rattle.std.proofs.lemmas.Bool.Decides.{nat_tests}
 use Rattle.std.specs.List.{list_any}
 use Rattle.rp_base.specs.Keys.{end_of}
-use Rattle.rp_base.specs.Spans.{one_key, whole, span_list, meets}
+use Rattle.rp_base.specs.Spans.{one_key, whole, span_list, meets, any_meet}
 use Rattle.rp_base.specs.declared.spans.Span.{Span}
 use Rattle.rp_request.specs.declared.requests.Request.{Request}
 use Rattle.rp_request.specs.declared.requests.Request.TheVariants.{Put, Add, CPut, Del, Wipe, Move, Split}
-use Rattle.rp_request.specs.Covers.{alone, both, covers, is_split, spans_of, HasKeys, Apart, any_meet}
-use Rattle.rp_request.specs.Table.{is_between}
+use Rattle.rp_request.specs.Covers.{alone, both, covers, is_split, spans_of, HasKeys, Apart}
+use Rattle.rp_base.specs.Tables.{is_between}
 
 same_key : (k : ℕ) → IsTrue (k == k)
 same_key k = grind (arith, nat_tests)

@@ -1,5 +1,12 @@
 pub mod Covering
+pub mod Does
+pub mod Few
 pub mod Folds
+pub mod Inside
+pub mod KeyTests
 pub mod Locality
+pub mod Numbers
 pub mod Once
+pub mod Opened
+pub mod ReadParts
 pub mod Tables

@@ -1,23 +1,27 @@
 -- An effect reads and changes only what its request covers.
-use Rattle.std.proofs.Common.{◌≡◌, ◌≢◌, ℕ, ◌+◌, ◌-◌, ◌<◌, ◌≤◌, Bool, true, false, cond, not, ◌&&◌, ◌||◌, ◌==◌, nat_lt, nat_le, IsTrue, IsFalse, IfOk, Option, Some, None, unwrap_or, Result, Ok, Err, nat_eq, refl, sym, ap, subst, ◌∙◌, arith}
+use Rattle.std.proofs.Common.{◌≡◌, ◌≢◌, ℕ, ◌+◌, ◌-◌, ◌<◌, ◌≤◌, Bool, true, false, cond, not, ◌&&◌, ◌||◌, ◌==◌, nat_lt, nat_le, IsTrue, IsFalse, IfOk, Option, Some, None, Result, Ok, Err, refl, sym, ap, subst, ◌∙◌, arith}
 use Rattle.std.proofs.lemmas.Bool.Decides.{nat_tests}
 use Rattle.std.specs.Ordering.{nat_cmp, eq_by_cmp}
 use Rattle.std.specs.FinMap.{get, insert, remove, retain_keys, len}
 use Rattle.std.specs.Option.{option_eq}
 use Rattle.rp_base.specs.Keys.{end_of}
 use Rattle.rp_base.specs.Splits.{split_of}
+use Rattle.rp_base.specs.Values.{value_eq, is_text, number_in}
 use Rattle.rp_base.specs.declared.ranges.SplitFault.{SplitFault}
 use Rattle.rp_base.specs.declared.ranges.SplitFault.TheVariants.{NotInside, SplitLimit}
 use Rattle.rp_base.specs.declared.ranges.Desc.{Desc}
+use Rattle.rp_base.specs.declared.values.Value.{Value}
+use Rattle.rp_base.specs.declared.values.Value.TheVariants.{Number}
 use Rattle.rp_request.specs.declared.requests.Request.{Request}
 use Rattle.rp_request.specs.declared.requests.Request.TheVariants.{Put, Add, CPut, Del, Wipe, Move, Split}
 use Rattle.rp_request.specs.declared.outcomes.Reply.{Reply}
 use Rattle.rp_request.specs.declared.outcomes.Reply.TheVariants.{Old, Now, Set, Count, Range}
 use Rattle.rp_request.specs.declared.outcomes.Refusal.{Refusal}
-use Rattle.rp_request.specs.declared.outcomes.Refusal.TheVariants.{ConditionFailed, Overflow, Short, TooWide}
-use Rattle.rp_request.specs.Table.{Table, greatest, value_at, is_between, part, count_in, without, below}
+use Rattle.rp_request.specs.declared.outcomes.Refusal.TheVariants.{ConditionFailed, IsText, Overflow, Short, TooWide}
+use Rattle.rp_base.specs.Tables.{Table, greatest, value_at, holds_text, is_between, part, count_in, without, below}
 use Rattle.rp_request.specs.Covers.{covers, is_split, Apart}
 use Rattle.rp_request.specs.Effect.{Effect, effect, seen, writes, add, put_if, wipe, pass_on, move, split}
+use Rattle.rp_request.proofs.KeyTests.{itself, covers_from, covers_to}
 use Rattle.rp_request.proofs.Tables.{same_table, get_kept, get_inserted, get_removed}
 
 -- the same part has the same value at a key that it has
@@ -35,7 +39,7 @@ by_key p u v h = same_table _ _ (λ q. get_kept u p q ∙ go q (p q) refl ∙ sy
 
 module _ (p : ℕ → Bool) (s t : Table) (e : retain_keys s p ≡ retain_keys t p) where
   -- what is changed alike in both tables leaves them with the same part
-  insert_alike : (k v : ℕ) → retain_keys (insert s k v) p ≡ retain_keys (insert t k v) p
+  insert_alike : (k : ℕ) (v : Value) → retain_keys (insert s k v) p ≡ retain_keys (insert t k v) p
   insert_alike k v = by_key p _ _ (λ q h. get_inserted s k v q ∙ ap (cond (eq_by_cmp nat_cmp q k) (Some v)) (read p s t q e h) ∙ sym (get_inserted t k v q))
 
   remove_alike : (k : ℕ) → retain_keys (remove s k) p ≡ retain_keys (remove t k) p
@@ -44,9 +48,9 @@ module _ (p : ℕ → Bool) (s t : Table) (e : retain_keys s p ≡ retain_keys t
   keep_alike : (f : ℕ → Bool) → retain_keys (retain_keys s f) p ≡ retain_keys (retain_keys t f) p
   keep_alike f = by_key p _ _ (λ q h. get_kept s f q ∙ ap (λ o. cond (f q) o None) (read p s t q e h) ∙ sym (get_kept t f q))
 
-  -- the values are the same
-  value_alike : (k : ℕ) → IsTrue (p k) → value_at s k ≡ value_at t k
-  value_alike k h = ap (λ o. unwrap_or o 0) (read p s t k e h)
+  -- the numbers are the same
+  pub value_alike : (k : ℕ) → IsTrue (p k) → value_at s k ≡ value_at t k
+  value_alike k h = ap number_in (read p s t k e h)
 
 module _ (p : ℕ → Bool) (d : Desc) where
   -- the same part and reply are seen alike
@@ -58,42 +62,46 @@ module _ (p : ℕ → Bool) (d : Desc) where
   chosen true x y v w e h = e
   chosen false x y v w e h = h
 
--- each key is itself
-itself : (k : ℕ) → IsTrue (k == k)
-itself k = grind (arith, nat_tests)
-
 -- the effects, by the values that they read
 module _ (d : Desc) where
-  added : Table → ℕ → ℕ → ℕ → Result Effect Refusal
-  added m key by v = cond (nat_lt greatest (v + by)) (Err (Overflow v)) (writes (insert m key (v + by)) d (Now (v + by)))
+  raised : Table → ℕ → ℕ → ℕ → Result Effect Refusal
+  raised m key by v = cond (nat_lt greatest (v + by)) (Err (Overflow v)) (writes (insert m key (Number (v + by))) d (Now (v + by)))
 
-  put_where : Table → ℕ → Option ℕ → ℕ → Option ℕ → Result Effect Refusal
-  put_where m key expect value o = cond (option_eq nat_eq o expect) (writes (insert m key value) d Set) (Err (ConditionFailed o))
+  added : Table → ℕ → ℕ → Option Value → Result Effect Refusal
+  added m key by o = cond (is_text o) (Err (IsText key)) (raised m key by (number_in o))
+
+  put_where : Table → ℕ → Option Value → Value → Option Value → Result Effect Refusal
+  put_where m key expect value o = cond (option_eq value_eq o expect) (writes (insert m key value) d Set) (Err (ConditionFailed o))
 
   wiped : Table → ℕ → ℕ → ℕ → Result Effect Refusal
   wiped m start end n = cond (nat_lt 16 n) (Err (TooWide n)) (writes (without m start end) d (Count n))
 
-  moved : Table → ℕ → ℕ → ℕ → ℕ → ℕ → Result Effect Refusal
-  moved m from to by v w = cond (nat_lt v by) (Err (Short v)) (cond (from == to) (writes (insert m from v) d (Now v))
-      (cond (nat_lt greatest (w + by)) (Err (Overflow w)) (writes (insert (insert m from (v - by)) to (w + by)) d (Now (v - by)))))
+  given : Table → ℕ → ℕ → ℕ → ℕ → ℕ → Result Effect Refusal
+  given m from to by v w = cond (nat_lt v by) (Err (Short v)) (cond (from == to) (writes (insert m from (Number v)) d (Now v))
+      (cond (nat_lt greatest (w + by)) (Err (Overflow w)) (writes (insert (insert m from (Number (v - by))) to (Number (w + by))) d (Now (v - by)))))
+
+  moved : Table → ℕ → ℕ → ℕ → Option Value → Option Value → Result Effect Refusal
+  moved m from to by o q = cond (is_text o) (Err (IsText from)) (cond (is_text q) (Err (IsText to)) (given m from to by (number_in o) (number_in q)))
 
 module _ (p : ℕ → Bool) (s t : Table) (e : retain_keys s p ≡ retain_keys t p) (d : Desc) where
-  reads_put : (key value : ℕ) → IsTrue (p key) → seen p (writes (insert s key value) d (Old (get s key))) ≡ seen p (writes (insert t key value) d (Old (get t key)))
+  reads_put : (key : ℕ) (value : Value) → IsTrue (p key) → seen p (writes (insert s key value) d (Old (get s key))) ≡ seen p (writes (insert t key value) d (Old (get t key)))
   reads_put key value h = written p d _ _ _ _ (insert_alike p s t e key value) (ap Old (read p s t key e h))
 
   reads_add : (key by : ℕ) → IsTrue (p key) → seen p (add s d key by) ≡ seen p (add t d key by)
-  unfolding added
+  unfolding added raised
   reads_add key by h =
-      let v = value_at s key in
-      chosen p d (nat_lt greatest (v + by)) (Err (Overflow v)) (writes (insert s key (v + by)) d (Now (v + by))) (Err (Overflow v)) (writes (insert t key (v + by)) d (Now (v + by)))
-      refl (written p d _ _ _ _ (insert_alike p s t e key (v + by)) refl)
-      ∙ ap (λ w. seen p (added d t key by w)) (value_alike p s t e key h)
+      let o = get s key in
+      let v = number_in o in
+      chosen p d (is_text o) (Err (IsText key)) _ (Err (IsText key)) _ refl
+      (chosen p d (nat_lt greatest (v + by)) (Err (Overflow v)) (writes (insert s key (Number (v + by))) d (Now (v + by))) (Err (Overflow v)) (writes (insert t key (Number (v + by))) d (Now (v + by)))
+      refl (written p d _ _ _ _ (insert_alike p s t e key (Number (v + by))) refl))
+      ∙ ap (λ w. seen p (added d t key by w)) (read p s t key e h)
 
-  reads_put_if : (key : ℕ) (expect : Option ℕ) (value : ℕ) → IsTrue (p key) → seen p (put_if s d key expect value) ≡ seen p (put_if t d key expect value)
+  reads_put_if : (key : ℕ) (expect : Option Value) (value : Value) → IsTrue (p key) → seen p (put_if s d key expect value) ≡ seen p (put_if t d key expect value)
   unfolding put_where
   reads_put_if key expect value h =
       let o = get s key in
-      chosen p d (option_eq nat_eq o expect) (writes (insert s key value) d Set) (Err (ConditionFailed o)) (writes (insert t key value) d Set) (Err (ConditionFailed o))
+      chosen p d (option_eq value_eq o expect) (writes (insert s key value) d Set) (Err (ConditionFailed o)) (writes (insert t key value) d Set) (Err (ConditionFailed o))
       (written p d _ _ _ _ (insert_alike p s t e key value) refl) refl
       ∙ ap (λ w. seen p (put_where d t key expect value w)) (read p s t key e h)
 
@@ -109,28 +117,25 @@ module _ (p : ℕ → Bool) (s t : Table) (e : retain_keys s p ≡ retain_keys t
       ∙ ap (λ m. seen p (wiped d t start end m)) (ap len h)
 
   reads_move : (from to by : ℕ) → IsTrue (p from) → IsTrue (p to) → seen p (move s d from to by) ≡ seen p (move t d from to by)
-  unfolding moved
+  unfolding moved given
   reads_move from to by h k =
-      let v = value_at s from in
-      let w = value_at s to in
-      chosen p d (nat_lt v by) (Err (Short v)) _ (Err (Short v)) _ refl
-      (chosen p d (from == to) (writes (insert s from v) d (Now v)) _ (writes (insert t from v) d (Now v)) _ (written p d _ _ _ _ (insert_alike p s t e from v) refl)
-      (chosen p d (nat_lt greatest (w + by)) (Err (Overflow w)) (writes (insert (insert s from (v - by)) to (w + by)) d (Now (v - by))) (Err (Overflow w)) (writes (insert (insert t from (v - by)) to (w + by)) d (Now (v - by)))
-      refl (written p d _ _ _ _ (insert_alike p _ _ (insert_alike p s t e from (v - by)) to (w + by)) refl)))
-      ∙ ap (λ x. seen p (moved d t from to by x w)) (value_alike p s t e from h)
-      ∙ ap (λ x. seen p (moved d t from to by (value_at t from) x)) (value_alike p s t e to k)
+      let o = get s from in
+      let q = get s to in
+      let v = number_in o in
+      let w = number_in q in
+      chosen p d (is_text o) (Err (IsText from)) _ (Err (IsText from)) _ refl
+      (chosen p d (is_text q) (Err (IsText to)) _ (Err (IsText to)) _ refl
+      (chosen p d (nat_lt v by) (Err (Short v)) _ (Err (Short v)) _ refl
+      (chosen p d (from == to) (writes (insert s from (Number v)) d (Now v)) _ (writes (insert t from (Number v)) d (Now v)) _ (written p d _ _ _ _ (insert_alike p s t e from (Number v)) refl)
+      (chosen p d (nat_lt greatest (w + by)) (Err (Overflow w)) (writes (insert (insert s from (Number (v - by))) to (Number (w + by))) d (Now (v - by))) (Err (Overflow w)) (writes (insert (insert t from (Number (v - by))) to (Number (w + by))) d (Now (v - by)))
+      refl (written p d _ _ _ _ (insert_alike p _ _ (insert_alike p s t e from (Number (v - by))) to (Number (w + by))) refl)))))
+      ∙ ap (λ x. seen p (moved d t from to by x q)) (read p s t from e h)
+      ∙ ap (λ x. seen p (moved d t from to by (get t from) x)) (read p s t to e k)
 
   reads_split : (key : ℕ) (r : Result (Desc × Desc) SplitFault) → seen p (split s key r) ≡ seen p (split t key r)
   reads_split key (Ok parts) = written p parts.0 _ _ _ _ (keep_alike p s t e (λ k. nat_lt k key)) refl
   reads_split key (Err NotInside) = refl
   reads_split key (Err (SplitLimit level)) = refl
-
--- a move covers both its keys
-covers_from : (from to : ℕ) → IsTrue (from == from || from == to)
-covers_from from to = grind (arith, nat_tests)
-
-covers_to : (from to : ℕ) → IsTrue (to == from || to == to)
-covers_to from to = grind (arith, nat_tests)
 
 pub reads : (s t : Table) (d : Desc) (r : Request) → retain_keys s (covers r) ≡ retain_keys t (covers r)
     → seen (covers r) (effect s d r) ≡ seen (covers r) (effect t d r)
@@ -157,7 +162,7 @@ not_covered p r k a h = go (p k) refl where
   go false e = e
 
 module _ (s : Table) (p : ℕ → Bool) where
-  insert_leaves : (k v : ℕ) → IsFalse (p k) → retain_keys (insert s k v) p ≡ retain_keys s p
+  insert_leaves : (k : ℕ) (v : Value) → IsFalse (p k) → retain_keys (insert s k v) p ≡ retain_keys s p
   insert_leaves k v n = by_key p _ _ (λ q h. get_inserted s k v q ∙ ap (λ b. cond b (Some v) (get s q)) (other p q k h n))
 
   remove_leaves : (k : ℕ) → IsFalse (p k) → retain_keys (remove s k) p ≡ retain_keys s p
@@ -179,9 +184,10 @@ pub leaves : (s : Table) (d : Desc) (r : Request) (p : ℕ → Bool) → Apart p
     → IfOk (effect s d r) (λ e. retain_keys e.table p ≡ retain_keys s p)
 leaves s d (Put key value) p a = insert_leaves s p key value (not_covered p (covers (Put key value)) key a (itself key))
 leaves s d (Add key by) p a =
-    one_of (Leaves s p) (nat_lt greatest (value_at s key + by)) _ _ tt (insert_leaves s p key _ (not_covered p (covers (Add key by)) key a (itself key)))
+    one_of (Leaves s p) (holds_text s key) _ _ tt
+    (one_of (Leaves s p) (nat_lt greatest (value_at s key + by)) _ _ tt (insert_leaves s p key _ (not_covered p (covers (Add key by)) key a (itself key))))
 leaves s d (CPut key expect value) p a =
-    one_of (Leaves s p) (option_eq nat_eq (get s key) expect) _ _ (insert_leaves s p key value (not_covered p (covers (CPut key expect value)) key a (itself key))) tt
+    one_of (Leaves s p) (option_eq value_eq (get s key) expect) _ _ (insert_leaves s p key value (not_covered p (covers (CPut key expect value)) key a (itself key))) tt
 leaves s d (Del key) p a = remove_leaves s p key (not_covered p (covers (Del key)) key a (itself key))
 leaves s d (Wipe span) p a =
     one_of (Leaves s p) (nat_lt 16 (count_in s span.start (end_of span.end))) _ _ tt
@@ -189,10 +195,12 @@ leaves s d (Wipe span) p a =
 leaves s d (Move from to by) p a =
     let no_from = not_covered p (covers (Move from to by)) from a (covers_from from to) in
     let no_to = not_covered p (covers (Move from to by)) to a (covers_to from to) in
-    one_of (Leaves s p) (nat_lt (value_at s from) by) _ _ tt
+    one_of (Leaves s p) (holds_text s from) _ _ tt
+    (one_of (Leaves s p) (holds_text s to) _ _ tt
+    (one_of (Leaves s p) (nat_lt (value_at s from) by) _ _ tt
     (one_of (Leaves s p) (from == to) _ _ (insert_leaves s p from _ no_from)
     (one_of (Leaves s p) (nat_lt greatest (value_at s to + by)) _ _ tt
-    (insert_leaves (insert s from (value_at s from - by)) p to _ no_to ∙ insert_leaves s p from _ no_from)))
+    (insert_leaves (insert s from (Number (value_at s from - by))) p to _ no_to ∙ insert_leaves s p from _ no_from)))))
 leaves s d (Split key) p a = leaves_split s p a key (split_of d key) where
   leaves_split : (s : Table) (p : ℕ → Bool) → Apart p (λ _. true) → (key : ℕ) (r : Result (Desc × Desc) SplitFault) → IfOk (split s key r) (λ e. retain_keys e.table p ≡ retain_keys s p)
   leaves_split s p a key (Ok parts) = keep_leaves s p (λ k. nat_lt k key) (λ q h. let no = a q h in absurd cc)
@@ -205,11 +213,14 @@ module _ (s : Table) (d : Desc) where
 
   pub keeps_desc : (r : Request) → IsFalse (is_split r) → IfOk (effect s d r) (λ e. e.desc ≡ d)
   keeps_desc (Put key value) n = refl
-  keeps_desc (Add key by) n = one_of SameDesc (nat_lt greatest (value_at s key + by)) _ _ tt refl
-  keeps_desc (CPut key expect value) n = one_of SameDesc (option_eq nat_eq (get s key) expect) _ _ refl tt
+  keeps_desc (Add key by) n =
+      one_of SameDesc (holds_text s key) _ _ tt (one_of SameDesc (nat_lt greatest (value_at s key + by)) _ _ tt refl)
+  keeps_desc (CPut key expect value) n = one_of SameDesc (option_eq value_eq (get s key) expect) _ _ refl tt
   keeps_desc (Del key) n = refl
   keeps_desc (Wipe span) n = one_of SameDesc (nat_lt 16 (count_in s span.start (end_of span.end))) _ _ tt refl
   keeps_desc (Move from to by) n =
-      one_of SameDesc (nat_lt (value_at s from) by) _ _ tt
-      (one_of SameDesc (from == to) _ _ refl (one_of SameDesc (nat_lt greatest (value_at s to + by)) _ _ tt refl))
+      one_of SameDesc (holds_text s from) _ _ tt
+      (one_of SameDesc (holds_text s to) _ _ tt
+      (one_of SameDesc (nat_lt (value_at s from) by) _ _ tt
+      (one_of SameDesc (from == to) _ _ refl (one_of SameDesc (nat_lt greatest (value_at s to + by)) _ _ tt refl))))
   keeps_desc (Split key) n = absurd cc

@@ -1,14 +1,13 @@
 -- Which keys a request may read and change.
 use Rattle.std.specs.Prelude.{ℕ, ◌<◌, ◌≤◌, ◌-◌, ◌^◌, Bool, true, false, ◌==◌, ◌||◌, if◌then◌else◌, None, Some, IsTrue, IsFalse}
-use Rattle.std.specs.List.{list_any, list_all}
 use Rattle.rp_base.specs.Keys.{end_of}
-use Rattle.rp_base.specs.Spans.{one_key, span_of, whole, span_list, meets, within}
+use Rattle.rp_base.specs.Spans.{one_key, span_of, whole, all_within}
 use Rattle.rp_base.specs.declared.ranges.Desc.{Desc}
 use Rattle.rp_base.specs.declared.spans.Span.{Span}
 use Rattle.rp_base.specs.declared.spans.Spans.{Spans}
 use Rattle.rp_request.specs.declared.requests.Request.{Request}
 use Rattle.rp_request.specs.declared.requests.Request.TheVariants.{Put, Add, CPut, Del, Wipe, Move, Split}
-use Rattle.rp_request.specs.Table.{is_between}
+use Rattle.rp_base.specs.Tables.{is_between}
 
 -- one span
 abbrev pub alone : Span → Spans
@@ -59,12 +58,8 @@ HasKeys (Split key) = Unit {0}
 -- whether the request lies in the range's bounds: all its spans do; of a split, its key does
 abbrev pub in_bounds : Desc → Request → Bool
 in_bounds d (Split key) = is_between d.start d.end key
-in_bounds d r = list_all (λ s. within s d.start d.end) (span_list (spans_of r))
+in_bounds d r = all_within d (spans_of r)
 
 -- no key passes both tests
 abbrev pub Apart : (ℕ → Bool) → (ℕ → Bool) → Type 0
 Apart p r = (key : ℕ) → IsTrue (p key) → IsFalse (r key)
-
--- whether some span of the one meets a span of the other
-abbrev pub any_meet : Spans → Spans → Bool
-any_meet x y = list_any (λ s. list_any (meets s) (span_list y)) (span_list x)

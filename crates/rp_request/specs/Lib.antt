@@ -1,7 +1,13 @@
+pub mod Applicable
+pub mod Applied
+pub mod Batches
 pub mod Covers
 pub mod Effect
+pub mod Evaluations
+pub mod Fits
+pub mod History
 pub mod Items
+pub mod Onward
 pub mod Places
 pub mod Records
 pub mod Starts
-pub mod Table

@@ -7,7 +7,7 @@ use Rattle.rp_base.specs.Leases.{first_lease}
 use Rattle.rp_base.specs.Splits.{first_desc, split_of}
 use Rattle.rp_request.specs.declared.items.Place.{Place}
 use Rattle.rp_request.specs.declared.items.Place.TheVariants.{Split}
-use Rattle.rp_request.specs.Table.{from_on}
+use Rattle.rp_base.specs.Tables.{from_on}
 use Rattle.rp_request.specs.Items.{State, fold}
 
 -- range 0 starts with no key

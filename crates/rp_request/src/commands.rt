@@ -2,7 +2,7 @@ ghost use Rattle.std.specs.Prelude.{◌≡◌, ◌≤◌, ◌<◌, [], ◌∷◌
 
 use crate::outcomes::Reply;
 use crate::requests::Request;
-use rp_base::{CmdId, Key, LeaseAsk, LeaseIndex, LeaseSeq, NoMemory};
+use rp_base::{CmdId, Key, LeaseAsk, LeaseIndex, LeaseSeq, NoMemory, Seq, Value};
 use std::alloc::Global;
 use std::marker::Model;
 
@@ -10,7 +10,7 @@ use std::marker::Model;
 #[derive(Clone, Copy, Debug, PartialEq, Eq)]
 pub enum Op {
     /// The key gets the value.
-    Set { key: Key, value: u64 },
+    Set { key: Key, value: Value },
     /// The key is taken away.
     Remove { key: Key },
 }
@@ -48,7 +48,7 @@ impl Batch {
         ensures ok { OnOk result (self.new ≡ self.old ++ op ∷ []) }
         ensures err { OnErr result (self.new ≡ self.old) }
     {
-        self.ops.push(op)?;
+        self.ops.extend_from_slice(std::slice::from_ref(&op))?;
         Ok(())
     }
 
@@ -95,3 +95,6 @@ pub struct Waiting {
     pub id: CmdId,
     pub seq: LeaseSeq,
 }
+
+/// The commands that wait for a lease index, each with the lease sequence under which it was evaluated.
+pub type WaitList = Seq<Waiting>;

@@ -3,14 +3,18 @@
 #![tactic(auto)]
 
 mod commands;
+mod evaluations;
 mod items;
 pub mod laws;
 mod notes;
 mod outcomes;
 mod requests;
+mod verdicts;
 
-pub use commands::{Batch, Command, Op, Payload, Waiting};
+pub use commands::{Batch, Command, Op, Payload, WaitList, Waiting};
+pub use evaluations::Evaluated;
 pub use items::{Place, Record, Why};
-pub use notes::{Answer, Note, Notes, Replies};
+pub use notes::{Note, Notes, Replies, ReplyLine};
 pub use outcomes::{Ambiguity, End, Outcome, Refusal, Reply};
 pub use requests::{Request, RequestList};
+pub use verdicts::Verdict;

@@ -14,7 +14,7 @@ pub type Notes = Seq<Note>;
 
 /// How an attempt of a client's command ended.
 #[derive(Clone, Copy, Debug, PartialEq, Eq)]
-pub struct Answer {
+pub struct ReplyLine {
     pub client: u16,
     pub seq: u32,
     pub attempt: u16,
@@ -22,4 +22,4 @@ pub struct Answer {
 }
 
 /// Ends of attempts, by client, command, attempt.
-pub type Replies = Seq<Answer>;
+pub type Replies = Seq<ReplyLine>;

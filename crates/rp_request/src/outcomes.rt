@@ -1,11 +1,11 @@
-use rp_base::{CmdId, Desc, Lease, LeaseIndex, RangeId, Span};
+use rp_base::{CmdId, Desc, Key, Lease, LeaseIndex, RangeId, Span, Value};
 
 /// The answer to a request that took effect.
 #[derive(Clone, Copy, Debug, PartialEq, Eq)]
 pub enum Reply {
     /// The value that the key had, `None` for no value.
-    Old(Option<u64>),
-    /// The value that the key has now; at a move, the key that was taken from.
+    Old(Option<Value>),
+    /// The number that the key has now; at a move, the key that was taken from.
     Now(u64),
     /// The value was set.
     Set,
@@ -27,8 +27,10 @@ pub enum Refusal {
     /// A pending command holds a span that meets one of the request's.
     Latched { by: CmdId, held: Span },
     /// The key has another value than the expected one.
-    ConditionFailed { actual: Option<u64> },
-    /// The sum passes the greatest value, 2^64 - 1.
+    ConditionFailed { actual: Option<Value> },
+    /// The key that is to be counted with holds a text.
+    IsText { key: Key },
+    /// The sum passes the greatest number, 2^64 - 1.
     Overflow { actual: u64 },
     /// The key that is taken from has less.
     Short { actual: u64 },
@@ -47,6 +49,8 @@ pub enum Ambiguity {
     Snapshot { own: LeaseIndex, passed: LeaseIndex },
     /// The replica was removed while the command was proposed under the index `own`.
     Removed { own: LeaseIndex },
+    /// The node restarted while the command was proposed under the index `own`.
+    Restarted { own: LeaseIndex },
 }
 
 /// How an attempt of a command ended.

@@ -1,7 +1,7 @@
 ghost use Rattle.std.specs.Prelude.{◌≡◌};
 ghost use Rattle.rp_request.specs.Covers.{alone, both};
 
-use rp_base::{Key, KeySpan, Seq, Span, Spans};
+use rp_base::{Key, KeySpan, Seq, Span, Spans, Value};
 
 /// What a client asks of a range (this project's requests). An absent key counts as 0 for `Add` and
 /// `Move`.
@@ -10,9 +10,9 @@ pub enum Request {
     /// The key gets the value.
     Put {
         key: Key,
-        value: u64,
+        value: Value,
     },
-    /// The key's value rises.
+    /// The key's number rises.
     Add {
         key: Key,
         by: u64,
@@ -20,8 +20,8 @@ pub enum Request {
     /// The key gets the value where it has the expected one, `None` for no value.
     CPut {
         key: Key,
-        expect: Option<u64>,
-        value: u64,
+        expect: Option<Value>,
+        value: Value,
     },
     /// The key is taken away.
     Del {
@@ -31,7 +31,7 @@ pub enum Request {
     Wipe {
         span: KeySpan,
     },
-    /// So much goes from the value of one key to that of the other.
+    /// So much goes from the number of one key to that of the other.
     Move {
         from: Key,
         to: Key,

@@ -7,7 +7,8 @@ use Rattle.std.specs.Ordering.{nat_cmp, eq_by_cmp}
 use Rattle.std.specs.Cmp.{nat_cmp_total}
 use Rattle.std.specs.FinMap.{entries, entries_sorted, from_sorted, insert, remove, get, len, keys, retain_keys, entries-from_sorted, same_entries_map, same_map, entries-insert, get-from_sorted, get-retain_keys, get-remove, len-entries, nat_cmp-IsAntisymmetric}
 use Rattle.std.specs.FinMap.Entries.{put, find, is_sorted, where_key, is_sorted-where_key, find-where_key}
-use Rattle.rp_table.specs.Held.{Rows}
+use Rattle.rp_base.specs.Tables.{Table}
+use Rattle.rp_base.specs.declared.values.Value.{Value}
 use Rattle.rp_table.specs.Place.{IsPlace}
 use Rattle.rp_table.proofs.Rows.{between_places, from_place, places_in_order, in_two_parts}
 
@@ -21,12 +22,12 @@ holds true t = refl
 holds false t = absurd t
 
 -- rows that are some map's entries are in order and make that map
-pub from_entries_of : (fs : List (ℕ × ℕ)) (m : Rows) → entries m ≡ fs → IsTrue (is_sorted nat_cmp fs) × (from_sorted {R = nat_cmp} fs ≡ m)
+pub from_entries_of : (fs : List (ℕ × Value)) (m : Table) → entries m ≡ fs → IsTrue (is_sorted nat_cmp fs) × (from_sorted {R = nat_cmp} fs ≡ m)
 from_entries_of fs m e =
     let ordered : T (is_sorted nat_cmp fs) = subst (λ es. T (is_sorted nat_cmp es)) e (entries_sorted m) in
     (holds _ ordered, same_entries_map _ _ (entries-from_sorted nat_cmp fs ordered ∙ sym e))
 
-module _ (es : List (ℕ × ℕ)) (ordered : IsTrue (is_sorted nat_cmp es)) where
+module _ (es : List (ℕ × Value)) (ordered : IsTrue (is_sorted nat_cmp es)) where
   -- the map's entries are the rows
   pub entries_here : entries (from_sorted {R = nat_cmp} es) ≡ es
   entries_here = entries-from_sorted nat_cmp es (told _ ordered)
@@ -38,7 +39,7 @@ module _ (es : List (ℕ × ℕ)) (ordered : IsTrue (is_sorted nat_cmp es)) wher
   get_here key = get-from_sorted nat_cmp es key (told _ ordered)
 
   -- rows with an entry put in its place make the map with that entry
-  pub written : (fs : List (ℕ × ℕ)) (k v : ℕ) → fs ≡ put nat_cmp k v es
+  pub written : (fs : List (ℕ × Value)) (k : ℕ) (v : Value) → fs ≡ put nat_cmp k v es
       → IsTrue (is_sorted nat_cmp fs) × (from_sorted {R = nat_cmp} fs ≡ insert (from_sorted es) k v)
   written fs k v e = from_entries_of fs _ (entries-insert nat_cmp_total (from_sorted es) k v ∙ ap (put nat_cmp k v) entries_here ∙ sym e)
 
@@ -47,7 +48,7 @@ module _ (es : List (ℕ × ℕ)) (ordered : IsTrue (is_sorted nat_cmp es)) wher
   alike p q x e = ap p (sym (nat_cmp-IsAntisymmetric q x e))
 
   -- rows whose keys pass a test make the map of those keys
-  pub retained : (fs : List (ℕ × ℕ)) (p : ℕ → Bool) → fs ≡ where_key nat_cmp p es
+  pub retained : (fs : List (ℕ × Value)) (p : ℕ → Bool) → fs ≡ where_key nat_cmp p es
       → IsTrue (is_sorted nat_cmp fs) × (from_sorted {R = nat_cmp} fs ≡ retain_keys (from_sorted es) p)
   retained fs p e =
       let ordered' : T (is_sorted nat_cmp fs) = subst (λ gs. T (is_sorted nat_cmp gs)) (sym e) (is_sorted-where_key nat_cmp p es (told _ ordered)) in (
@@ -66,11 +67,11 @@ module _ (es : List (ℕ × ℕ)) (ordered : IsTrue (is_sorted nat_cmp es)) wher
       let r = retained (where_key nat_cmp p es) p refl in
       sym (ap entries r.1) ∙ entries-from_sorted nat_cmp _ (told _ r.0)
 
-  turned : (k q : ℕ) (o : Option ℕ) → cond (not (eq_by_cmp nat_cmp k q)) o None ≡ cond (eq_by_cmp nat_cmp q k) None o
+  turned : (k q : ℕ) (o : Option Value) → cond (not (eq_by_cmp nat_cmp k q)) o None ≡ cond (eq_by_cmp nat_cmp q k) None o
   turned k q o = grind (arith, nat_tests)
 
   -- rows without those of a key make the map without the key
-  pub removed : (fs : List (ℕ × ℕ)) (k : ℕ) → fs ≡ where_key nat_cmp (λ x. not (eq_by_cmp nat_cmp k x)) es
+  pub removed : (fs : List (ℕ × Value)) (k : ℕ) → fs ≡ where_key nat_cmp (λ x. not (eq_by_cmp nat_cmp k x)) es
       → IsTrue (is_sorted nat_cmp fs) × (from_sorted {R = nat_cmp} fs ≡ remove (from_sorted es) k)
   removed fs k e =
       let p : ℕ → Bool = λ x. not (eq_by_cmp nat_cmp k x) in
@@ -88,11 +89,11 @@ module _ (es : List (ℕ × ℕ)) (ordered : IsTrue (is_sorted nat_cmp es)) wher
       → m - n ≡ len (retain_keys (from_sorted {R = nat_cmp} es) (λ k. nat_le low k && nat_lt k high))
   count_between low high n m l p q =
       let between : ℕ → Bool = λ k. nat_le low k && nat_lt k high in
-      let count : length (drop n (take m es)) ≡ m - n = omega (arith, length-drop {A = ℕ × ℕ}, length-take {A = ℕ × ℕ}, p.within, q.within) in
+      let count : length (drop n (take m es)) ≡ m - n = omega (arith, length-drop {A = ℕ × Value}, length-take {A = ℕ × Value}, p.within, q.within) in
       sym count ∙ ap length (between_places es low high n m l p q ∙ sym (entries_retained between)) ∙ sym (len-entries (retain_keys (from_sorted es) between))
 
   -- rows copied from a key's place on make the part of the map from the key on
-  pub kept_from : (fs : List (ℕ × ℕ)) (key n : ℕ) → IsPlace es key n → fs ≡ take (length es - n) (drop n es)
+  pub kept_from : (fs : List (ℕ × Value)) (key n : ℕ) → IsPlace es key n → fs ≡ take (length es - n) (drop n es)
       → IsTrue (is_sorted nat_cmp fs) × (from_sorted {R = nat_cmp} fs ≡ retain_keys (from_sorted es) (λ k. nat_le key k))
   kept_from fs key n p e =
       let whole : take (length es - n) (drop n es) ≡ drop n es = subst (λ k. take k (drop n es) ≡ drop n es) (length-drop n es) (take-length (drop n es)) in
@@ -100,17 +101,17 @@ module _ (es : List (ℕ × ℕ)) (ordered : IsTrue (is_sorted nat_cmp es)) wher
 
   -- the keys of the rows between two keys' places are the map's keys between them
   pub keys_between : (ks : List ℕ) (low high n m : ℕ) → low ≤ high → IsPlace es low n → IsPlace es high m
-      → ks ≡ map (λ (e : ℕ × ℕ). e.0) (take (m - n) (drop n es))
+      → ks ≡ map (λ (e : ℕ × Value). e.0) (take (m - n) (drop n es))
       → ks ≡ keys (retain_keys (from_sorted {R = nat_cmp} es) (λ k. nat_le low k && nat_lt k high))
   keys_between ks low high n m l p q e =
       let between : ℕ → Bool = λ k. nat_le low k && nat_lt k high in
       let up : n ≤ m = places_in_order es low high n m l p q in
       let same : n + (m - n) ≡ m = omega arith in
       let front : take (m - n) (drop n es) ≡ drop n (take m es) = sym (drop-take n (m - n) es) ∙ ap (λ k. drop n (take k es)) same in
-      e ∙ ap (map (λ (r : ℕ × ℕ). r.0)) (front ∙ between_places es low high n m l p q ∙ sym (entries_retained between))
+      e ∙ ap (map (λ (r : ℕ × Value). r.0)) (front ∙ between_places es low high n m l p q ∙ sym (entries_retained between))
 
 -- the rows below a key and then those from it on are the rows
-pub parts_are_whole : (t : Rows) (key : ℕ) → entries (retain_keys t (λ k. nat_lt k key)) ++ entries (retain_keys t (λ k. nat_le key k)) ≡ entries t
+pub parts_are_whole : (t : Table) (key : ℕ) → entries (retain_keys t (λ k. nat_lt k key)) ++ entries (retain_keys t (λ k. nat_le key k)) ≡ entries t
 parts_are_whole t key =
     let ordered : IsTrue (is_sorted nat_cmp (entries t)) = holds _ (entries_sorted t) in
     let same : from_sorted {R = nat_cmp} (entries t) ≡ t = (from_entries_of (entries t) t refl).1 in

@@ -1,13 +1,14 @@
+//! Where a key stands among rows in the order of their keys.
 ghost use Rattle.std.specs.Prelude.{◌≡◌, map, IsTrue, IfOk, IfErr};
 ghost use Rattle.std.specs.Ordering.{nat_cmp};
 ghost use Rattle.std.specs.FinMap.Entries.{is_sorted};
 ghost use Rattle.rp_table.specs.Place.{IsPlace, IsFound, IsGap};
 
-use rp_base::{Key, NoMemory, Seq};
+use rp_base::{Key, NoMemory, Seq, Value};
 use std::alloc::Global;
 
 /// How many rows stand before the number, by binary search.
-pub fn place_of(rows: &[(Key, u64)], key: u128) -> usize
+pub fn place_of(rows: &[(Key, Value)], key: u128) -> usize
     requires { IsTrue (is_sorted nat_cmp rows.now) }
     ensures { IsPlace rows.now key result }
 {
@@ -25,7 +26,7 @@ pub fn place_of(rows: &[(Key, u64)], key: u128) -> usize
 }
 
 /// The place of the key's row, or else the place where it would stand.
-pub fn find(rows: &[(Key, u64)], key: Key) -> Result<usize, usize>
+pub fn find(rows: &[(Key, Value)], key: Key) -> Result<usize, usize>
     requires { IsTrue (is_sorted nat_cmp rows.now) }
     ensures found { IfOk result (IsFound rows.now key) }
     ensures absent { IfErr result (IsGap rows.now key) }
@@ -40,7 +41,7 @@ pub fn find(rows: &[(Key, u64)], key: Key) -> Result<usize, usize>
 }
 
 /// The keys of rows.
-pub fn keys_of(alloc: Global, rows: &[(Key, u64)]) -> Result<Seq<Key>, NoMemory>
+pub fn keys_of(alloc: Global, rows: &[(Key, Value)]) -> Result<Seq<Key>, NoMemory>
     ensures { IfOk result (λ keys. keys ≡ map (λ row. row.0) rows.now) }
 {
     let keys = rows.iter().map(|row| row.0).collect(alloc)?;

@@ -1,8 +1,9 @@
+//! Tables: a range's keys and their values.
 ghost use Rattle.std.specs.Prelude.{◌≡◌, ◌+◌, ◌≤◌, ◌<◌, ◌&&◌, nat_lt, nat_le, OnOk, IfOk, slice_get, Some};
 ghost use Rattle.std.specs.FinMap as map;
 
 use crate::places::{find, keys_of, place_of};
-use rp_base::{Key, NoMemory, Seq, Span};
+use rp_base::{Key, NoMemory, Seq, Span, Value};
 use std::alloc::Global;
 use std::marker::Model;
 
@@ -13,7 +14,7 @@ pub type KeyList = Seq<Key>;
 /// room: how many rows can be added without memory.
 #[derive(Drop)]
 pub struct Table {
-    rows: Vec<(Key, u64)>,
+    rows: Vec<(Key, Value)>,
 }
 
 impl Model for Table {
@@ -50,7 +51,7 @@ impl Table {
     }
 
     /// The key's value.
-    pub fn get(&self, key: Key) -> Option<u64>
+    pub fn get(&self, key: Key) -> Option<Value>
         ensures { result ≡ map.get self.now.map key }
     {
         match find(&self.rows, key) {
@@ -60,7 +61,7 @@ impl Table {
     }
 
     /// The row at this place, in the order of the keys.
-    pub fn row(&self, at: usize) -> (Key, u64)
+    pub fn row(&self, at: usize) -> (Key, Value)
         requires { at < map.len self.now.map }
         ensures { slice_get (map.entries self.now.map) at ≡ Some result }
     {
@@ -78,7 +79,7 @@ impl Table {
     }
 
     /// The key gets the value, without memory.
-    pub fn write_one(&mut self, key: Key, value: u64)
+    pub fn write_one(&mut self, key: Key, value: Value)
         requires { 1 ≤ self.old.spare }
         ensures map { self.new.map ≡ map.insert self.old.map key value }
         ensures spare { self.old.spare ≤ self.new.spare + 1 }
@@ -147,14 +148,21 @@ impl Table {
 #[cfg(test)]
 mod tests {
     use super::*;
+    use rp_base::ShortText;
     use std::test::Fail;
+    use std::thread::join;
 
-    /// The keys a, c and e with the values 1, 3 and 5.
+    /// The keys a, c and e with the values 1, the text 5, and 5.
     fn three(alloc: Global) -> Result<Table, Fail> {
+        let text = Value::Text(ShortText::read(b"5")?);
         let mut table = Table::new(alloc);
-        for (text, value) in [("e", 5), ("a", 1), ("c", 3)] {
+        for (key, value) in [
+            ("e", Value::Number(5)),
+            ("a", Value::Number(1)),
+            ("c", text),
+        ] {
             table.make_room(1)?;
-            table.write_one(Key::read(text.as_bytes())?, value);
+            table.write_one(Key::read(key.as_bytes())?, value);
         }
         Ok(table)
     }
@@ -163,14 +171,15 @@ mod tests {
     fn writes_and_reads(rt: HostRuntime) -> Result<(), Fail> {
         let mut table = three(rt.alloc())?;
         let (a, b, c) = (Key::read(b"a")?, Key::read(b"b")?, Key::read(b"c")?);
+        let text = Value::Text(ShortText::read(b"5")?);
         assert_eq!(rt; table.len(), 3);
-        assert_eq!(rt; table.row(0), (a, 1));
-        assert_eq!(rt; table.row(1), (c, 3));
-        assert_eq!(rt; table.get(c), Some(3));
+        assert_eq!(rt; table.row(0), (a, Value::Number(1)));
+        assert_eq!(rt; table.row(1), (c, text));
+        assert_eq!(rt; table.get(c), Some(text));
         assert_eq!(rt; table.get(b), None);
         table.make_room(1)?;
-        table.write_one(c, 4);
-        assert_eq!(rt; table.get(c), Some(4));
+        table.write_one(c, Value::Number(4));
+        assert_eq!(rt; table.get(c), Some(Value::Number(4)));
         assert_eq!(rt; table.len(), 3);
         table.remove_one(b);
         table.remove_one(a);
@@ -191,10 +200,21 @@ mod tests {
         let whole = table.copy()?;
         let right = table.split_off(c)?;
         table.cut_at(c);
-        assert_eq!(rt; whole.len(), 3);
+        assert_eq!(rt; (whole.len(), whole.get(e)), (3, Some(Value::Number(5))));
         assert_eq!(rt; right.keys_in(Span::whole())?.as_slice(), [c, e].as_slice());
         assert_eq!(rt; table.keys_in(Span::whole())?.as_slice(), [a].as_slice());
-        assert_eq!(rt; right.get(e), Some(5));
+        assert_eq!(rt; right.get(e), Some(Value::Number(5)));
+        Ok(())
+    }
+
+    #[test]
+    fn passes_through_threads(rt: HostRuntime) -> Result<(), Fail> {
+        let one = three(rt.alloc())?;
+        let other = one.copy()?;
+        let (one, other) = join(&rt, move || one, move || other);
+        let e = Key::read(b"e")?;
+        assert_eq!(rt; one.get(e), Some(Value::Number(5)));
+        assert_eq!(rt; other.len(), 3);
         Ok(())
     }
 }

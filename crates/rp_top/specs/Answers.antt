@@ -31,11 +31,14 @@ kind_text kinds.MissingWord = codes "missing-word"
 kind_text kinds.NotNumber = codes "not-number"
 kind_text kinds.OutOfRange = codes "out-of-range"
 kind_text kinds.BadKey = codes "bad-key"
+kind_text kinds.BadText = codes "bad-text"
 kind_text kinds.BadSpan = codes "bad-span"
 kind_text kinds.NotSent = codes "not-sent"
 kind_text kinds.ExtraWord = codes "extra-word"
 kind_text kinds.BadByte = codes "bad-byte"
 kind_text kinds.NotBuilt = codes "not-built"
+kind_text kinds.NotJson = codes "not-json"
+kind_text kinds.NotReport = codes "not-report"
 
 -- which limit is passed, as it is written
 abbrev pub which_text : Which → List ℕ

@@ -21,11 +21,14 @@ fn kind_word(kind: LineKind) -> &'static str
         LineKind::NotNumber => "not-number",
         LineKind::OutOfRange => "out-of-range",
         LineKind::BadKey => "bad-key",
+        LineKind::BadText => "bad-text",
         LineKind::BadSpan => "bad-span",
         LineKind::NotSent => "not-sent",
         LineKind::ExtraWord => "extra-word",
         LineKind::BadByte => "bad-byte",
         LineKind::NotBuilt => "not-built",
+        LineKind::NotJson => "not-json",
+        LineKind::NotReport => "not-report",
     }
 }
 

@@ -4,7 +4,7 @@ use Rattle.std.specs.Prelude.{map, slice_get}
 use Rattle.std.specs.FinMap.{entries, len, len-entries}
 use Rattle.std.proofs.lemmas.List.{take_more, map-append}
 use Rattle.std.proofs.lemmas.Option.{get_or_from_slice_get}
-use Rattle.rp_request.specs.Table.{Table}
+use Rattle.rp_base.specs.Tables.{Table}
 use Rattle.rp_report.specs.declared.views.Row.{Row}
 use Rattle.rp_world.specs.Views.{row_of}
 

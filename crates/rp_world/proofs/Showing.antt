@@ -1,6 +1,6 @@
 -- Lines that are built keep what a node shows such that it can be written.
 use Rattle.std.proofs.Common.{◌≡◌, ◌≤◌, ◌+◌, ◌-◌, ◌==◌, ℕ, Bool, true, false, cond, nat_lt, List, [], ◌∷◌, ◌++◌, length, map, Option, None, Some, Result, Ok, Err, inl, inr, refl, sym, ap, subst, ◌∙◌, length-append}
-use Rattle.std.specs.Prelude.{All, IsFalse, nat_eq, if◌then◌else◌}
+use Rattle.std.specs.Prelude.{All, IsFalse, if◌then◌else◌}
 use Rattle.std.specs.List.{AllByRecursion}
 use Rattle.std.specs.declared.cmp.Ordering.{Ordering}
 use Rattle.std.specs.declared.cmp.Ordering.TheVariants.{Less, Equal, Greater}
@@ -11,6 +11,8 @@ use Rattle.std.specs.Ordering.{match_ordering}
 use Rattle.std.proofs.lemmas.List.Elements.{All-nil, All-cons}
 use Rattle.rp_base.specs.Keys.{end_of}
 use Rattle.rp_base.specs.Splits.{first_desc, split_of}
+use Rattle.rp_base.specs.Values.{value_eq}
+use Rattle.rp_base.specs.declared.values.Value.TheVariants.{Number}
 use Rattle.rp_base.specs.declared.ids.CmdId.{CmdId}
 use Rattle.rp_base.specs.declared.items.Item.TheVariants as items
 use Rattle.rp_base.specs.declared.leases.Lease as leases
@@ -18,8 +20,8 @@ use Rattle.rp_base.specs.declared.ranges.Desc.{Desc}
 use Rattle.rp_base.specs.declared.ranges.SplitFault.{SplitFault}
 use Rattle.rp_base.specs.declared.ranges.SplitFault.TheVariants as faults
 use Rattle.rp_request.specs.Covers.{is_split, in_bounds, spans_of}
-use Rattle.rp_request.specs.Effect.{Effect, effect, pass_on, split, writes}
-use Rattle.rp_request.specs.Table.{Table, count_in, greatest, value_at, without}
+use Rattle.rp_request.specs.Effect.{Effect, effect, give, pass_on, raise, split, writes}
+use Rattle.rp_base.specs.Tables.{Table, count_in, greatest, holds_text, value_at, without}
 use Rattle.rp_request.specs.declared.commands.Command.{Command}
 use Rattle.rp_request.specs.declared.commands.Op.{Op}
 use Rattle.rp_request.specs.declared.commands.Payload.TheVariants as payloads
@@ -32,13 +34,13 @@ use Rattle.rp_request.specs.declared.requests.Request.{Request}
 use Rattle.rp_request.specs.declared.requests.Request.TheVariants.{Put, Add, CPut, Del, Wipe, Move, Split}
 use Rattle.rp_latch.specs.Holds.{answer}
 use Rattle.rp_latch.specs.declared.holds.Held.{Held}
-use Rattle.rp_eval.specs.Batches.{batch_of}
-use Rattle.rp_eval.specs.Evaluations.{evaluated, with_batch}
-use Rattle.rp_eval.specs.declared.evaluations.Evaluated.{Evaluated}
-use Rattle.rp_apply.specs.Applied.{AppliedState, command_verdict, desc_after, record_of, written}
-use Rattle.rp_apply.specs.History.{History}
-use Rattle.rp_apply.specs.declared.verdicts.Verdict.{Verdict}
-use Rattle.rp_apply.specs.declared.verdicts.Verdict.TheVariants as verdicts
+use Rattle.rp_request.specs.Batches.{batch_of}
+use Rattle.rp_request.specs.Evaluations.{evaluated, with_batch}
+use Rattle.rp_request.specs.declared.evaluations.Evaluated.{Evaluated}
+use Rattle.rp_request.specs.Applied.{AppliedState, command_verdict, desc_after, record_of, written}
+use Rattle.rp_request.specs.History.{History}
+use Rattle.rp_request.specs.declared.verdicts.Verdict.{Verdict}
+use Rattle.rp_request.specs.declared.verdicts.Verdict.TheVariants as verdicts
 use Rattle.rp_raftlog.specs.LogState.{entry_at}
 use Rattle.rp_raftlog.specs.declared.entries.Entry.{Entry}
 use Rattle.rp_report.specs.Shown.{IsShownDesc, IsShownRefusal, IsShownOutcome, IsShownAnswer, IsShownRange, IsShownView}
@@ -59,7 +61,8 @@ use Rattle.rp_world.specs.Playing.{applied, asked, collected, flushed, happens, 
 use Rattle.rp_world.specs.Shows.{IsShownEntry, IsShowing}
 use Rattle.rp_world.specs.Sound.{IsGiven, IsSound}
 use Rattle.rp_world.specs.Views.{answer_of, range_view, view_of}
-use Rattle.rp_world.specs.Worlds.{World, Outcomes, cmd_cmp, started, with_note, with_outcome, ended_in, took, next_command, counted}
+use Rattle.rp_base.specs.Ids.{cmd_cmp}
+use Rattle.rp_world.specs.Worlds.{World, Outcomes, started, with_note, with_outcome, ended_in, took, next_command, counted}
 use Rattle.rp_world.proofs.SoundApply.{entry_known}
 
 -- what refuses an evaluation can be shown
@@ -83,18 +86,22 @@ split_shown t key (Err (faults.SplitLimit level)) = tt
 effect_shown : (t : Table) (d : Desc) (q : Request) → EffectShown (effect t d q)
 effect_shown t d (Put key value) = tt
 effect_shown t d (Add key by) =
-    either (nat_lt greatest (value_at t key + by)) (Err (refusals.Overflow (value_at t key))) (writes (insert t key (value_at t key + by)) d (Now (value_at t key + by))) tt tt
-effect_shown t d (CPut key expect value) = either (option_eq nat_eq (get t key) expect) (writes (insert t key value) d Set) (Err (refusals.ConditionFailed (get t key))) tt tt
+    either (holds_text t key) (Err (refusals.IsText key)) (raise t d key by) tt
+    (either (nat_lt greatest (value_at t key + by)) (Err (refusals.Overflow (value_at t key)))
+    (writes (insert t key (Number (value_at t key + by))) d (Now (value_at t key + by))) tt tt)
+effect_shown t d (CPut key expect value) = either (option_eq value_eq (get t key) expect) (writes (insert t key value) d Set) (Err (refusals.ConditionFailed (get t key))) tt tt
 effect_shown t d (Del key) = tt
 effect_shown t d (Wipe span) =
     either (nat_lt 16 (count_in t span.start (end_of span.end))) (Err (refusals.TooWide (count_in t span.start (end_of span.end))))
     (writes (without t span.start (end_of span.end)) d (Count (count_in t span.start (end_of span.end)))) tt tt
 effect_shown t d (Move from to by) =
-    either (nat_lt (value_at t from) by) (Err (refusals.Short (value_at t from)))
-    (if from == to then writes (insert t from (value_at t from)) d (Now (value_at t from)) else pass_on t d from to by) tt
-    (either (from == to) (writes (insert t from (value_at t from)) d (Now (value_at t from))) (pass_on t d from to by) tt
+    either (holds_text t from) (Err (refusals.IsText from)) (if holds_text t to then Err (refusals.IsText to) else give t d from to by) tt
+    (either (holds_text t to) (Err (refusals.IsText to)) (give t d from to by) tt
+    (either (nat_lt (value_at t from) by) (Err (refusals.Short (value_at t from)))
+    (if from == to then writes (insert t from (Number (value_at t from))) d (Now (value_at t from)) else pass_on t d from to by) tt
+    (either (from == to) (writes (insert t from (Number (value_at t from))) d (Now (value_at t from))) (pass_on t d from to by) tt
     (either (nat_lt greatest (value_at t to + by)) (Err (refusals.Overflow (value_at t to)))
-    (writes (insert (insert t from (value_at t from - by)) to (value_at t to + by)) d (Now (value_at t from - by))) tt tt))
+    (writes (insert (insert t from (Number (value_at t from - by))) to (Number (value_at t to + by))) d (Now (value_at t from - by))) tt tt))))
 effect_shown t d (Split key) = split_shown t key (split_of d key)
 
 batch_shown : (ops : List Op) (e : Result Effect Refusal) → EffectShown e → GuardShown (with_batch ops e)
@@ -250,6 +257,7 @@ stays_showing w n most line (lines.Ask node range) s h = h
 stays_showing w n most line (lines.Transfer node range to) s h = h
 stays_showing w n most line (lines.Cut node range) s h = h
 stays_showing w n most line (lines.Remove node range) s h = h
+stays_showing w n most line (lines.Restart node) s h = h
 stays_showing w n most line (lines.Tick node count) s h = h
 stays_showing w n most line (lines.Deliver node number) s h = h
 stays_showing w n most line (lines.Loss percent salt) s h = h

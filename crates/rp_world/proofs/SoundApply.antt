@@ -11,10 +11,10 @@ use Rattle.rp_request.specs.declared.requests.Request.{Request}
 use Rattle.rp_request.specs.declared.requests.Request.TheVariants.{Put, Add, CPut, Del, Wipe, Move, Split}
 use Rattle.rp_raftlog.specs.LogState.{LogState, last_index, entry_at}
 use Rattle.rp_raftlog.specs.declared.entries.Entry.{Entry}
-use Rattle.rp_apply.specs.Applied.{AppliedState, command_verdict, written}
-use Rattle.rp_apply.specs.Rooms.{MaySplit}
-use Rattle.rp_apply.specs.declared.verdicts.Verdict.{Verdict}
-use Rattle.rp_apply.specs.declared.verdicts.Verdict.TheVariants as verdicts
+use Rattle.rp_request.specs.Applied.{AppliedState, command_verdict, written}
+use Rattle.rp_request.specs.Applicable.{MaySplit}
+use Rattle.rp_request.specs.declared.verdicts.Verdict.{Verdict}
+use Rattle.rp_request.specs.declared.verdicts.Verdict.TheVariants as verdicts
 use Rattle.rp_pending.specs.Proposals.{waiting_again}
 use Rattle.rp_replica.specs.Allows.{MayApply, MayApplyNext}
 use Rattle.rp_replica.specs.Applications.{applied_one, recorded, turned, turn_of}

@@ -13,7 +13,7 @@ use Rattle.rp_request.specs.declared.outcomes.Refusal.{Refusal}
 use Rattle.rp_request.specs.declared.outcomes.Refusal.TheVariants.{NoReplica}
 use Rattle.rp_request.specs.declared.requests.Request.{Request}
 use Rattle.rp_request.specs.declared.requests.Request.TheVariants as requests
-use Rattle.rp_eval.specs.declared.evaluations.Evaluated.{Evaluated}
+use Rattle.rp_request.specs.declared.evaluations.Evaluated.{Evaluated}
 use Rattle.rp_pending.specs.Proposals.{has_id, proposal_of}
 use Rattle.rp_pending.specs.declared.proposals.Proposal.{Proposal}
 use Rattle.rp_raftlog.specs.LogState.{entry_at, last_index}
@@ -22,14 +22,14 @@ use Rattle.rp_replica.specs.Allows.{MayFlush}
 use Rattle.rp_replica.specs.Admissions.{admitted_by, guarded, proposal}
 use Rattle.rp_replica.specs.Applications.{applied_where, payload_of}
 use Rattle.rp_replica.specs.Replicas.{Replica}
-use Rattle.rp_replica.proofs.Known.{one_id}
+use Rattle.rp_base.proofs.IdLaws.{same_is}
 use Rattle.rp_replica.specs.declared.events.ReplicaEvent.TheVariants as events
 use Rattle.rp_script.specs.Bounds.{IsBounded}
 use Rattle.rp_script.specs.declared.lines.NumberedLine.{NumberedLine}
 use Rattle.rp_script.specs.declared.lines.ScriptLine.{ScriptLine}
 use Rattle.rp_script.specs.declared.lines.ScriptLine.TheVariants as lines
 use Rattle.rp_world.specs.Allows.{MayPlay, MaySend}
-use Rattle.rp_script.specs.Built.{unbuilt_request, unbuilt_word}
+use Rattle.rp_script.specs.Built.{unbuilt_in}
 use Rattle.rp_script.specs.Bounds.{IsTaken}
 use Rattle.rp_script.specs.declared.built.Forms.TheVariants.{OneNode}
 use Rattle.rp_world.specs.Notes.{absent_text, full_text}
@@ -218,22 +218,22 @@ either_sound w next n most line text false h k = noted_sound w n most line text 
 more_commands : (w : World) (n most : ℕ) → IsSound w n most → IsSound w (n + 1) most
 more_commands w n most h = record { clients = h.clients; counts = λ i. (let c = h.counts i in omega (arith, c)); waiting = h.waiting; replica = h.replica }
 
-built_plain : (q : Request) → unbuilt_request None q ≡ None → IsFalse (is_split q)
-built_plain (requests.Put key value) h = refl
-built_plain (requests.Add key by) h = refl
-built_plain (requests.CPut key expect value) h = refl
-built_plain (requests.Del key) h = refl
-built_plain (requests.Wipe span) h = refl
-built_plain (requests.Move from to by) h = refl
-built_plain (requests.Split key) h = cc
+built_plain : (node range client : ℕ) (q : Request) → unbuilt_in OneNode (lines.Send node range client q) ≡ None → IsFalse (is_split q)
+built_plain node range client (requests.Put key value) h = refl
+built_plain node range client (requests.Add key by) h = refl
+built_plain node range client (requests.CPut key expect value) h = refl
+built_plain node range client (requests.Del key) h = refl
+built_plain node range client (requests.Wipe span) h = refl
+built_plain node range client (requests.Move from to by) h = refl
+built_plain node range client (requests.Split key) h = cc
 
 peeked_sound : (w : World) (n most line key : ℕ) → IsSound w n most → IsSound (peeked w line key (happens w (events.Peek key)).answer) n most
 peeked_sound w n most line key h = noted_sound w n most line _ h
 
-pub stays_sound : (w : World) (n most line : ℕ) (l : ScriptLine) → IsSound w n most → IsBounded l → unbuilt_word l ≡ None → FlushFits w l
+pub stays_sound : (w : World) (n most line : ℕ) (l : ScriptLine) → IsSound w n most → IsBounded l → unbuilt_in OneNode l ≡ None → FlushFits w l
     → IsSound (played w line l) (n + 1) (most + 1)
 stays_sound w n most line (lines.Send node range client request) h bounded built fits =
-    sent_by w n most line client request (has_replica w range) bounded.0 bounded.1 (built_plain request built) h
+    sent_by w n most line client request (has_replica w range) bounded.0 bounded.1 (built_plain node range client request built) h
 stays_sound w n most line (lines.Flush node range) h bounded built fits =
     grown_sound _ n most (either_sound w (flushed (collected w)) n most line absent_text (has_replica w range) h
     (λ here. flushed_sound (collected w) n most (collected_sound w n most h) (fits here)))
@@ -253,6 +253,7 @@ stays_sound w n most line (lines.Ask node range) h bounded built fits = grown_so
 stays_sound w n most line (lines.Transfer node range to) h bounded built fits = grown_sound w n most h
 stays_sound w n most line (lines.Cut node range) h bounded built fits = grown_sound w n most h
 stays_sound w n most line (lines.Remove node range) h bounded built fits = grown_sound w n most h
+stays_sound w n most line (lines.Restart node) h bounded built fits = grown_sound w n most h
 stays_sound w n most line (lines.Tick node count) h bounded built fits = grown_sound w n most h
 stays_sound w n most line (lines.Deliver node number) h bounded built fits = grown_sound w n most h
 stays_sound w n most line (lines.Loss percent salt) h bounded built fits = grown_sound w n most h
@@ -267,7 +268,7 @@ fresh : (counts : List ℕ) (id : CmdId) (ps : List Proposal) → AllByRecursion
 fresh counts id [] h new = refl
 fresh counts id (p ∷ ps) h new =
     fresh_by (has_id id p) p (proposal_of id ps)
-    (λ same. (let old = subst (λ (i : CmdId). i.seq ≤ get_or counts (i.client - 1) 0) (sym (one_id id p.id same)) h.0.count in absurd (omega (arith, old, new))))
+    (λ same. (let old = subst (λ (i : CmdId). i.seq ≤ get_or counts (i.client - 1) 0) (sym (same_is id p.id same)) h.0.count in absurd (omega (arith, old, new))))
     (fresh counts id ps h.1 new)
 
 may_flush : (w : World) (n most : ℕ) → IsSound w n most → most ≤ 65536 → MayFlush w.replica
@@ -295,6 +296,7 @@ may_play w n most (lines.Ask node range) h few small bounded = tt
 may_play w n most (lines.Transfer node range to) h few small bounded = tt
 may_play w n most (lines.Cut node range) h few small bounded = tt
 may_play w n most (lines.Remove node range) h few small bounded = tt
+may_play w n most (lines.Restart node) h few small bounded = tt
 may_play w n most (lines.Tick node count) h few small bounded = tt
 may_play w n most (lines.Deliver node number) h few small bounded = tt
 may_play w n most (lines.Loss percent salt) h few small bounded = tt

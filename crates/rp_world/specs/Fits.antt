@@ -1,5 +1,5 @@
 -- What the lines of a script hold: numbers of their widths, and keys.
-use Rattle.rp_codec.specs.Fits.{FitsRequest}
+use Rattle.rp_request.specs.Fits.{FitsRequest}
 use Rattle.rp_script.specs.declared.lines.NumberedLine.{NumberedLine}
 use Rattle.rp_script.specs.declared.lines.ScriptLine.{ScriptLine}
 use Rattle.rp_script.specs.declared.lines.ScriptLine.TheVariants.{Send}

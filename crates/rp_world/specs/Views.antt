@@ -2,7 +2,8 @@
 use Rattle.std.specs.Prelude.{ℕ, [], ◌∷◌, map}
 use Rattle.std.specs.FinMap.{entries}
 use Rattle.rp_base.specs.declared.ids.CmdId.{CmdId}
-use Rattle.rp_request.specs.declared.notes.Answer.{Answer}
+use Rattle.rp_base.specs.declared.values.Value.{Value}
+use Rattle.rp_request.specs.declared.notes.ReplyLine.{ReplyLine}
 use Rattle.rp_request.specs.declared.outcomes.End.TheVariants as ends
 use Rattle.rp_request.specs.declared.outcomes.Outcome.{Outcome}
 use Rattle.rp_report.specs.declared.views.Row.{Row}
@@ -10,16 +11,16 @@ use Rattle.rp_report.specs.declared.views.ReplicaView.{ReplicaView}
 use Rattle.rp_report.specs.declared.views.ReplicaView.TheVariants.{Live}
 use Rattle.rp_report.specs.declared.views.RangeView.{RangeView}
 use Rattle.rp_report.specs.declared.views.View.{View}
-use Rattle.rp_replica.specs.Flushes.{first_term}
+use Rattle.rp_base.specs.Limits.{first_term}
 use Rattle.rp_replica.specs.Replicas.{Replica}
 use Rattle.rp_world.specs.Worlds.{World}
 
 -- how an attempt ended
-abbrev pub answer_of : CmdId × Outcome → Answer
+abbrev pub answer_of : CmdId × Outcome → ReplyLine
 answer_of e = record { client = e.0.client; seq = e.0.seq; attempt = e.0.attempt; end = ends.Outcome e.1 }
 
 -- a row as it is shown
-abbrev pub row_of : ℕ × ℕ → Row
+abbrev pub row_of : ℕ × Value → Row
 row_of e = record { key = e.0; value = e.1 }
 
 -- how far a replica has come, and its rows by key

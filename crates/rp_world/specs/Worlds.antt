@@ -1,9 +1,9 @@
 -- One node that plays the lines of a script.
-use Rattle.std.specs.Prelude.{ℕ, ◌+◌, ◌-◌, List, [], ◌∷◌, ◌++◌, replicate, slice_index, slice_set}
+use Rattle.std.specs.Prelude.{ℕ, ◌+◌, List, [], ◌∷◌, ◌++◌}
 use Rattle.std.specs.BTreeMap.{insert_entry}
 use Rattle.std.specs.FinMap.{empty}
-use Rattle.std.specs.Ordering.{nat_cmp, ordering_then}
-use Rattle.std.specs.declared.cmp.Ordering.{Ordering}
+use Rattle.rp_base.specs.ClientCounts.{no_counts, count_of, one_more_of}
+use Rattle.rp_base.specs.Ids.{cmd_cmp}
 use Rattle.rp_base.specs.Leases.{first_lease}
 use Rattle.rp_base.specs.Splits.{first_desc}
 use Rattle.rp_base.specs.declared.ids.CmdId.{CmdId}
@@ -13,10 +13,6 @@ use Rattle.rp_request.specs.declared.outcomes.Outcome.{Outcome}
 use Rattle.rp_replica.specs.Replicas.{Replica, Done}
 use Rattle.rp_replica.specs.Replicas as replicas
 use Rattle.rp_replica.specs.declared.events.Ended.{Ended}
-
--- attempts stand by client, then by the command's number, then by their own
-abbrev pub cmd_cmp : CmdId → CmdId → Ordering
-cmd_cmp a b = ordering_then (nat_cmp a.client b.client) (ordering_then (nat_cmp a.seq b.seq) (nat_cmp a.attempt b.attempt))
 
 -- the outcomes of attempts, by attempt
 abbrev pub Outcomes : Type 0
@@ -36,7 +32,7 @@ abbrev pub started : World
 started = record {
   replica = replicas.started 1 (record { desc = first_desc; lease = first_lease; lai = 0; table = empty }) 0 0;
   waiting = [];
-  sent = replicate 64 0;
+  sent = no_counts;
   outcomes = [];
   notes = [];
 }
@@ -60,8 +56,8 @@ took w d = record w { replica = d.replica; outcomes = ended_in d.outcomes w.outc
 
 -- the first attempt of a client's next command
 abbrev pub next_command : World → ℕ → CmdId
-next_command w client = record { client = client; seq = slice_index w.sent (client - 1) + 1; attempt = 1 }
+next_command w client = record { client = client; seq = count_of w.sent client + 1; attempt = 1 }
 
 -- the client has sent one command more
 abbrev pub counted : World → ℕ → World
-counted w client = record w { sent = slice_set w.sent (client - 1) (slice_index w.sent (client - 1) + 1) }
+counted w client = record w { sent = one_more_of w.sent client }

@@ -5,7 +5,8 @@ ghost use Rattle.rp_replica.specs.Allows.{Allows};
 ghost use Rattle.rp_replica.specs.Writes.{WritesFit};
 ghost use Rattle.rp_replica.specs.declared.events.ReplicaEvent.TheVariants.{Flush};
 ghost use Rattle.std.specs.BTreeMap.{insert_entry};
-ghost use Rattle.rp_world.specs.Worlds.{cmd_cmp, ended_in};
+ghost use Rattle.rp_base.specs.Ids.{cmd_cmp};
+ghost use Rattle.rp_world.specs.Worlds.{ended_in};
 
 use rp_base::{CmdId, Items, NoMemory, Tick};
 use rp_replica::{Effects, Ended, Replica, ReplicaEvent, ReplicaPlan};

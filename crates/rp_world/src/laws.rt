@@ -3,7 +3,8 @@ ghost use Rattle.std.specs.Prelude.{◌≡◌, ℕ, ◌+◌, ◌-◌, ◌≤◌,
 ghost use Rattle.rp_script.specs.Bounds.{IsBounded};
 ghost use Rattle.rp_script.specs.declared.lines.ScriptLine.{ScriptLine};
 ghost use Rattle.rp_world.specs.Allows.{MayPlay};
-ghost use Rattle.rp_script.specs.Built.{unbuilt_word};
+ghost use Rattle.rp_script.specs.Built.{unbuilt_in};
+ghost use Rattle.rp_script.specs.declared.built.Forms.TheVariants.{OneNode};
 ghost use Rattle.rp_world.specs.Playing.{played};
 ghost use Rattle.rp_report.specs.Shown.{IsShownView};
 ghost use Rattle.rp_world.specs.Shows.{IsShowing};
@@ -19,7 +20,7 @@ pub fn a_node_starts_sound()
 
 /// A line that is built leaves a sound node sound, with each number at most one greater.
 pub fn a_line_keeps_a_node_sound()
-    ensures { (w : World) (n : ℕ) (most : ℕ) (line : ℕ) (l : ScriptLine) → IsSound w n most → IsBounded l → unbuilt_word l ≡ None → FlushFits w l
+    ensures { (w : World) (n : ℕ) (most : ℕ) (line : ℕ) (l : ScriptLine) → IsSound w n most → IsBounded l → unbuilt_in OneNode l ≡ None → FlushFits w l
         → IsSound (played w line l) (n + 1) (most + 1) }
 {}
 

@@ -1,7 +1,6 @@
 //! One node that plays the lines of a script on its replica, and what it shows.
 #![tactic(auto)]
 
-mod counts;
 mod events;
 pub mod laws;
 mod notes;

@@ -11,13 +11,10 @@ ghost use Rattle.rp_world.specs.Playing.{placed, told, asked, sent, flushed, col
 
 use crate::notes::{peek_text, text_of};
 use crate::worlds::World;
-use rp_base::{CmdId, Item, Key, NoMemory, RangeId};
+use rp_base::{BUFFER_CAPACITY, CmdId, Item, Key, NoMemory, RangeId};
 use rp_replica::{EventAnswer, ReplicaEvent};
 use rp_request::{Outcome, Refusal, Request};
 use rp_script::ScriptLine;
-
-/// How many items may wait for a flush, as a proposal buffer has places.
-const MAX_WAITING: usize = 16;
 
 impl World {
     /// A line has these words to tell.
@@ -32,7 +29,7 @@ impl World {
     fn place(&mut self, line: u32, id: CmdId) -> Result<(), NoMemory>
         ensures { OnOk result (self.new ≡ placed self.old line id) }
     {
-        if self.waiting.len() < MAX_WAITING {
+        if self.waiting.len() < BUFFER_CAPACITY {
             self.waiting.make_room(1)?;
             self.waiting.push(Item::Write(id));
             return Ok(());
@@ -76,7 +73,7 @@ impl World {
     {
         let id = CmdId {
             client,
-            seq: self.sent.count(client),
+            seq: self.sent.add_one(client),
             attempt: 1,
         };
         if !self.has_replica(range) {

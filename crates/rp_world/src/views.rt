@@ -3,15 +3,12 @@ ghost use Rattle.std.specs.FinMap.{entries};
 ghost use Rattle.rp_world.specs.Views.{answer_of, range_view, replica_view, row_of, view_of};
 
 use crate::worlds::World;
-use rp_base::{CmdId, NoMemory, Seq};
+use rp_base::{CmdId, FIRST_TERM, NoMemory, Seq};
 use rp_report::{RangeView, ReplicaView, Row, View};
-use rp_request::{Answer, End, Outcome, Replies};
+use rp_request::{ReplyLine, End, Outcome, Replies};
 use rp_table::Table;
 use std::alloc::Global;
 use std::collections::BTreeMap;
-
-/// The term of a replica, for as long as no other leader stands.
-const FIRST_TERM: u64 = 1;
 
 /// The rows of a table, by key.
 fn rows_of(alloc: Global, table: &Table) -> Result<Seq<Row>, NoMemory>
@@ -31,7 +28,7 @@ fn answers_of(alloc: Global, outcomes: &BTreeMap<CmdId, Outcome>) -> Result<Repl
 {
     let mut answers = Vec::new(alloc);
     for (id, outcome) in outcomes {
-        answers.push(Answer {
+        answers.push(ReplyLine {
             client: id.client,
             seq: id.seq,
             attempt: id.attempt,

@@ -1,20 +1,29 @@
 ghost use Rattle.std.specs.Prelude.{◌<◌, ◌^◌};
 ghost use Rattle.std.specs.List.{AllByRecursion};
 ghost use Rattle.rp_base.specs.Keys.{IsKey};
-ghost use Rattle.rp_codec.specs.Fits.{FitsValue, FitsOption, FitsEnd, FitsSpan, FitsRequest};
+ghost use Rattle.rp_base.specs.Values.{IsValue};
+ghost use Rattle.rp_request.specs.Fits.{FitsOption, FitsEnd, FitsSpan, FitsRequest};
 ghost use Rattle.rp_world.specs.Fits.{LineFits};
 
-use rp_base::{Key, KeySpan};
+use rp_base::{Key, KeySpan, Value};
 use rp_request::Request;
 use rp_script::{NumberedLine, ScriptLine};
 
 // What the types of a line say of its numbers and keys. The functions do nothing.
 
-fn value_fits(value: u64)
-    ensures { FitsValue value }
+fn number_fits(number: u64)
+    ensures { number < 2 ^ 64 }
 {}
 
-fn option_fits(option: Option<u64>)
+fn value_fits(value: Value)
+    ensures { IsValue value }
+{
+    if let Value::Text(text) = value {
+        let _text = text.as_bytes();
+    }
+}
+
+fn option_fits(option: Option<Value>)
     ensures { FitsOption option }
 {
     if let Some(value) = option {
@@ -45,7 +54,7 @@ fn request_fits(request: Request)
         }
         Request::Add { key, by } => {
             key_fits(key);
-            value_fits(by);
+            number_fits(by);
         }
         Request::CPut { key, expect, value } => {
             key_fits(key);
@@ -57,7 +66,7 @@ fn request_fits(request: Request)
         Request::Move { from, to, by } => {
             key_fits(from);
             key_fits(to);
-            value_fits(by);
+            number_fits(by);
         }
     }
 }

@@ -5,9 +5,8 @@ ghost use Rattle.rp_replica.specs.Allows.{Allows};
 ghost use Rattle.rp_replica.specs.Writes.{WritesFit};
 ghost use Rattle.rp_replica.specs.declared.events.ReplicaEvent.TheVariants.{Flush};
 
-use crate::counts::Counts;
 use crate::events::{collect, end_all, end_one, happen};
-use rp_base::{CmdId, Items, NoMemory, NodeId, RangeId, Text};
+use rp_base::{ClientCounts, CmdId, Items, NoMemory, NodeId, RangeId, Text};
 use rp_range::{first_desc, first_lease};
 use rp_replica::{Effects, Replica, ReplicaEvent};
 use rp_request::{Note, Outcome};
@@ -22,7 +21,7 @@ pub struct World {
     pub(crate) alloc: Global,
     pub(crate) replica: Replica,
     pub(crate) waiting: Items,
-    pub(crate) sent: Counts,
+    pub(crate) sent: ClientCounts,
     pub(crate) outcomes: BTreeMap<CmdId, Outcome>,
     pub(crate) notes: Vec<Note>,
 }
@@ -30,7 +29,7 @@ pub struct World {
 impl Model for World {
     ghost use Rattle.std.specs.Prelude.{◌≡◌, ◌≤◌, length};
     ghost use Rattle.std.specs.Coded.{codes};
-    ghost use Rattle.rp_request.specs.Table.{table_code};
+    ghost use Rattle.rp_base.specs.Tables.{table_code};
     ghost use Rattle.rp_world.specs.Worlds as worlds;
 
     ghost Value = { worlds.World };
@@ -59,7 +58,7 @@ impl World {
             alloc,
             replica: Replica::start(alloc, node, first_desc(), first_lease(), table, (0, 0)),
             waiting: Items::new(alloc),
-            sent: Counts::new(),
+            sent: ClientCounts::new(),
             outcomes: BTreeMap::new(alloc),
             notes: Vec::new(alloc),
         }

@@ -13,14 +13,14 @@ use Rattle.rp_request.specs.declared.outcomes.Outcome.TheVariants.{Refused, Pend
 use Rattle.rp_request.specs.declared.outcomes.Refusal.{Refusal}
 use Rattle.rp_request.specs.declared.outcomes.Refusal.TheVariants.{NoReplica}
 use Rattle.rp_request.specs.declared.requests.Request.{Request}
-use Rattle.rp_eval.specs.declared.evaluations.Evaluated.{Evaluated}
+use Rattle.rp_request.specs.declared.evaluations.Evaluated.{Evaluated}
 use Rattle.rp_latch.proofs.Elements.{count_cons}
 use Rattle.rp_replica.specs.Admissions.{admitted_by, guarded}
 use Rattle.rp_replica.specs.Applications.{applied_where, next_payload}
 use Rattle.rp_replica.specs.Flushes.{flushed}
 use Rattle.rp_replica.specs.declared.events.Ended.{Ended}
 use Rattle.rp_replica.specs.declared.events.ReplicaEvent.TheVariants as events
-use Rattle.rp_rangesafe.proofs.Tables.{id_cases}
+use Rattle.rp_base.proofs.IdLaws.{id_cases}
 use Rattle.rp_refine.specs.Laws.{IsReached}
 use Rattle.rp_refine.specs.Runs.{Input, Run, begun, next, play, AllLawful}
 use Rattle.rp_refine.specs.Runs as runs
@@ -34,7 +34,8 @@ use Rattle.rp_script.specs.declared.lines.ScriptLine.TheVariants as lines
 use Rattle.rp_world.specs.Notes.{absent_text, full_text}
 use Rattle.rp_world.specs.Playing.{applied, asked, collected, has_replica, happens, noted, peeked, played, played_all}
 use Rattle.rp_world.specs.Playing as playing
-use Rattle.rp_world.specs.Worlds.{World, Outcomes, cmd_cmp, counted, ended_in, next_command, started, took, with_note}
+use Rattle.rp_base.specs.Ids.{cmd_cmp}
+use Rattle.rp_world.specs.Worlds.{World, Outcomes, counted, ended_in, next_command, started, took, with_note}
 use Rattle.rp_world.specs.Worlds as worlds
 use Rattle.rp_world.proofs.SoundPlay.{none_sent}
 use Rattle.rp_worldsafe.specs.Inputs.{all_inputs, input, inputs_of}

@@ -1,7 +1,6 @@
 -- What is found in a list of outcomes once one more is put into it.
 use Rattle.std.proofs.Common.{◌≡◌, Bool, true, false, cond, [], ◌∷◌, Option, None, Some, refl, sym, ap, ◌∙◌}
 use Rattle.std.specs.BTreeMap.{insert_entry, is_at}
-use Rattle.std.specs.Cmp.{IsTotalOrder, nat_cmp_total, on_total, then_total}
 use Rattle.std.specs.List.{AllByRecursion}
 use Rattle.std.specs.Map.{lookup}
 use Rattle.std.specs.Ordering.{is_eq, match_ordering, ordering_reverse}
@@ -9,57 +8,36 @@ use Rattle.std.specs.declared.cmp.Ordering.{Ordering}
 use Rattle.std.specs.declared.cmp.Ordering.TheVariants.{Less, Equal, Greater}
 use Rattle.rp_base.specs.declared.ids.CmdId.{CmdId}
 use Rattle.rp_request.specs.declared.outcomes.Outcome.{Outcome}
-use Rattle.rp_flush.proofs.Finds.{at_same, same_is}
-use Rattle.rp_refine.proofs.Stands.{apart}
-use Rattle.rp_flush.specs.Assigns.{same_id}
-use Rattle.rp_world.specs.Worlds.{Outcomes, cmd_cmp}
-
-cmd_total : IsTotalOrder cmd_cmp
-cmd_total =
-    then_total (on_total (λ (id : CmdId). id.client) nat_cmp_total)
-    (then_total (on_total (λ (id : CmdId). id.seq) nat_cmp_total) (on_total (λ (id : CmdId). id.attempt) nat_cmp_total))
+use Rattle.rp_base.proofs.IdLaws.{at_itself, at_other, cmd_total, cmd_equal_is}
+use Rattle.rp_base.specs.Ids.{cmd_cmp}
+use Rattle.rp_world.specs.Worlds.{Outcomes}
 
 -- the outcome of an attempt in a list of them
 abbrev pub found : Outcomes → CmdId → Option Outcome
 found es id = lookup (is_at (cmd_cmp id)) es
 
-itself : (id : CmdId) → is_at (cmd_cmp id) id ≡ true
-itself id = at_same id id ∙ go (same_id id id) refl where
-  go : (b : Bool) → same_id id id ≡ b → same_id id id ≡ true
-  go true e = e
-  go false e = absurd (apart id id e refl)
-
-other : (q id : CmdId) → (q ≡ id → ⊥) → is_at (cmd_cmp q) id ≡ false
-other q id ne = at_same q id ∙ go (same_id q id) refl where
-  go : (b : Bool) → same_id q id ≡ b → same_id q id ≡ false
-  go true e = absurd (ne (same_is q id e))
-  go false e = e
-
-equal_is : (id k : CmdId) → cmd_cmp id k ≡ Equal → id ≡ k
-equal_is id k e = same_is id k (sym (at_same id k) ∙ ap is_eq e)
-
 put_itself_by : (es rest : Outcomes) (e : CmdId × Outcome) (id : CmdId) (v : Outcome) (o : Ordering) → cmd_cmp id e.0 ≡ o → found rest id ≡ Some v
     → found (match_ordering o ((id, v) ∷ e ∷ es) ((e.0, v) ∷ es) (e ∷ rest)) id ≡ Some v
-put_itself_by es rest e id v Less is ih = ap (λ b. cond b (Some v) (found (e ∷ es) id)) (itself id)
+put_itself_by es rest e id v Less is ih = ap (λ b. cond b (Some v) (found (e ∷ es) id)) (at_itself id)
 put_itself_by es rest e id v Equal is ih = ap (λ o. cond (is_eq o) (Some v) (found es id)) is
 put_itself_by es rest e id v Greater is ih = ap (λ o. cond (is_eq o) (Some e.1) (found rest id)) is ∙ ih
 
 -- the attempt has the outcome that was put
 pub put_itself : (es : Outcomes) (id : CmdId) (v : Outcome) → found (insert_entry cmd_cmp es id v) id ≡ Some v
-put_itself [] id v = ap (λ b. cond b (Some v) None) (itself id)
+put_itself [] id v = ap (λ b. cond b (Some v) None) (at_itself id)
 put_itself (e ∷ es) id v = put_itself_by es (insert_entry cmd_cmp es id v) e id v (cmd_cmp id e.0) refl (put_itself es id v)
 
 put_other_by : (es rest : Outcomes) (e : CmdId × Outcome) (id : CmdId) (v : Outcome) (q : CmdId) → (q ≡ id → ⊥) → (o : Ordering) → cmd_cmp id e.0 ≡ o
     → found rest q ≡ found es q → found (match_ordering o ((id, v) ∷ e ∷ es) ((e.0, v) ∷ es) (e ∷ rest)) q ≡ found (e ∷ es) q
-put_other_by es rest e id v q ne Less is ih = ap (λ b. cond b (Some v) (found (e ∷ es) q)) (other q id ne)
+put_other_by es rest e id v q ne Less is ih = ap (λ b. cond b (Some v) (found (e ∷ es) q)) (at_other q id ne)
 put_other_by es rest e id v q ne Equal is ih =
-    let no = other q e.0 (λ same. ne (same ∙ sym (equal_is id e.0 is))) in
+    let no = at_other q e.0 (λ same. ne (same ∙ sym (cmd_equal_is id e.0 is))) in
     ap (λ b. cond b (Some v) (found es q)) no ∙ sym (ap (λ b. cond b (Some e.1) (found es q)) no)
 put_other_by es rest e id v q ne Greater is ih = ap (cond (is_at (cmd_cmp q) e.0) (Some e.1)) ih
 
 -- each other attempt has the outcome that it had
 pub put_other : (es : Outcomes) (id : CmdId) (v : Outcome) (q : CmdId) → (q ≡ id → ⊥) → found (insert_entry cmd_cmp es id v) q ≡ found es q
-put_other [] id v q ne = ap (λ b. cond b (Some v) None) (other q id ne)
+put_other [] id v q ne = ap (λ b. cond b (Some v) None) (at_other q id ne)
 put_other (e ∷ es) id v q ne = put_other_by es (insert_entry cmd_cmp es id v) e id v q ne (cmd_cmp id e.0) refl (put_other es id v q ne)
 
 -- each attempt stands once, in the order of attempts
@@ -103,4 +81,4 @@ found_behind e es (f ∷ fs) h k =
 
 pub each_found : (es : Outcomes) → IsRising es → AllByRecursion (IsFoundIn es) es
 each_found [] h = tt
-each_found (e ∷ es) h = (ap (λ b. cond b (Some e.1) (found es e.0)) (itself e.0), found_behind e es es h.0 (each_found es h.1))
+each_found (e ∷ es) h = (ap (λ b. cond b (Some e.1) (found es e.0)) (at_itself e.0), found_behind e es es h.0 (each_found es h.1))

@@ -14,8 +14,8 @@ use Rattle.rp_request.specs.declared.outcomes.Refusal.{Refusal}
 use Rattle.rp_request.specs.declared.outcomes.Refusal.TheVariants.{NoReplica}
 use Rattle.rp_request.specs.declared.requests.Request.{Request}
 use Rattle.rp_request.specs.declared.requests.Request.TheVariants as requests
-use Rattle.rp_codec.specs.Fits.{FitsRequest, FitsEnd}
-use Rattle.rp_eval.specs.declared.evaluations.Evaluated.{Evaluated}
+use Rattle.rp_request.specs.Fits.{FitsRequest, FitsEnd}
+use Rattle.rp_request.specs.declared.evaluations.Evaluated.{Evaluated}
 use Rattle.rp_replica.specs.Admissions.{admitted_by, guarded}
 use Rattle.rp_replica.specs.Applications.{applied_where, next_payload}
 use Rattle.rp_replica.specs.declared.events.ReplicaEvent.TheVariants as events

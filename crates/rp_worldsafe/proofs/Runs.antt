@@ -7,7 +7,7 @@ use Rattle.rp_request.specs.declared.outcomes.Outcome.TheVariants as outcomes
 use Rattle.rp_request.specs.declared.outcomes.Refusal.{Refusal}
 use Rattle.rp_request.specs.declared.outcomes.Refusal.TheVariants.{NoReplica}
 use Rattle.rp_request.specs.declared.requests.Request.{Request}
-use Rattle.rp_eval.specs.declared.evaluations.Evaluated.{Evaluated}
+use Rattle.rp_request.specs.declared.evaluations.Evaluated.{Evaluated}
 use Rattle.rp_replica.specs.Admissions.{admitted_by, guarded}
 use Rattle.rp_replica.specs.Applications.{applied_where, next_payload}
 use Rattle.rp_replica.specs.Replicas.{Replica}
@@ -76,6 +76,7 @@ line_same w line (lines.Ask node range) = refl
 line_same w line (lines.Transfer node range to) = refl
 line_same w line (lines.Cut node range) = refl
 line_same w line (lines.Remove node range) = refl
+line_same w line (lines.Restart node) = refl
 line_same w line (lines.Tick node count) = refl
 line_same w line (lines.Deliver node number) = refl
 line_same w line (lines.Loss percent salt) = refl

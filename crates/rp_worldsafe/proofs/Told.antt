@@ -16,10 +16,10 @@ use Rattle.rp_request.specs.declared.outcomes.Outcome.TheVariants.{Refused, Pend
 use Rattle.rp_request.specs.declared.outcomes.Refusal.{Refusal}
 use Rattle.rp_request.specs.declared.outcomes.Refusal.TheVariants.{NoReplica}
 use Rattle.rp_request.specs.declared.requests.Request.{Request}
-use Rattle.rp_eval.specs.declared.evaluations.Evaluated.{Evaluated}
-use Rattle.rp_apply.specs.Applied.{command_verdict}
-use Rattle.rp_apply.specs.declared.verdicts.Verdict as verdict_type
-use Rattle.rp_apply.specs.declared.verdicts.Verdict.TheVariants as verdicts
+use Rattle.rp_request.specs.declared.evaluations.Evaluated.{Evaluated}
+use Rattle.rp_request.specs.Applied.{command_verdict}
+use Rattle.rp_request.specs.declared.verdicts.Verdict as verdict_type
+use Rattle.rp_request.specs.declared.verdicts.Verdict.TheVariants as verdicts
 use Rattle.rp_pending.specs.Proposals.{proposal_of}
 use Rattle.rp_pending.specs.declared.proposals.Proposal.{Proposal}
 use Rattle.rp_replica.specs.Admissions.{admitted_by, guarded}
@@ -28,8 +28,9 @@ use Rattle.rp_replica.specs.Applications as applications
 use Rattle.rp_replica.specs.Flushes.{flushed, refused_with}
 use Rattle.rp_replica.specs.declared.events.Ended.{Ended}
 use Rattle.rp_replica.specs.declared.events.ReplicaEvent.TheVariants as events
-use Rattle.rp_rangesafe.specs.Attempts.{IsPending, Waiting, Attempts, same_id}
-use Rattle.rp_rangesafe.proofs.Tables.{id_cases, same_id_is, other_id}
+use Rattle.rp_base.specs.Ids.{same_id}
+use Rattle.rp_rangesafe.specs.Attempts.{IsPending, Waiting, Attempts}
+use Rattle.rp_base.proofs.IdLaws.{id_cases, same_is, not_same_apart}
 use Rattle.rp_refine.specs.Laws.{IsReached}
 use Rattle.rp_refine.specs.Runs.{Input, Run, begun, with_outcome, with_ended, left_by, next, play, AllLawful}
 use Rattle.rp_refine.specs.Runs as runs
@@ -45,7 +46,8 @@ use Rattle.rp_script.specs.declared.lines.ScriptLine.TheVariants as lines
 use Rattle.rp_world.specs.Notes.{absent_text, full_text}
 use Rattle.rp_world.specs.Playing.{applied, asked, collected, has_replica, happens, noted, peeked, played, played_all}
 use Rattle.rp_world.specs.Playing as playing
-use Rattle.rp_world.specs.Worlds.{World, Outcomes, cmd_cmp, counted, ended_in, next_command, started, took, with_note}
+use Rattle.rp_base.specs.Ids.{cmd_cmp}
+use Rattle.rp_world.specs.Worlds.{World, Outcomes, counted, ended_in, next_command, started, took, with_note}
 use Rattle.rp_world.specs.Worlds as worlds
 use Rattle.rp_worldsafe.specs.Inputs.{all_inputs, input, inputs_of, run_of}
 use Rattle.rp_worldsafe.specs.Told.{IsKept, IsTold, IsUnasked}
@@ -54,11 +56,11 @@ use Rattle.rp_worldsafe.proofs.Lookups.{IsRising, each_found, found, put_itself,
 -- what the run was told, once one attempt is told more
 run_put_itself : (f : runs.Outcomes) (id : CmdId) (o : Outcome) → with_outcome f id o id ≡ Some o
 unfolding with_outcome
-run_put_itself f id o = cond_both (same_id id id) (Some o) (f id) (λ r. r ≡ Some o) (λ e. refl) (λ e. absurd (other_id id id e refl))
+run_put_itself f id o = cond_both (same_id id id) (Some o) (f id) (λ r. r ≡ Some o) (λ e. refl) (λ e. absurd (not_same_apart id id e refl))
 
 run_put_other : (f : runs.Outcomes) (id : CmdId) (o : Outcome) (q : CmdId) → (q ≡ id → ⊥) → with_outcome f id o q ≡ f q
 unfolding with_outcome
-run_put_other f id o q ne = cond_both (same_id q id) (Some o) (f q) (λ r. r ≡ f q) (λ e. absurd (ne (same_id_is q id e))) (λ e. refl)
+run_put_other f id o q ne = cond_both (same_id q id) (Some o) (f q) (λ r. r ≡ f q) (λ e. absurd (ne (same_is q id e))) (λ e. refl)
 
 -- the node has refused the attempt, and the run was told nothing
 abbrev pub Unasked : Outcomes → runs.Outcomes → CmdId → Type 0
@@ -350,6 +352,7 @@ line_goes w f line (lines.Ask node range) bounded r lawful long k = went_none w 
 line_goes w f line (lines.Transfer node range to) bounded r lawful long k = went_none w f long k
 line_goes w f line (lines.Cut node range) bounded r lawful long k = went_none w f long k
 line_goes w f line (lines.Remove node range) bounded r lawful long k = went_none w f long k
+line_goes w f line (lines.Restart node) bounded r lawful long k = went_none w f long k
 line_goes w f line (lines.Tick node count) bounded r lawful long k = went_none w f long k
 line_goes w f line (lines.Deliver node number) bounded r lawful long k = went_none w f long k
 line_goes w f line (lines.Loss percent salt) bounded r lawful long k = went_none w f long k

@@ -13,7 +13,7 @@ use Rattle.rp_request.specs.declared.outcomes.Ambiguity.{Ambiguity}
 use Rattle.rp_request.specs.declared.outcomes.Outcome.TheVariants.{Success, Ambiguous, Pending}
 use Rattle.rp_request.specs.declared.outcomes.Reply.{Reply}
 use Rattle.rp_pending.specs.Proposals.{proposal_of}
-use Rattle.rp_apply.specs.Applied.{after_all, records_of}
+use Rattle.rp_request.specs.Applied.{after_all, records_of}
 use Rattle.rp_replica.specs.Carried.{AllCarry}
 use Rattle.rp_rangesafe.specs.Places.{shown}
 use Rattle.rp_rangesafe.specs.Ranges.{first_applied}

@@ -1,5 +1,5 @@
 use Rattle.std.proofs.Common.{◌≡◌, ◌+◌, ◌≤◌, length, drop}
-use Rattle.rp_eval.specs.Batches.{write_all}
+use Rattle.rp_request.specs.Batches.{write_all}
 use Rattle.rp_apply.proofs.batches.write_all.Given as goal
 
 abbrev pub invariant-loop-op : goal.invariant-loop-op

@@ -1,12 +1,8 @@
-use Rattle.std.proofs.Common.{◌≡◌, ◌∙◌, Ok, Err, refl, Result, MatchResult, IsOk}
+use Rattle.std.proofs.Common.{◌≡◌, ◌∙◌}
 use Rattle.rp_base.specs.Keys.{key_text}
 use Rattle.rp_base.proofs.KeyLaws.{IsUtf8-spelled}
+use Rattle.rp_base.proofs.TextLaws.{IsOk-no_err}
 use Rattle.rp_base.proofs.keys.push_spelled.Goals as goal
-
--- what is never an error is `Ok`
-IsOk-no_err : {X E : Type 0} (r : Result X E) (P : X → Type 0) (Q : E → Type 0) → MatchResult r P Q → ((e : E) → Q e → ⊥) → IsOk r
-IsOk-no_err (Ok x) P Q holds none = refl
-IsOk-no_err (Err e) P Q holds none = absurd (none e holds)
 
 pub unwrap-word-requires : goal.unwrap-word-requires
 unwrap-word-requires c =

@@ -1,6 +1,6 @@
 use Rattle.std.proofs.Common.{◌≡◌, ◌++◌, take}
 use Rattle.std.specs.List.{flat_map, AllByRecursion}
-use Rattle.rp_codec.specs.Fits.{FitsOp}
+use Rattle.rp_request.specs.Fits.{FitsOp}
 use Rattle.rp_codec.specs.Spelling.{op_bytes}
 use Rattle.rp_codec.proofs.writing.push_ops.Given as goal
 

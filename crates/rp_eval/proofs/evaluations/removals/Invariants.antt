@@ -1,5 +1,5 @@
 use Rattle.std.proofs.Common.{◌≡◌, take}
-use Rattle.rp_eval.specs.Batches.{removes}
+use Rattle.rp_request.specs.Batches.{removes}
 use Rattle.rp_eval.proofs.evaluations.removals.Given as goal
 
 abbrev pub invariant-loop-key : goal.invariant-loop-key

@@ -1,5 +1,5 @@
 use Rattle.std.proofs.Common.{◌∙◌, arith}
-use Rattle.rp_eval.proofs.Does.{few_keys}
+use Rattle.rp_request.proofs.Does.{few_keys}
 use Rattle.rp_eval.proofs.evaluations.wipe.Goals as goal
 
 pub removals-requires : goal.removals-requires

@@ -1,7 +1,7 @@
 use Rattle.std.proofs.Common.{◌≡◌, ◌++◌, drop, map}
 use Rattle.rp_request.specs.declared.commands.Payload.TheVariants as payloads
 use Rattle.std.specs.List.{AllByRecursion}
-use Rattle.rp_codec.specs.Fits.{FitsPayload}
+use Rattle.rp_request.specs.Fits.{FitsPayload}
 use Rattle.rp_replica.specs.Carried.{EachCarries}
 use Rattle.rp_replica.specs.Flushes.{entry_of}
 use Rattle.rp_replica.proofs.flushes.push_asks.Given as goal

@@ -1,7 +1,7 @@
 use Rattle.std.proofs.Common.{◌≡◌, ◌++◌, drop, map}
 use Rattle.std.specs.Prelude.{filter_map}
 use Rattle.std.specs.List.{AllByRecursion}
-use Rattle.rp_codec.specs.Fits.{FitsPayload}
+use Rattle.rp_request.specs.Fits.{FitsPayload}
 use Rattle.rp_replica.specs.Carried.{EachCarries}
 use Rattle.rp_replica.specs.Flushes.{entry_of, write_of}
 use Rattle.rp_replica.proofs.flushes.push_writes.Given as goal

@@ -1,5 +1,0 @@
-use Rattle.rp_apply.proofs.Numbers.{blocked_never}
-use Rattle.rp_apply.proofs.laws.a_blocked_command_is_never_taken.Goals as goal
-
-pub returns : goal.returns
-returns c = blocked_never

@@ -1,5 +1,0 @@
-use Rattle.rp_apply.proofs.Opened.{item_tells}
-use Rattle.rp_apply.proofs.laws.a_taken_ask_keeps_or_moves_the_lease.Goals as goal
-
-pub returns : goal.returns
-returns c = item_tells

@@ -1,5 +1,0 @@
-use Rattle.rp_apply.proofs.Numbers.{onward_all}
-use Rattle.rp_apply.proofs.laws.numbers_never_fall.Goals as goal
-
-pub returns : goal.returns
-returns c = onward_all

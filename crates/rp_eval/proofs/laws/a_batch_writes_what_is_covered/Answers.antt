@@ -1,5 +1,0 @@
-use Rattle.rp_eval.proofs.Inside.{inside}
-use Rattle.rp_eval.proofs.laws.a_batch_writes_what_is_covered.Goals as goal
-
-pub returns : goal.returns
-returns c = inside

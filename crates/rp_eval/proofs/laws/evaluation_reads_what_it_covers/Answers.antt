@@ -1,5 +1,0 @@
-use Rattle.rp_eval.proofs.ReadParts.{evaluated_reads}
-use Rattle.rp_eval.proofs.laws.evaluation_reads_what_it_covers.Goals as goal
-
-pub returns : goal.returns
-returns c = evaluated_reads
