@@ -43,9 +43,7 @@ fn push_copies(entries: &mut Entries, more: &[Entry]) -> Result<(), NoMemory>
     ensures { OnOk result (entries.new ≡ entries.old ++ more.now) }
 {
     for entry in more {
-        let payload = entry.payload.copy()?;
-        let term = entry.term;
-        entries.push(Entry { term, payload })?;
+        entries.push(entry.copy()?)?;
     }
     Ok(())
 }

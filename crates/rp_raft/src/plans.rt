@@ -83,23 +83,11 @@ pub(crate) fn behind_of(edit: &LogEdit) -> &[Entry]
 pub(crate) fn draft_back<S: Drop>(plan: RaftPlan<S>) -> RaftDraft<S>
     ensures { result ≡ record plan.draft { messages = take plan.replies plan.draft.messages } }
 {
-    let RaftPlan { draft, replies, .. } = plan;
-    let RaftDraft {
-        head,
-        edit,
-        messages,
-        due,
-        taken,
-    } = draft;
-    let mut messages = messages.into_vec();
-    messages.truncate(replies);
-    RaftDraft {
-        head,
-        edit,
-        messages: Seq::from_vec(messages),
-        due,
-        taken,
-    }
+    let RaftPlan {
+        mut draft, replies, ..
+    } = plan;
+    draft.messages.truncate(replies);
+    draft
 }
 
 impl<S> RaftPlan<S> {
