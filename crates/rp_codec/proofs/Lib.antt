@@ -1,4 +1,4 @@
-pub mod Spans
+pub mod Suits
 pub mod Writes
 pub mod Readers
 pub mod FieldLaws
