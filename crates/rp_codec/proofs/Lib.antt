@@ -4,4 +4,5 @@ pub mod Readers
 pub mod FieldLaws
 pub mod PayloadLaws
 pub mod SpellingLaws
+pub mod Stopping
 pub mod WorkedBytes

@@ -1,9 +1,10 @@
 //! Laws of the definitions, for the proofs above. No program calls these functions.
-ghost use Rattle.std.specs.Prelude.{◌≡◌, ℕ, List, [], ◌∷◌, ◌++◌, length, take, drop, false, Ok};
+ghost use Rattle.std.specs.Prelude.{◌≡◌, ◌↔◌, ℕ, List, [], ◌∷◌, ◌++◌, length, take, drop, false, Ok};
 ghost use Rattle.rp_request.specs.declared.Payload.{Payload};
 ghost use Rattle.rp_request.specs.Fits.{AreBytes, FitsPayload};
 ghost use Rattle.rp_codec.specs.Reading.{bad, payload_in};
 ghost use Rattle.rp_codec.specs.Spelling.{spelling};
+ghost use Rattle.rp_codec.specs.Stops.{IsBadPlace};
 ghost use Rattle.rp_request.specs.Texts.{payload_has_text};
 ghost use Rattle.rp_codec.specs.Worked.{put_of_a, put_bytes, text_of_a, text_put_bytes, number_by_2, put_byte};
 ghost use Rattle.rp_request.specs.declared.Payload.TheVariants.{Nothing};
@@ -34,6 +35,11 @@ pub fn no_spelling_begins_another()
 #[tactic(auto, using(crate::proofs::SpellingLaws::read_past))]
 pub fn bytes_behind_a_payload_are_bad()
     ensures { (p : Payload) (b : ℕ) (more : List ℕ) → FitsPayload p → payload_in (spelling p ++ b ∷ more) ≡ bad (length (spelling p)) }
+{}
+
+/// Bytes are refused exactly where some place is bad, and that place is named.
+pub fn a_bad_place_is_where_reading_stops()
+    ensures { (bytes : List ℕ) (place : ℕ) → (payload_in bytes ≡ bad place) ↔ IsBadPlace bytes place }
 {}
 
 /// A put is these 51 bytes, and is read from them; it is bad at 43 without the last of them, and at
