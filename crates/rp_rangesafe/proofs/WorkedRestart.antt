@@ -1,6 +1,6 @@
--- A worked run with a restart, lawful and computed: the node that holds the lease passes its own barrier
--- by an ask of tick 0, and admits again under the next sequence, a second attempt among others, while what
--- it proposed before may still be committed.
+-- A worked run with a restart, lawful and computed: the node that holds the lease passes its own
+-- barrier by an ask of tick 0, and admits again under the next sequence, a second attempt among
+-- others, while what it proposed before may still be committed.
 use Rattle.std.proofs.Common.{◌≡◌, ℕ, ◌==◌, inl, inr, List, [], ◌∷◌, ◌++◌, None, Ok, refl, ap, arith}
 use Rattle.std.proofs.lemmas.Bool.Decides.{nat_tests}
 use Rattle.std.specs.Ordering.{nat_cmp}
