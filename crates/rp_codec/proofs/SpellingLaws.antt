@@ -8,7 +8,7 @@ use Rattle.rp_request.specs.declared.Payload.{Payload}
 use Rattle.rp_codec.specs.Cursors.{Left, whole}
 use Rattle.rp_request.specs.Fits.{AreBytes, FitsPayload}
 use Rattle.rp_request.specs.Texts.{payload_has_text}
-use Rattle.rp_codec.specs.Reading.{bad, begins_with, ended, payload_at, all_in, canonical, payload_in, Gives}
+use Rattle.rp_codec.specs.Reading.{bad, begins_with, ended, payload_at, all_in, canonical, payload_in, Decoded}
 use Rattle.rp_codec.specs.Spelling.{payload_bytes, spelling}
 use Rattle.rp_codec.specs.declared.faults.BadField.{BadField}
 use Rattle.rp_codec.specs.declared.faults.DecodeFault.{DecodeFault}
@@ -113,6 +113,6 @@ no_front p q rest fits others same =
     (ap (λ (r : Payload × Left). r.1.bytes) is, ap (λ (r : Payload × Left). r.0) is)
 
 -- a result of `decode` that gives what is read
-pub given_spelled : (bytes : List ℕ) (r : Result Payload DecodeFault) → AreBytes bytes → Gives r (payload_in bytes) → IfOk r (λ p. (bytes ≡ spelling p) × FitsPayload p)
+pub given_spelled : (bytes : List ℕ) (r : Result Payload DecodeFault) → AreBytes bytes → Decoded r (payload_in bytes) → IfOk r (λ p. (bytes ≡ spelling p) × FitsPayload p)
 given_spelled bytes (Ok p) are given = spelled_as_read bytes p are given
 given_spelled bytes (Err e) are given = tt
