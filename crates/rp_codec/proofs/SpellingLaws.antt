@@ -34,6 +34,11 @@ front_read p rest fits =
     let text = payload_bytes (payload_has_text p) p in
     let e : 0 + length text ≡ length text = omega arith in rw e at (payload_again p fits 0 rest)
 
+-- version 2 spells what holds a text, and nothing else
+pub version_says : (p : Payload) → begins_with 2 (spelling p) ≡ payload_has_text p
+unfolding spelling
+version_says p = rw append-nil at (begins_by (payload_has_text p) p [])
+
 -- what is spelled by its own version is let through
 own : (texts : Bool) (p : Payload) → payload_has_text p ≡ texts → canonical texts (Ok p) ≡ Ok p
 own true p has = rw has refl
