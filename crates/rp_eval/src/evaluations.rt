@@ -1,14 +1,15 @@
+//! What a request writes and replies, or why it is refused.
 ghost use Rattle.std.specs.Prelude.{◌≡◌, ◌+◌, ◌≤◌, [], ◌∷◌, nat_lt, nat_le, ◌&&◌, if◌then◌else◌, unwrap_or, length, map, Ok, Err, IfOk, IfErr};
 ghost use Rattle.std.specs.FinMap.{get, keys};
 ghost use Rattle.rp_base.specs.Spans.{span_of};
-ghost use Rattle.rp_base.specs.Tables.{greatest, value_at, part};
+ghost use Rattle.rp_base.specs.Tables.{greatest, value_at, holds_text, part};
 ghost use Rattle.rp_request.specs.Effect as effects;
 ghost use Rattle.rp_request.specs.Batches.{removes};
 ghost use Rattle.rp_base.specs.declared.ranges.Desc.{Desc};
 ghost use Rattle.rp_request.specs.Evaluations.{with_batch, evaluated, Does};
 ghost use Rattle.rp_eval.specs.Faults.{no_memory, split_fault, refusal_of, Gives};
 
-use rp_base::{Desc, Key, NoMemory, Span, SplitFault};
+use rp_base::{Desc, Key, NoMemory, Span, SplitFault, Value};
 use rp_range::split_at;
 use rp_request::{Batch, Evaluated, Op, Refusal, Reply, Request};
 use rp_table::Table;
@@ -20,8 +21,10 @@ use std::fmt;
 #[derive(Clone, Copy, Debug, PartialEq, Eq)]
 pub enum EvalFault {
     /// The key has another value than the expected one.
-    ConditionFailed { actual: Option<u64> },
-    /// The sum passes the greatest value, 2^64 - 1.
+    ConditionFailed { actual: Option<Value> },
+    /// The key that is to be counted with holds a text.
+    IsText { key: Key },
+    /// The sum passes the greatest number, 2^64 - 1.
     Overflow { actual: u64 },
     /// The key that is taken from has less.
     Short { actual: u64 },
@@ -72,6 +75,7 @@ impl EvalFault {
     {
         match self {
             EvalFault::ConditionFailed { actual } => Some(Refusal::ConditionFailed { actual }),
+            EvalFault::IsText { key } => Some(Refusal::IsText { key }),
             EvalFault::Overflow { actual } => Some(Refusal::Overflow { actual }),
             EvalFault::Short { actual } => Some(Refusal::Short { actual }),
             EvalFault::TooWide { count } => Some(Refusal::TooWide { count }),
@@ -82,18 +86,25 @@ impl EvalFault {
     }
 }
 
-/// The key's value, and 0 where it has none.
-fn value(table: &Table, key: Key) -> u64
-    ensures { result ≡ value_at table.now.map key }
+/// The key's number, and 0 where it has none; a text is refused.
+fn number(table: &Table, key: Key) -> Result<u64, EvalFault>
+    ensures { result ≡ (if holds_text table.now.map key then Err (EvalFault.IsText key) else Ok (value_at table.now.map key)) }
 {
-    table.get(key).unwrap_or(0)
+    match table.get(key) {
+        None => Ok(0),
+        Some(Value::Number(number)) => Ok(number),
+        Some(Value::Text(_)) => Err(EvalFault::IsText { key }),
+    }
 }
 
-/// The value with so much added.
+/// The number with so much added.
 fn sum(actual: u64, by: u64) -> Result<u64, EvalFault>
     ensures { result ≡ (if nat_lt greatest (actual + by) then Err (EvalFault.Overflow actual) else Ok (actual + by)) }
 {
-    actual.checked_add(by).ok_or(EvalFault::Overflow { actual })
+    match actual.checked_add(by) {
+        Some(sum) => Ok(sum),
+        None => Err(EvalFault::Overflow { actual }),
+    }
 }
 
 /// One write and a reply.
@@ -105,7 +116,7 @@ fn one(alloc: Global, op: Op, reply: Reply) -> Result<Evaluated, NoMemory>
     Ok(Evaluated { batch, reply })
 }
 
-fn put(alloc: Global, table: &Table, key: Key, value: u64) -> Result<Evaluated, EvalFault>
+fn put(alloc: Global, table: &Table, key: Key, value: Value) -> Result<Evaluated, EvalFault>
     ensures { (d : Desc) → Gives result (evaluated table.now.map d (Request.Put key value)) }
 {
     let old = table.get(key);
@@ -115,16 +126,17 @@ fn put(alloc: Global, table: &Table, key: Key, value: u64) -> Result<Evaluated, 
 fn add(alloc: Global, table: &Table, key: Key, by: u64) -> Result<Evaluated, EvalFault>
     ensures { (d : Desc) → Gives result (evaluated table.now.map d (Request.Add key by)) }
 {
-    let value = sum(value(table, key), by)?;
-    Ok(one(alloc, Op::Set { key, value }, Reply::Now(value))?)
+    let sum = sum(number(table, key)?, by)?;
+    let value = Value::Number(sum);
+    Ok(one(alloc, Op::Set { key, value }, Reply::Now(sum))?)
 }
 
 fn put_if(
     alloc: Global,
     table: &Table,
     key: Key,
-    expect: Option<u64>,
-    value: u64,
+    expect: Option<Value>,
+    value: Value,
 ) -> Result<Evaluated, EvalFault>
     ensures { (d : Desc) → Gives result (evaluated table.now.map d (Request.CPut key expect value)) }
 {
@@ -169,18 +181,18 @@ fn wipe(alloc: Global, table: &Table, span: Span) -> Result<Evaluated, EvalFault
     })
 }
 
-/// Two writes, and the value that the first key has now.
+/// Two writes, and the number that the first key has now.
 fn two(alloc: Global, from: Key, rest: u64, to: Key, sum: u64) -> Result<Evaluated, NoMemory>
-    ensures { IfOk result (λ e. e ≡ record { batch = Op.Set from rest ∷ Op.Set to sum ∷ []; reply = Reply.Now rest }) }
+    ensures { IfOk result (λ e. e ≡ record { batch = Op.Set from (Value.Number rest) ∷ Op.Set to (Value.Number sum) ∷ []; reply = Reply.Now rest }) }
 {
     let mut batch = Batch::new(alloc);
     batch.push(Op::Set {
         key: from,
-        value: rest,
+        value: Value::Number(rest),
     })?;
     batch.push(Op::Set {
         key: to,
-        value: sum,
+        value: Value::Number(sum),
     })?;
     Ok(Evaluated {
         batch,
@@ -197,18 +209,19 @@ fn pass_on(
 ) -> Result<Evaluated, EvalFault>
     ensures { (d : Desc) → Gives result (evaluated table.now.map d (Request.Move from to by)) }
 {
-    let actual = value(table, from);
+    let actual = number(table, from)?;
+    let other = number(table, to)?;
     if actual < by {
         return Err(EvalFault::Short { actual });
     }
     if from == to {
         let op = Op::Set {
             key: from,
-            value: actual,
+            value: Value::Number(actual),
         };
         return Ok(one(alloc, op, Reply::Now(actual))?);
     }
-    let sum = sum(value(table, to), by)?;
+    let sum = sum(other, by)?;
     Ok(two(alloc, from, actual - by, to, sum)?)
 }
 
@@ -249,7 +262,7 @@ pub fn evaluate(
 mod tests {
     use super::*;
     use crate::bounds::in_bounds;
-    use rp_base::{KeySpan, RangeId};
+    use rp_base::{KeySpan, RangeId, ShortText};
     use rp_range::first_desc;
     use std::test::Fail;
 
@@ -261,12 +274,13 @@ mod tests {
     fn two_rows(alloc: Global) -> Result<Table, Fail> {
         let mut table = Table::new(alloc);
         table.make_room(2)?;
-        table.write_one(key("a")?, 5);
-        table.write_one(key("c")?, 7);
+        table.write_one(key("a")?, Value::Number(5));
+        table.write_one(key("c")?, Value::Number(7));
         Ok(table)
     }
 
-    fn set(key: Key, value: u64) -> Option<Op> {
+    fn set(key: Key, number: u64) -> Option<Op> {
+        let value = Value::Number(number);
         Some(Op::Set { key, value })
     }
 
@@ -282,7 +296,10 @@ mod tests {
         let right = RangeId::new(1).ok_or("a range")?;
         for (request, first, second, reply) in [
             (
-                Request::Put { key: b, value: 1 },
+                Request::Put {
+                    key: b,
+                    value: Value::Number(1),
+                },
                 set(b, 1),
                 None,
                 Reply::Old(None),
@@ -297,7 +314,7 @@ mod tests {
                 Request::CPut {
                     key: b,
                     expect: None,
-                    value: 4,
+                    value: Value::Number(4),
                 },
                 set(b, 4),
                 None,
@@ -358,9 +375,11 @@ mod tests {
                 Request::CPut {
                     key: a,
                     expect: None,
-                    value: 1,
+                    value: Value::Number(1),
                 },
-                EvalFault::ConditionFailed { actual: Some(5) },
+                EvalFault::ConditionFailed {
+                    actual: Some(Value::Number(5)),
+                },
             ),
             (
                 Request::Move {
@@ -419,26 +438,42 @@ mod tests {
 
     #[test]
     fn the_greatest_value(rt: HostRuntime) -> Result<(), Fail> {
-        let (a, b) = (key("a")?, key("b")?);
+        let (a, b, c) = (key("a")?, key("b")?, key("c")?);
         let most = u64::MAX;
+        let below = Value::Number(most - 1);
         let mut table = Table::new(rt.alloc());
         let rows = [
-            (Request::Put { key: a, value: 1 }, Ok(Reply::Old(None))),
+            (
+                Request::Put {
+                    key: a,
+                    value: Value::Number(1),
+                },
+                Ok(Reply::Old(None)),
+            ),
             (
                 Request::Add { key: a, by: most },
                 Err(EvalFault::Overflow { actual: 1 }),
             ),
             (Request::Add { key: b, by: most }, Ok(Reply::Now(most))),
+            (Request::Add { key: c, by: 0 }, Ok(Reply::Now(0))),
+            (
+                Request::Put {
+                    key: c,
+                    value: below,
+                },
+                Ok(Reply::Old(Some(Value::Number(0)))),
+            ),
+            (Request::Add { key: c, by: 1 }, Ok(Reply::Now(most))),
         ];
         assert!(rt; play(rt.alloc(), &mut table, &rows));
-        assert_eq!(rt; table.get(a), Some(1));
-        assert_eq!(rt; table.get(b), Some(most));
+        assert_eq!(rt; table.get(a), Some(Value::Number(1)));
+        assert_eq!(rt; table.get(b), Some(Value::Number(most)));
         Ok(())
     }
 
     #[test]
     fn moves(rt: HostRuntime) -> Result<(), Fail> {
-        let (a, b) = (key("a")?, key("b")?);
+        let (a, b, c) = (key("a")?, key("b")?, key("c")?);
         let mut table = Table::new(rt.alloc());
         let own = Request::Move {
             from: a,
@@ -450,14 +485,104 @@ mod tests {
             to: b,
             by: 4,
         };
+        let all = Request::Move {
+            from: a,
+            to: b,
+            by: 3,
+        };
+        let absent = Request::Move {
+            from: c,
+            to: c,
+            by: 0,
+        };
+        let (three, most) = (Value::Number(3), Value::Number(u64::MAX));
+        let none = Some(Value::Number(0));
         let rows = [
-            (Request::Put { key: a, value: 3 }, Ok(Reply::Old(None))),
+            (
+                Request::Put {
+                    key: a,
+                    value: Value::Number(3),
+                },
+                Ok(Reply::Old(None)),
+            ),
             (own, Ok(Reply::Now(3))),
             (short, Err(EvalFault::Short { actual: 3 })),
+            (all, Ok(Reply::Now(0))),
+            (absent, Ok(Reply::Now(0))),
+            (
+                Request::Put {
+                    key: b,
+                    value: most,
+                },
+                Ok(Reply::Old(Some(three))),
+            ),
+            (all, Err(EvalFault::Short { actual: 0 })),
+            (
+                Request::Put {
+                    key: a,
+                    value: three,
+                },
+                Ok(Reply::Old(none)),
+            ),
+            (all, Err(EvalFault::Overflow { actual: u64::MAX })),
         ];
         assert!(rt; play(rt.alloc(), &mut table, &rows));
-        assert_eq!(rt; table.get(a), Some(3));
-        assert_eq!(rt; table.len(), 1);
+        assert_eq!(rt; (table.get(a), table.get(b)), (Some(three), Some(most)));
+        assert_eq!(rt; table.len(), 3);
+        Ok(())
+    }
+
+    /// A text is put, read and compared, and never counted with; the text 5 is not the number 5.
+    #[test]
+    fn texts(rt: HostRuntime) -> Result<(), Fail> {
+        let (a, b) = (key("a")?, key("b")?);
+        let text = Value::Text(ShortText::read(b"5")?);
+        let number = Value::Number(5);
+        let mut table = Table::new(rt.alloc());
+        let most = u64::MAX;
+        let give = Request::Move {
+            from: a,
+            to: b,
+            by: most,
+        };
+        let take = Request::Move {
+            from: b,
+            to: a,
+            by: most,
+        };
+        let by_number = Request::CPut {
+            key: a,
+            expect: Some(number),
+            value: number,
+        };
+        let by_text = Request::CPut {
+            key: a,
+            expect: Some(text),
+            value: number,
+        };
+        let rows = [
+            (
+                Request::Put {
+                    key: a,
+                    value: text,
+                },
+                Ok(Reply::Old(None)),
+            ),
+            (
+                Request::Add { key: a, by: most },
+                Err(EvalFault::IsText { key: a }),
+            ),
+            (give, Err(EvalFault::IsText { key: a })),
+            (take, Err(EvalFault::IsText { key: a })),
+            (
+                by_number,
+                Err(EvalFault::ConditionFailed { actual: Some(text) }),
+            ),
+            (by_text, Ok(Reply::Set)),
+            (Request::Add { key: a, by: 2 }, Ok(Reply::Now(7))),
+        ];
+        assert!(rt; play(rt.alloc(), &mut table, &rows));
+        assert_eq!(rt; table.get(a), Some(Value::Number(7)));
         Ok(())
     }
 
@@ -470,19 +595,40 @@ mod tests {
         let absent = Request::CPut {
             key: a,
             expect: None,
-            value: 2,
+            value: Value::Number(2),
         };
         let present = Request::CPut {
             key: a,
-            expect: Some(1),
-            value: 2,
+            expect: Some(Value::Number(1)),
+            value: Value::Number(2),
+        };
+        let two = Value::Number(2);
+        let zero = Request::CPut {
+            key: a,
+            expect: Some(Value::Number(0)),
+            value: two,
         };
         let rows = [
-            (Request::Put { key: a, value: 1 }, Ok(Reply::Old(None))),
-            (absent, Err(EvalFault::ConditionFailed { actual: Some(1) })),
+            (
+                Request::Put {
+                    key: a,
+                    value: Value::Number(1),
+                },
+                Ok(Reply::Old(None)),
+            ),
+            (
+                absent,
+                Err(EvalFault::ConditionFailed {
+                    actual: Some(Value::Number(1)),
+                }),
+            ),
             (present, Ok(Reply::Set)),
             (Request::Wipe { span }, Ok(Reply::Count(1))),
             (Request::Del { key: a }, Ok(Reply::Old(None))),
+            (zero, Err(EvalFault::ConditionFailed { actual: None })),
+            (absent, Ok(Reply::Set)),
+            (Request::Del { key: a }, Ok(Reply::Old(Some(two)))),
+            (Request::Wipe { span }, Ok(Reply::Count(0))),
         ];
         assert!(rt; play(rt.alloc(), &mut table, &rows));
         assert_eq!(rt; table.len(), 0);
@@ -501,7 +647,7 @@ mod tests {
         for n in 1..18u8 {
             let key = numbered(n)?;
             table.make_room(1)?;
-            table.write_one(key, 1);
+            table.write_one(key, Value::Number(1));
         }
         let end = Some(numbered(18)?);
         let all = KeySpan::new(numbered(1)?, end).ok_or("a span")?;

@@ -20,25 +20,31 @@ pub fn split_at(desc: Desc, key: Key) -> Result<(Desc, Desc), SplitFault>
     if desc.level >= 3 {
         return Err(SplitFault::SplitLimit { level: desc.level });
     }
-    let level = desc.level + 1;
-    let id = RangeId::new(desc.id.get() + (1 << desc.level)).unwrap();
-    let left = Desc {
-        id: desc.id,
+    let Desc {
+        id,
         level,
-        start: desc.start,
+        start,
+        end,
+        ..
+    } = desc;
+    let left = Desc {
+        id,
+        level: level + 1,
+        start,
         end: bound,
     };
     let right = Desc {
-        id,
-        level,
+        id: desc.right_id(),
+        level: level + 1,
         start: bound,
-        end: desc.end,
+        end,
     };
     Ok((left, right))
 }
 
-/// What an ask makes of a lease: the holder's own ask moves the end, another node's begins the next
-/// lease. None exactly where the ask was made under another sequence.
+/// What an ask makes of a lease. The holder's own ask moves the end, to the later tick; at tick 0 it
+/// begins the holder's next lease, with the same end; another node's begins that node's next lease.
+/// None exactly where the ask was made under another sequence.
 pub fn after(lease: Lease, ask: LeaseAsk) -> Option<Lease>
     requires { lease.seq < 2 ^ 64 - 1 }
     ensures { result ≡ lease_after lease ask }
@@ -46,16 +52,20 @@ pub fn after(lease: Lease, ask: LeaseAsk) -> Option<Lease>
     if ask.prev != lease.seq {
         return None;
     }
-    if ask.holder == lease.holder {
+    let next = LeaseSeq::new(lease.seq.get() + 1);
+    if ask.holder != lease.holder {
         return Some(Lease {
-            expires: lease.expires.max(ask.expires),
-            ..lease
+            holder: ask.holder,
+            seq: next,
+            expires: ask.expires,
         });
     }
+    if ask.expires == Tick::new(0) {
+        return Some(Lease { seq: next, ..lease });
+    }
     Some(Lease {
-        holder: ask.holder,
-        seq: LeaseSeq::new(lease.seq.get() + 1),
-        expires: ask.expires,
+        expires: lease.expires.max(ask.expires),
+        ..lease
     })
 }
 
@@ -125,6 +135,9 @@ mod tests {
         for (holder, prev, expires, want) in [
             (lease.holder, 1, 30, Some((1, 1, 40))),
             (lease.holder, 1, 56, Some((1, 1, 56))),
+            (lease.holder, 1, 0, Some((1, 2, 40))),
+            (lease.holder, 2, 0, None),
+            (other, 1, 0, Some((2, 2, 0))),
             (other, 1, 40, Some((2, 2, 40))),
             (other, 2, 40, None),
             (lease.holder, 0, 40, None),
