@@ -6,6 +6,7 @@ use Rattle.std.proofs.lemmas.List.{length-set, length-map}
 use Rattle.std.proofs.lemmas.List.Sums.{sum_by-set, sum_by-append}
 use Rattle.std.proofs.lemmas.List.Elements.{Contains-append_right}
 use Rattle.std.proofs.lemmas.Grind.{common_steps}
+use Rattle.rp_base.specs.Limits.{buffer_capacity}
 use Rattle.rp_base.specs.declared.items.Item.{Item}
 use Rattle.rp_bufcore.specs.declared.buffers.Slot.{Slot}
 use Rattle.rp_bufcore.specs.declared.buffers.Slot.TheVariants.{Free, Drawn, Published, Taken}
@@ -83,14 +84,14 @@ free_counts_nothing test (Taken ∷ xs) zero free = cc
 free_counts_nothing test (x ∷ xs) (suc i) free = free_counts_nothing test xs i free
 
 -- where places can be drawn, one is left
-can_draw_within : (b : Buffer) → can_draw b ≡ true → b.drawn < 16
+can_draw_within : (b : Buffer) → can_draw b ≡ true → b.drawn < buffer_capacity
 can_draw_within b can = grind (arith, common_steps)
 
 -- an event keeps a buffer sound
 sound_draw : (b : Buffer) → IsSound b → IsSound (after_draw b)
 sound_draw b sound = elim (can_draw b) as (λ v. can_draw b ≡ v → IsSound (if v then record { is_open = b.is_open; drawn = b.drawn + 1; slots = set b.slots b.drawn Drawn } else b)) [
-  | true ↦ λ can. let within : b.drawn < 16 = can_draw_within b can in record {
-    sixteen = length-set b.slots b.drawn Drawn ∙ sound.sixteen;
+  | true ↦ λ can. let within : b.drawn < buffer_capacity = can_draw_within b can in record {
+    places = length-set b.slots b.drawn Drawn ∙ sound.places;
     within = omega arith;
     free = λ k from below. slice_get-set_other b.slots b.drawn k Drawn (λ same. omega arith) ∙ sound.free k (omega arith) below;
   }
@@ -100,7 +101,7 @@ sound_draw b sound = elim (can_draw b) as (λ v. can_draw b ≡ v → IsSound (i
 sound_publish : (b : Buffer) (place : ℕ) (item : Item) → IsSound b → IsSound (after_publish b place item)
 sound_publish b place item sound = elim (is_drawn (slice_get b.slots place)) as (λ v. is_drawn (slice_get b.slots place) ≡ v → IsSound (if v then record { is_open = b.is_open; drawn = b.drawn; slots = set b.slots place (Published item) } else b)) [
   | true ↦ λ drawn. record {
-    sixteen = length-set b.slots place (Published item) ∙ sound.sixteen;
+    places = length-set b.slots place (Published item) ∙ sound.places;
     within = sound.within;
     free = λ k from below. slice_get-set_other b.slots place k (Published item) (λ same. let at : slice_get b.slots k ≡ Some Free = sound.free k from below in
         let free : is_drawn (slice_get b.slots place) ≡ false = ap (λ i. is_drawn (slice_get b.slots i)) (sym same) ∙ ap is_drawn at in cc) ∙ sound.free k from below;
@@ -121,13 +122,13 @@ slice_get-replicate (suc n) x zero within = refl
 slice_get-replicate (suc n) x (suc k) within = slice_get-replicate n x k (omega arith)
 
 sound_start : IsSound start
-sound_start = record { sixteen = refl; within = omega arith; free = λ k from below. slice_get-replicate 16 Free k below }
+sound_start = record { places = refl; within = omega arith; free = λ k from below. slice_get-replicate buffer_capacity Free k below }
 
 sound_collect : (b : Buffer) → IsSound b → IsSound (after_collect b)
 sound_collect b sound = elim (list_all is_taken (take b.drawn (map taken b.slots))) as (λ v. IsSound (if v then start else record { is_open = false; drawn = b.drawn; slots = map taken b.slots })) [
   | true ↦ sound_start
   | false ↦ record {
-    sixteen = length-map b.slots taken ∙ sound.sixteen;
+    places = length-map b.slots taken ∙ sound.places;
     within = sound.within;
     free = λ k from below. free_stays b.slots k (sound.free k from below);
   }
@@ -164,8 +165,8 @@ written_count test xs i x within nothing =
 count_draw : (test : Item → Bool) (b : Buffer) → IsSound b → count_by test (given (after_draw b)) ≡ count_by test (given b)
 count_draw test b sound = elim (can_draw b) as (λ v. can_draw b ≡ v → count_by test (given (if v then record { is_open = b.is_open; drawn = b.drawn + 1; slots = set b.slots b.drawn Drawn } else b)) ≡ count_by test (given b)) [
   | true ↦ λ can.
-      let below : b.drawn < 16 = can_draw_within b can in
-      let within : b.drawn < length b.slots = let sixteen = sound.sixteen in omega arith in
+      let below : b.drawn < buffer_capacity = can_draw_within b can in
+      let within : b.drawn < length b.slots = let places = sound.places in omega arith in
       let nothing : weight test (get_or b.slots b.drawn Free) ≡ 0 = free_counts_nothing test b.slots b.drawn (sound.free b.drawn (omega arith) below) in
       written_count test b.slots b.drawn Drawn within nothing ∙ add-zero _
   | false ↦ λ _. refl

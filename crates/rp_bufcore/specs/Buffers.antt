@@ -2,13 +2,14 @@
 use Rattle.std.specs.Prelude.{◌≡◌, ℕ, ◌+◌, Bool, true, false, ◌&&◌, if◌then◌else◌, nat_lt, List, take, map, slice_get, slice_set, slice_index_or, filter_map, Option, Some, None, Result, Ok, Err}
 use Rattle.std.specs.List.{list_all}
 use Rattle.std.proofs.Math.ListN.{replicate}
+use Rattle.rp_base.specs.Limits.{buffer_capacity}
 use Rattle.rp_base.specs.declared.items.Item.{Item}
 use Rattle.rp_bufcore.specs.declared.buffers.Slot.{Slot}
 use Rattle.rp_bufcore.specs.declared.buffers.Slot.TheVariants.{Free, Drawn, Published, Taken}
 use Rattle.rp_bufcore.specs.declared.buffers.Full.{Full}
 use Rattle.rp_bufcore.specs.declared.buffers.NotDrawn.{NotDrawn}
 
--- whether places can be drawn, how many are drawn, and the sixteen places
+-- whether places can be drawn, how many are drawn, and the places
 pub record Buffer : Type 0 where
   pub is_open : Bool
   pub drawn : ℕ
@@ -16,15 +17,15 @@ pub record Buffer : Type 0 where
 
 -- at first it is open, and each place is free
 abbrev pub start : Buffer
-start = record { is_open = true; drawn = 0; slots = replicate 16 Free }
+start = record { is_open = true; drawn = 0; slots = replicate buffer_capacity Free }
 
 -- there is a place to draw
 abbrev pub can_draw : Buffer → Bool
-can_draw b = b.is_open && nat_lt b.drawn 16
+can_draw b = b.is_open && nat_lt b.drawn buffer_capacity
 
 -- the place that a draw gives: the next one
 abbrev pub draw_answer : Buffer → Result ℕ Full
-draw_answer b = if can_draw b then Ok b.drawn else Err (record { count = 16 })
+draw_answer b = if can_draw b then Ok b.drawn else Err (record { count = buffer_capacity })
 
 -- a draw makes the next place drawn
 abbrev pub after_draw : Buffer → Buffer

@@ -1,5 +1,6 @@
 -- What lists of events do to a buffer.
 use Rattle.std.specs.Prelude.{◌≡◌, ◌≢◌, ℕ, ◌+◌, ◌≤◌, ◌<◌, if◌then◌else◌, List, [], ◌∷◌, ◌++◌, length, slice_get, count_by, All, Contains, Bool, Ok, Some}
+use Rattle.rp_base.specs.Limits.{buffer_capacity}
 use Rattle.rp_base.specs.declared.items.Item.{Item}
 use Rattle.rp_bufcore.specs.declared.buffers.Slot.TheVariants.{Free}
 use Rattle.rp_bufcore.specs.Buffers.{Buffer, start, is_drawn, after_draw, publish_answer, after_publish, given, after_collect}
@@ -59,11 +60,11 @@ GivenByTheNext = (before between : List Event) (place : ℕ) (item : Item)
 abbrev pub NothingLeft : Type 0
 NothingLeft = (b : Buffer) → given (after_collect b) ≡ []
 
--- a buffer has sixteen places, and those that are not drawn are free
+-- a buffer has all its places, and those that are not drawn are free
 pub record IsSound (b : Buffer) : Type 0 where
-  pub sixteen : length b.slots ≡ 16
-  pub within : b.drawn ≤ 16
-  pub free : (k : ℕ) → b.drawn ≤ k → k < 16 → slice_get b.slots k ≡ Some Free
+  pub places : length b.slots ≡ buffer_capacity
+  pub within : b.drawn ≤ buffer_capacity
+  pub free : (k : ℕ) → b.drawn ≤ k → k < buffer_capacity → slice_get b.slots k ≡ Some Free
 
 -- that is so after any events
 abbrev pub StaysSound : Type 0

@@ -1,12 +1,16 @@
 ghost use Rattle.std.specs.Prelude.{◌≡◌, ◌+◌, ◌<◌, ◌≤◌, [], ◌∷◌, ◌++◌, length, map, filter_map, slice_get, IsTrue};
 ghost use Rattle.std.specs.List.{list_all};
 ghost use Rattle.std.specs.Option.{option_to_list};
+ghost use Rattle.rp_base.specs.Limits.{buffer_capacity};
 ghost use Rattle.rp_bufcore.specs.Buffers.{start, is_drawn, draw_answer, after_draw, publish_answer, after_publish, published, given, taken, is_taken, after_collect};
 
-use rp_base::{Item, Items};
+use rp_base::{BUFFER_CAPACITY, Item, Items};
 use std::error::Error;
 use std::fmt;
 use std::marker::Model;
+
+/// How many places a buffer has.
+const PLACES: u8 = BUFFER_CAPACITY as u8;
 
 /// No place is left to draw, or the buffer is closed.
 #[derive(Clone, Copy, Debug, PartialEq, Eq)]
@@ -36,7 +40,7 @@ impl fmt::Display for NotDrawn {
 
 impl Error for NotDrawn {}
 
-/// One of the sixteen places of a buffer.
+/// One of the places of a buffer.
 #[derive(Clone, Copy, Debug, PartialEq, Eq)]
 pub enum Slot {
     Free,
@@ -45,26 +49,27 @@ pub enum Slot {
     Taken,
 }
 
-/// A buffer of sixteen places, after CockroachDB's proposal buffer. A producer draws a place and
-/// publishes its item there. A collect takes what is published, and the places are drawn anew only
-/// once each drawn one was taken. Contracts see whether it is open, how many places are drawn, and
-/// the places.
+/// A buffer of `BUFFER_CAPACITY` places, after CockroachDB's proposal buffer. A producer draws a
+/// place and publishes its item there. A collect takes what is published, and the places are drawn
+/// anew only once each drawn one was taken. Contracts see whether it is open, how many places are
+/// drawn, and the places.
 #[derive(Drop)]
 pub struct PlainBuf {
     is_open: bool,
     drawn: u8,
-    slots: [Slot; 16],
+    slots: [Slot; BUFFER_CAPACITY],
 }
 
 impl Model for PlainBuf {
     ghost use Rattle.std.specs.Prelude.{◌≤◌};
+    ghost use Rattle.rp_base.specs.Limits.{buffer_capacity};
     ghost use Rattle.rp_bufcore.specs.Buffers.{Buffer};
 
     ghost Value = { Buffer };
 
     ghost view = { λ b. record { is_open = b.is_open; drawn = b.drawn; slots = b.slots } };
 
-    ghost invariant = { λ b. b.drawn ≤ 16 };
+    ghost invariant = { λ b. b.drawn ≤ buffer_capacity };
 }
 
 impl PlainBuf {
@@ -75,7 +80,7 @@ impl PlainBuf {
         PlainBuf {
             is_open: true,
             drawn: 0,
-            slots: [Slot::Free; 16],
+            slots: [Slot::Free; BUFFER_CAPACITY],
         }
     }
 
@@ -84,8 +89,8 @@ impl PlainBuf {
         ensures answer { result ≡ draw_answer self.old }
         ensures after { self.new ≡ after_draw self.old }
     {
-        if !self.is_open || self.drawn == 16 {
-            return Err(Full { count: 16 });
+        if !self.is_open || self.drawn == PLACES {
+            return Err(Full { count: PLACES });
         }
         let place = self.drawn;
         self.slots[usize::from(place)] = Slot::Drawn;
@@ -109,10 +114,10 @@ impl PlainBuf {
     /// Closes the buffer and appends the published items in the order of their places. Where each
     /// drawn place is taken then, the buffer is open again and its places are free.
     pub fn collect(&mut self, out: &mut Items)
-        requires { 16 ≤ out.old.spare }
+        requires { buffer_capacity ≤ out.old.spare }
         ensures given { out.new.list ≡ out.old.list ++ given self.old }
         ensures after { self.new ≡ after_collect self.old }
-        ensures most { length (given self.old) ≤ 16 }
+        ensures most { length (given self.old) ≤ buffer_capacity }
         ensures room { out.old.spare ≤ out.new.spare + length (given self.old) }
     {
         take_published(&mut self.slots, out);

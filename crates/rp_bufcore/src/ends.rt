@@ -1,5 +1,6 @@
 ghost use Rattle.std.specs.Prelude.{◌≡◌, ℕ, ◌+◌, ◌≤◌, List, ◌++◌, length};
 ghost use Rattle.rp_base.specs.declared.items.Item.{Item};
+ghost use Rattle.rp_base.specs.Limits.{buffer_capacity};
 ghost use Rattle.rp_bufcore.specs.Buffers.{fresh, buffer_of, with_buffer, draw_answer, after_draw, publish_answer, after_publish, Collects};
 
 use crate::buffers::{Full, NotDrawn, PlainBuf};
@@ -11,10 +12,10 @@ pub trait BufferEnd {
     // The end before a collect, the range, the items that it gave, and the end after it.
     ghost gives: { Self → ℕ → List Item → Self → Type 0 };
 
-    /// Appends what is collected from the range's buffer, at most 16 items.
+    /// Appends what is collected from the range's buffer, at most `BUFFER_CAPACITY` items.
     fn collect(&mut self, range: RangeId, out: &mut Items)
-        requires { 16 ≤ out.old.spare }
-        ensures { (items : List Item) × (length items ≤ 16) × (out.new.list ≡ out.old.list ++ items)
+        requires { buffer_capacity ≤ out.old.spare }
+        ensures { (items : List Item) × (length items ≤ buffer_capacity) × (out.new.list ≡ out.old.list ++ items)
             × (out.old.spare ≤ out.new.spare + length items) × gives self.old range items self.new };
 }
 

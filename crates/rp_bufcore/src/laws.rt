@@ -18,7 +18,7 @@ pub fn a_collect_leaves_nothing()
     ensures { NothingLeft }
 {}
 
-/// A buffer has sixteen places, and those that are not drawn are free.
+/// A buffer keeps its places, and those that are not drawn are free.
 pub fn places_that_are_not_drawn_are_free()
     ensures { StaysSound }
 {}

@@ -1,5 +1,5 @@
 use crate::{BufferEnd, PlainBuf, PlainEnd};
-use rp_base::{CmdId, Grown, Item, RangeId};
+use rp_base::{BUFFER_CAPACITY, CmdId, Grown, Item, RangeId};
 use std::alloc::Global;
 use std::test::Fail;
 
@@ -14,7 +14,7 @@ fn item(client: u16) -> Item {
 /// A collect gives just these items, in this order.
 fn gives(alloc: Global, buffer: &mut PlainBuf, want: &[Item]) -> Result<bool, Fail> {
     let mut out = Grown::new(alloc);
-    out.make_room(16)?;
+    out.make_room(BUFFER_CAPACITY)?;
     buffer.collect(&mut out);
     Ok(out.as_slice() == want)
 }
@@ -27,7 +27,7 @@ fn end_gives<B: BufferEnd>(
     want: &[Item],
 ) -> Result<bool, Fail> {
     let mut out = Grown::new(alloc);
-    out.make_room(16)?;
+    out.make_room(BUFFER_CAPACITY)?;
     end.collect(range, &mut out);
     Ok(out.as_slice() == want)
 }

@@ -1,55 +1,17 @@
 -- Commands that wait, and how a map of them by id answers.
-use Rattle.std.proofs.Common.{◌≡◌, ℕ, ◌+◌, ◌<◌, ◌==◌, ◌&&◌, Bool, true, false, cond, Option, Some, None, List, [], ◌∷◌, ◌++◌, length, take, get_or, refl, ap, ◌∙◌, sym, arith, eqb-true}
-use Rattle.std.proofs.lemmas.Grind.{common_steps}
+use Rattle.std.proofs.Common.{◌≡◌, ℕ, ◌+◌, ◌<◌, Bool, true, false, cond, Option, Some, None, List, [], ◌∷◌, ◌++◌, length, take, get_or, refl, ap, ◌∙◌, sym}
 use Rattle.std.proofs.lemmas.List.{take_more}
 use Rattle.std.specs.Prelude.{is_some}
 use Rattle.std.specs.Option.{option_or}
-use Rattle.std.specs.Ordering.{nat_cmp, ordering_then, is_eq}
-use Rattle.std.specs.declared.cmp.Ordering.{Ordering}
-use Rattle.std.specs.declared.cmp.Ordering.TheVariants.{Less, Equal, Greater}
 use Rattle.std.specs.BTreeMap.{is_at}
 use Rattle.rp_base.specs.declared.ids.CmdId.{CmdId}
 use Rattle.rp_request.specs.declared.commands.Waiting.{Waiting}
-use Rattle.rp_flush.specs.Assigns.{same_id, seq_of}
-use Rattle.rp_flush.specs.Steps.{cmd_cmp}
-
--- the order and the test of ids agree
-then_equal : (o p : Ordering) → is_eq (ordering_then o p) ≡ (is_eq o && is_eq p)
-then_equal Less p = refl
-then_equal Equal p = refl
-then_equal Greater p = refl
-
-number_equal : (a b : ℕ) → is_eq (nat_cmp a b) ≡ (a == b)
-number_equal a b = grind (arith, common_steps)
-
-regroup : (x y z : Bool) → (x && (y && z)) ≡ (x && y && z)
-regroup true y z = refl
-regroup false y z = refl
-
-pub at_same : (a b : CmdId) → is_at (cmd_cmp a) b ≡ same_id a b
-at_same a b =
-    then_equal (nat_cmp a.client b.client) _
-    ∙ ap (λ t. is_eq (nat_cmp a.client b.client) && t) (then_equal (nat_cmp a.seq b.seq) (nat_cmp a.attempt b.attempt))
-    ∙ ap (λ t. t && (is_eq (nat_cmp a.seq b.seq) && is_eq (nat_cmp a.attempt b.attempt))) (number_equal a.client b.client)
-    ∙ ap (λ t. (a.client == b.client) && (t && is_eq (nat_cmp a.attempt b.attempt))) (number_equal a.seq b.seq)
-    ∙ ap (λ t. (a.client == b.client) && ((a.seq == b.seq) && t)) (number_equal a.attempt b.attempt)
-    ∙ regroup (a.client == b.client) (a.seq == b.seq) (a.attempt == b.attempt)
+use Rattle.rp_base.proofs.IdLaws.{at_same, same_is}
+use Rattle.rp_base.specs.Ids.{same_id, cmd_cmp}
+use Rattle.rp_flush.specs.Assigns.{seq_of}
 
 pub elim_false : false ≡ true → ⊥
 elim_false h = cc
-
--- ids that pass the test are one
-both_true : (x y : Bool) → (x && y) ≡ true → (x ≡ true) × (y ≡ true)
-both_true true y h = (refl, h)
-both_true false y h = (h, absurd (elim_false h))
-
-pub same_is : (a b : CmdId) → same_id a b ≡ true → a ≡ b
-same_is a b h =
-    let first = both_true (a.client == b.client && a.seq == b.seq) (a.attempt == b.attempt) h in
-    let second = both_true (a.client == b.client) (a.seq == b.seq) first.0 in
-    ap (λ (n : ℕ). record { client = n; seq = a.seq; attempt = a.attempt }) (eqb-true _ _ second.0)
-    ∙ ap (λ (n : ℕ). record { client = b.client; seq = n; attempt = a.attempt }) (eqb-true _ _ second.1)
-    ∙ ap (λ (n : ℕ). record { client = b.client; seq = b.seq; attempt = n }) (eqb-true _ _ first.1)
 
 -- one more that waits
 snoc_end : (w : Waiting) (id : CmdId) (b : Bool) → same_id w.id id ≡ b → seq_of (w ∷ []) id ≡ cond b (Some w.seq) None

@@ -1,14 +1,15 @@
 -- How often a command is given an index, and how often it is refused.
-use Rattle.std.proofs.Common.{◌≡◌, ℕ, ◌+◌, ◌==◌, ◌&&◌, ◌||◌, Bool, true, false, cond, not, Option, Some, None, List, [], ◌∷◌, refl, ap, ◌∙◌, sym, zero-add}
+use Rattle.std.proofs.Common.{◌≡◌, ℕ, ◌+◌, ◌==◌, ◌&&◌, ◌||◌, Bool, true, false, cond, not, Option, Some, None, List, [], ◌∷◌, refl, ap, ◌∙◌, sym, zero-add, max}
 use Rattle.std.proofs.lemmas.List.Sums.{sum_by-cons}
 use Rattle.std.specs.Prelude.{count_by, is_some}
 use Rattle.std.specs.List.{filter}
 use Rattle.rp_base.specs.declared.ids.CmdId.{CmdId}
 use Rattle.rp_base.specs.declared.items.Item.{Item}
 use Rattle.rp_request.specs.declared.commands.Waiting.{Waiting}
-use Rattle.rp_flush.specs.Assigns.{same_id, ids_of, once, seq_of, numbered, waits_under, waits_under_another, assigned_of}
+use Rattle.rp_flush.specs.Assigns.{ids_of, once, seq_of, numbered, waits_under, waits_under_another, assigned_of}
 use Rattle.rp_flush.specs.Counts.{stands, times, times_given, times_refused}
-use Rattle.rp_flush.proofs.Finds.{same_is}
+use Rattle.rp_base.proofs.IdLaws.{same_is}
+use Rattle.rp_base.specs.Ids.{same_id}
 
 -- equal numbers
 abbrev Same : ℕ → ℕ → Type 0
@@ -78,14 +79,14 @@ both false false = refl
 share : (p : CmdId → Bool) (id : CmdId) (ids : List CmdId) → times id (filter p (once ids)) ≡ cond (stands id ids && p id) 1 0
 share p id ids = kept p id (once ids) ∙ ap (λ n. cond (p id) n 0) (times_once id ids) ∙ both (p id) (stands id ids)
 
-pub given : (inbox : List Item) (waiting : List Waiting) (seq last : ℕ) (id : CmdId)
-    → times_given id (assigned_of inbox waiting seq last) ≡ cond (stands id (ids_of inbox) && waits_under waiting seq id) 1 0
-given inbox waiting seq last id =
-    times_numbered id last (filter (waits_under waiting seq) (once (ids_of inbox))) ∙ share (waits_under waiting seq) id (ids_of inbox)
+pub given : (inbox : List Item) (waiting : List Waiting) (seq lai assigned : ℕ) (id : CmdId)
+    → times_given id (assigned_of inbox waiting seq lai assigned) ≡ cond (stands id (ids_of inbox) && waits_under waiting seq id) 1 0
+given inbox waiting seq lai assigned id =
+    times_numbered id (max assigned lai) (filter (waits_under waiting seq) (once (ids_of inbox))) ∙ share (waits_under waiting seq) id (ids_of inbox)
 
-pub refused : (inbox : List Item) (waiting : List Waiting) (seq last : ℕ) (id : CmdId)
-    → times_refused id (assigned_of inbox waiting seq last) ≡ cond (stands id (ids_of inbox) && waits_under_another waiting seq id) 1 0
-refused inbox waiting seq last id = share (waits_under_another waiting seq) id (ids_of inbox)
+pub refused : (inbox : List Item) (waiting : List Waiting) (seq lai assigned : ℕ) (id : CmdId)
+    → times_refused id (assigned_of inbox waiting seq lai assigned) ≡ cond (stands id (ids_of inbox) && waits_under_another waiting seq id) 1 0
+refused inbox waiting seq lai assigned id = share (waits_under_another waiting seq) id (ids_of inbox)
 
 -- one that waits does so under the sequence or under another
 one_or_other : (b : Bool) → Same (cond b 1 0 + cond (not b) 1 0) 1
@@ -98,10 +99,10 @@ split_by waiting seq id false o e = refl
 split_by waiting seq id true None e = simp e
 split_by waiting seq id true (Some own) e = simp e (one_or_other (own == seq))
 
-pub settled_once : (inbox : List Item) (waiting : List Waiting) (seq last : ℕ) (id : CmdId)
-    → times_given id (assigned_of inbox waiting seq last) + times_refused id (assigned_of inbox waiting seq last)
+pub settled_once : (inbox : List Item) (waiting : List Waiting) (seq lai assigned : ℕ) (id : CmdId)
+    → times_given id (assigned_of inbox waiting seq lai assigned) + times_refused id (assigned_of inbox waiting seq lai assigned)
     ≡ cond (stands id (ids_of inbox) && is_some (seq_of waiting id)) 1 0
-settled_once inbox waiting seq last id =
-    ap (λ n. n + times_refused id (assigned_of inbox waiting seq last)) (given inbox waiting seq last id)
-    ∙ ap (λ n. cond (stands id (ids_of inbox) && waits_under waiting seq id) 1 0 + n) (refused inbox waiting seq last id)
+settled_once inbox waiting seq lai assigned id =
+    ap (λ n. n + times_refused id (assigned_of inbox waiting seq lai assigned)) (given inbox waiting seq lai assigned id)
+    ∙ ap (λ n. cond (stands id (ids_of inbox) && waits_under waiting seq id) 1 0 + n) (refused inbox waiting seq lai assigned id)
     ∙ split_by waiting seq id (stands id (ids_of inbox)) _ refl

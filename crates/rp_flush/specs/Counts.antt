@@ -1,9 +1,9 @@
 -- How often a flush gives a command an index, and how often it refuses it.
 use Rattle.std.specs.Prelude.{ℕ, Bool, List, count_by}
 use Rattle.std.specs.List.{list_any}
+use Rattle.rp_base.specs.Ids.{same_id}
 use Rattle.rp_base.specs.declared.ids.CmdId.{CmdId}
 use Rattle.rp_flush.specs.declared.assigns.Assigned.{Assigned}
-use Rattle.rp_flush.specs.Assigns.{same_id}
 
 -- whether a command stands in a list
 abbrev pub stands : CmdId → List CmdId → Bool

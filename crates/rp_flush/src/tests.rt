@@ -111,8 +111,19 @@ fn a_command_is_settled_once(rt: HostRuntime) -> Result<(), Fail> {
     );
     assert!(rt; flushed.last.get() == 9);
     assert!(rt; flushed.leases.len() == 0);
-    let none = flush(rt.alloc(), &[], &list, 4, 7)?;
-    assert!(rt; gives(&none, &[], &[]));
-    assert!(rt; none.last.get() == 7);
+    Ok(())
+}
+
+#[test]
+fn without_an_index_the_last_stays(rt: HostRuntime) -> Result<(), Fail> {
+    let items = [
+        Item::Write(id(2)),
+        Item::Lease(ask(40)?),
+        Item::Write(id(9)),
+    ];
+    let list = waiting(rt.alloc(), &[(2, 2)])?;
+    let flushed = flush(rt.alloc(), &items, &list, 7, 4)?;
+    assert!(rt; gives(&flushed, &[], &[id(2)]));
+    assert!(rt; flushed.last.get() == 4);
     Ok(())
 }

@@ -1,8 +1,8 @@
 ghost use Rattle.std.specs.Prelude.{◌≡◌, IfOk};
 ghost use Rattle.std.specs.BTreeMap.{get};
+ghost use Rattle.rp_base.specs.Ids.{cmd_cmp};
 ghost use Rattle.rp_base.specs.declared.ids.CmdId.{CmdId};
 ghost use Rattle.rp_flush.specs.Assigns.{seq_of};
-ghost use Rattle.rp_flush.specs.Steps.{cmd_cmp};
 
 use rp_base::{CmdId, LeaseSeq, NoMemory};
 use rp_request::Waiting;

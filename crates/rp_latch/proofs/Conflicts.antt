@@ -5,13 +5,13 @@ use Rattle.std.proofs.lemmas.List.Folds.{list_any-append}
 use Rattle.std.proofs.lemmas.List.Sums.{sum_by-remove}
 use Rattle.std.specs.Prelude.{map}
 use Rattle.std.specs.List.{AllPairs, AllWithin, list_any, find, count_by, remove}
-use Rattle.rp_base.specs.Spans.{meets, span_list}
+use Rattle.rp_base.specs.Spans.{meets, span_list, meets_one, any_meet}
 use Rattle.rp_base.specs.declared.ids.CmdId.{CmdId}
 use Rattle.rp_base.specs.declared.spans.Span.{Span}
 use Rattle.rp_base.specs.declared.spans.Spans.{Spans}
 use Rattle.rp_latch.specs.declared.ages.Numbered.{Numbered}
 use Rattle.rp_latch.specs.declared.index.Latch.{Latch}
-use Rattle.rp_latch.specs.Holds.{meets_one, any_meet, met_in, held_or, held_by, conflict}
+use Rattle.rp_latch.specs.Holds.{met_in, held_or, held_by, conflict}
 use Rattle.rp_latch.specs.Indexes.{hold_of, IsOlder, latch_meets, latch_meets_one, some_meet, IsClear, IsOldest, first_latch, latch_at, second_latch, passes, Lists}
 use Rattle.rp_latch.proofs.Elements.{or_false, left_false, right_false, any_same, any_or, any_less, any_counted, count_push}
 use Rattle.rp_latch.proofs.Order.{At, at_number}

@@ -11,10 +11,11 @@ use Rattle.rp_base.specs.declared.spans.Span.{Span}
 use Rattle.rp_latch.specs.declared.ages.Numbered.{Numbered}
 use Rattle.rp_latch.specs.declared.index.Latch.{Latch}
 use Rattle.rp_latch.specs.declared.tags.Tag.{Tag}
-use Rattle.rp_latch.specs.Holds.{same_id, is_of_other}
+use Rattle.rp_base.proofs.IdLaws.{same_is}
+use Rattle.rp_base.specs.Ids.{same_id}
+use Rattle.rp_latch.specs.Holds.{is_of_other}
 use Rattle.rp_latch.specs.Indexes.{hold_of, has_id, first_latch, second_latch, latch_at, is_latch, IsThere, tag_of, passes, Lists}
 use Rattle.rp_latch.proofs.Elements.{left_false, right_false, both_true, any_of_count}
-use Rattle.rp_latch.proofs.Ids.{id_same}
 use Rattle.rp_latch.proofs.Conflicts.{lists_any}
 
 -- where no hold is the attempt's, all are others'
@@ -82,7 +83,7 @@ module _ (hs : List Numbered) (k : ℕ) (x : Numbered) (l : k < length hs) (is :
 -- the tag of a hold with its id and its number
 pub tag_same : (x : Numbered) (t : Tag) (id : CmdId) → same_id x.hold.id id ≡ true → has_id id t ≡ true → x.number ≡ t.number → tag_of x ≡ Some t
 tag_same x t id here there number =
-    ap (λ (i : CmdId). Some (record { id = i; number = x.number })) (id_same x.hold.id id here ∙ sym (id_same t.id id there))
+    ap (λ (i : CmdId). Some (record { id = i; number = x.number })) (same_is x.hold.id id here ∙ sym (same_is t.id id there))
     ∙ ap (λ (n : ℕ). Some (record { id = t.id; number = n })) number
 
 -- what holds of all elements holds of those that are left

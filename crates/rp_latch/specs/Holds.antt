@@ -1,20 +1,13 @@
 -- What latches hold, and which held span stands in the way of spans that are asked (CockroachDB's span latches).
-use Rattle.std.specs.Prelude.{Bool, ◌&&◌, ◌==◌, not, List, [], ◌∷◌, Option, None, Some, Result, Ok, Err, IsFalse}
-use Rattle.std.specs.List.{list_any, find}
-use Rattle.rp_base.specs.Spans.{meets, span_list}
+use Rattle.std.specs.Prelude.{Bool, not, List, [], ◌∷◌, Option, None, Some, Result, Ok, Err, IsFalse}
+use Rattle.std.specs.List.{find}
+use Rattle.rp_base.specs.Ids.{same_id}
+use Rattle.rp_base.specs.Spans.{span_list, meets_one, any_meet}
 use Rattle.rp_base.specs.declared.ids.CmdId.{CmdId}
 use Rattle.rp_base.specs.declared.spans.Span.{Span}
 use Rattle.rp_base.specs.declared.spans.Spans.{Spans}
 use Rattle.rp_latch.specs.declared.holds.Hold.{Hold}
 use Rattle.rp_latch.specs.declared.holds.Held.{Held}
-
--- whether the span meets one of these
-abbrev pub meets_one : Spans → Span → Bool
-meets_one spans s = list_any (meets s) (span_list spans)
-
--- whether some span of the one meets a span of the other
-abbrev pub any_meet : Spans → Spans → Bool
-any_meet x y = list_any (meets_one y) (span_list x)
 
 -- of the spans of a hold the first that meets one asked
 abbrev pub met_in : Spans → Spans → Option Span
@@ -42,10 +35,6 @@ refused_by (Some held) = Err held
 -- the answer to an attempt that asks for latches
 abbrev pub answer : List Hold → Spans → Result (Unit {0}) Held
 answer hs asked = refused_by (conflict hs asked)
-
--- two ids are one
-abbrev pub same_id : CmdId → CmdId → Bool
-same_id x y = x.client == y.client && x.seq == y.seq && x.attempt == y.attempt
 
 -- the hold is another attempt's
 abbrev pub is_of_other : CmdId → Hold → Bool

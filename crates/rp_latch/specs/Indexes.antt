@@ -3,7 +3,8 @@ use Rattle.std.specs.Prelude.{ℕ, ◌<◌, ◌≤◌, ◌≡◌, Bool, false, �
 use Rattle.std.specs.List.{AllPairs, list_any, count_by}
 use Rattle.std.specs.Ordering.{nat_cmp, ordering_then, is_lt}
 use Rattle.std.specs.declared.cmp.Ordering.{Ordering}
-use Rattle.rp_base.specs.Spans.{meets}
+use Rattle.rp_base.specs.Ids.{same_id}
+use Rattle.rp_base.specs.Spans.{meets, meets_one}
 use Rattle.rp_base.specs.declared.ids.CmdId.{CmdId}
 use Rattle.rp_base.specs.declared.spans.Span.{Span}
 use Rattle.rp_base.specs.declared.spans.Spans.{Spans}
@@ -11,7 +12,7 @@ use Rattle.rp_latch.specs.declared.holds.Hold.{Hold}
 use Rattle.rp_latch.specs.declared.ages.Numbered.{Numbered}
 use Rattle.rp_latch.specs.declared.index.Latch.{Latch}
 use Rattle.rp_latch.specs.declared.tags.Tag.{Tag}
-use Rattle.rp_latch.specs.Holds.{meets_one, same_id, Apart}
+use Rattle.rp_latch.specs.Holds.{Apart}
 
 -- the hold without its number
 abbrev pub hold_of : Numbered → Hold

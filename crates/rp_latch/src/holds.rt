@@ -1,5 +1,6 @@
 ghost use Rattle.std.specs.Prelude.{◌≡◌};
-ghost use Rattle.rp_latch.specs.Holds.{meets_one, met_in, held_by};
+ghost use Rattle.rp_base.specs.Spans.{meets_one};
+ghost use Rattle.rp_latch.specs.Holds.{met_in, held_by};
 
 use rp_base::{CmdId, Span, Spans};
 use std::error::Error;

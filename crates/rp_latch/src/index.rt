@@ -122,4 +122,12 @@ impl Index {
         let at = self.starts_below(latch.span.start);
         self.latches.remove(at).unwrap();
     }
+
+    /// Takes all latches out.
+    pub fn clear(&mut self)
+        ensures list { self.new.list ≡ [] }
+        ensures spare { self.old.spare ≤ self.new.spare }
+    {
+        self.latches.clear();
+    }
 }

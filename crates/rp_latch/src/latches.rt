@@ -2,7 +2,8 @@ ghost use Rattle.std.specs.Prelude.{◌≡◌, ◌≢◌, ◌≤◌, ◌<◌, �
 ghost use Rattle.std.specs.List.{filter, list_any, count_by};
 ghost use Rattle.rp_latch.specs.declared.holds.Hold.{Hold};
 ghost use Rattle.rp_latch.specs.declared.index.Latch.{Latch};
-ghost use Rattle.rp_latch.specs.Holds.{any_meet, answer, conflict, is_of_other};
+ghost use Rattle.rp_base.specs.Spans.{any_meet};
+ghost use Rattle.rp_latch.specs.Holds.{answer, conflict, is_of_other};
 ghost use Rattle.rp_latch.specs.Indexes.{latch_meets, latch_meets_one, latch_at, passes, IsThere, IsClear, IsOldest};
 
 use crate::ages::{Numbered, place_of};
@@ -198,6 +199,17 @@ impl Latches {
         while self.free_one(id) {}
     }
 
+    /// Forgets all holds. It takes no memory, and the room stays.
+    pub fn clear(&mut self)
+        ensures list { self.new.list ≡ [] }
+        ensures spare { self.old.spare ≤ self.new.spare }
+    {
+        self.holds.clear();
+        self.firsts.clear();
+        self.seconds.clear();
+        self.tags.clear();
+    }
+
     /// No two holds meet, so neither do those of two attempts. A law, which no program calls.
     pub fn holds_are_apart(&self)
         ensures places { (i : ℕ) (j : ℕ) (x : Hold) (y : Hold) → i ≢ j → slice_get self.now.list i ≡ Some x → slice_get self.now.list j ≡ Some y
@@ -214,6 +226,7 @@ mod tests {
     use super::*;
     use rp_base::Key;
     use std::test::Fail;
+    use std::thread;
 
     fn attempt(client: u16) -> CmdId {
         CmdId {
@@ -263,6 +276,32 @@ mod tests {
         };
         assert_eq!(rt; latches.hold(attempt(3), whole), Err(by_b));
         assert_eq!(rt; latches.hold(attempt(3), a), Ok(()));
+        Ok(())
+    }
+
+    #[test]
+    fn forgets_all(rt: HostRuntime) -> Result<(), Fail> {
+        let (a, b) = (one("a")?, one("b")?);
+        let mut latches = Latches::new(rt.alloc());
+        latches.make_room(2)?;
+        assert!(rt; latches.hold(attempt(1), a).is_ok());
+        assert!(rt; latches.hold(attempt(2), b).is_ok());
+        assert_eq!(rt; latches.make_room(2), Ok(()));
+        latches.clear();
+        assert_eq!(rt; latches.hold(attempt(3), b), Ok(()));
+        assert_eq!(rt; latches.hold(attempt(3), a), Ok(()));
+        Ok(())
+    }
+
+    /// Latches may pass to another thread and back.
+    #[test]
+    fn a_thread_hands_latches_back(rt: HostRuntime) -> Result<(), Fail> {
+        let a = one("a")?;
+        let mut latches = Latches::new(rt.alloc());
+        latches.make_room(1)?;
+        assert!(rt; latches.hold(attempt(1), a).is_ok());
+        let (back, ()) = thread::join(&rt, move || latches, || ());
+        assert!(rt; back.conflict(a).is_some());
         Ok(())
     }
 

@@ -107,4 +107,12 @@ impl Tags {
         self.tags.remove(at).unwrap();
         Some(tag)
     }
+
+    /// Takes all tags out.
+    pub fn clear(&mut self)
+        ensures list { self.new.list ≡ [] }
+        ensures spare { self.old.spare ≤ self.new.spare }
+    {
+        self.tags.clear();
+    }
 }

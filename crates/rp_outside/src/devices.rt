@@ -1,4 +1,4 @@
-ghost use Rattle.std.specs.Prelude.{◌≡◌, ℕ, ◌+◌, ◌<◌, ◌≤◌, List, [], length, take, Option, IfOk, OnOk, OnErr};
+ghost use Rattle.std.specs.Prelude.{◌≡◌, ℕ, ◌+◌, ◌<◌, ◌≤◌, List, length, take, Option, IfOk, OnOk, OnErr};
 ghost use Rattle.rp_outside.specs.Devices.{Rose, Comes, IsAtEnd, Adds, AddsFront};
 
 use std::error::Error;
@@ -25,12 +25,12 @@ pub trait Source {
     ghost faults: { Self → ℕ };
 
     /// Puts the next bytes in the front of the buffer and answers how many. 0 for a buffer that is not
-    /// empty is the end.
+    /// empty is the end. `Failed` changes nothing of what is left, nor whether that is told.
     fn read(&mut self, buf: &mut [u8]) -> Result<usize, Failed>
         ensures within { IfOk result (λ n. n ≤ length buf.new) }
         ensures comes { IfOk result (λ n. Comes (left self.old) (take n buf.new) (left self.new)) }
         ensures end { IfOk result (λ n. n ≡ 0 → 0 < length buf.new → IsAtEnd (left self.new)) }
-        ensures failed { OnErr result (Comes (left self.old) [] (left self.new)) }
+        ensures failed { OnErr result (left self.new ≡ left self.old) }
         ensures faults { faults self.old ≤ faults self.new }
         ensures calm { OnOk result (faults self.new ≡ faults self.old) }
         ensures cause { OnErr result (Rose (faults self.old) (faults self.new)) };
@@ -45,11 +45,12 @@ pub trait Sink {
     ghost faults: { Self → ℕ };
 
     /// Takes the first bytes of the piece and answers how many, at least 1 of a piece that is not empty.
+    /// `Failed` changes nothing of what is held, nor whether that is told.
     fn write(&mut self, piece: &[u8]) -> Result<usize, Failed>
         ensures within { IfOk result (λ n. n ≤ length piece.now) }
         ensures some { IfOk result (λ n. 0 < length piece.now → 0 < n) }
         ensures adds { IfOk result (λ n. Adds (held self.old) (take n piece.now) (held self.new)) }
-        ensures failed { OnErr result (Adds (held self.old) [] (held self.new)) }
+        ensures failed { OnErr result (held self.new ≡ held self.old) }
         ensures faults { faults self.old ≤ faults self.new }
         ensures calm { OnOk result (faults self.new ≡ faults self.old) }
         ensures cause { OnErr result (Rose (faults self.old) (faults self.new)) };

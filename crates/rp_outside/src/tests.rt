@@ -1,7 +1,8 @@
 ghost use Rattle.std.specs.Prelude.{◌≤◌, IfOk};
 
 use crate::{
-    MemorySink, MemorySource, Sink, SoundSink, SoundSource, Source, StdSink, StdSource, put_all,
+    Failed, MemorySink, MemorySource, Sink, SoundSink, SoundSource, Source, StdSink, StdSource,
+    put_all,
 };
 use rp_base::{Bytes, Calls, Seq};
 use std::alloc::Global;
@@ -65,8 +66,10 @@ fn a_reader_of_the_system(rt: HostRuntime) -> Result<(), Fail> {
 #[test]
 fn a_sound_sink(rt: HostRuntime) -> Result<(), Fail> {
     let mut sink = SoundSink::new(rt.alloc(), 4);
-    sink.make_room(10)?;
-    assert!(rt; put_all(&mut sink, TEXT).is_ok());
+    assert!(rt; sink.make_room(6) == Ok(()));
+    assert!(rt; put_all(&mut sink, b"012345") == Ok(()));
+    assert!(rt; sink.make_room(4) == Ok(()));
+    assert!(rt; put_all(&mut sink, b"6789") == Ok(()));
     assert!(rt; sink.bytes().is_some_and(|bytes| bytes == TEXT.as_slice()));
     Ok(())
 }
@@ -74,7 +77,7 @@ fn a_sound_sink(rt: HostRuntime) -> Result<(), Fail> {
 #[test]
 fn a_sound_sink_without_room(rt: HostRuntime) -> Result<(), Fail> {
     let mut sink = SoundSink::new(rt.alloc(), 4);
-    assert!(rt; put_all(&mut sink, TEXT).is_ok());
+    assert!(rt; put_all(&mut sink, TEXT) == Ok(()));
     assert!(rt; sink.bytes().is_none());
     Ok(())
 }
@@ -82,8 +85,10 @@ fn a_sound_sink_without_room(rt: HostRuntime) -> Result<(), Fail> {
 #[test]
 fn a_sink_of_which_a_later_call_fails(rt: HostRuntime) -> Result<(), Fail> {
     let mut sink = MemorySink::new(rt.alloc(), 4, calls(rt.alloc(), &[4])?);
-    sink.make_room(10)?;
-    assert!(rt; put_all(&mut sink, TEXT).is_ok());
+    assert!(rt; sink.make_room(6) == Ok(()));
+    assert!(rt; put_all(&mut sink, b"012345") == Ok(()));
+    assert!(rt; sink.make_room(4) == Ok(()));
+    assert!(rt; sink.write(b"6789") == Ok(4));
     assert!(rt; sink.bytes() == TEXT.as_slice());
     assert!(rt; sink.faults() == 0);
     Ok(())
@@ -92,8 +97,8 @@ fn a_sink_of_which_a_later_call_fails(rt: HostRuntime) -> Result<(), Fail> {
 #[test]
 fn a_sink_of_which_a_call_fails(rt: HostRuntime) -> Result<(), Fail> {
     let mut sink = MemorySink::new(rt.alloc(), 4, calls(rt.alloc(), &[3])?);
-    sink.make_room(10)?;
-    assert!(rt; put_all(&mut sink, TEXT).is_err());
+    assert!(rt; sink.make_room(10) == Ok(()));
+    assert!(rt; put_all(&mut sink, TEXT) == Err(Failed));
     assert!(rt; sink.bytes() == b"01234567".as_slice());
     assert!(rt; sink.faults() == 1);
     Ok(())
@@ -102,7 +107,7 @@ fn a_sink_of_which_a_call_fails(rt: HostRuntime) -> Result<(), Fail> {
 #[test]
 fn a_sink_without_room(rt: HostRuntime) -> Result<(), Fail> {
     let mut sink = MemorySink::new(rt.alloc(), 4, calls(rt.alloc(), &[])?);
-    assert!(rt; put_all(&mut sink, TEXT).is_err());
+    assert!(rt; put_all(&mut sink, TEXT) == Err(Failed));
     assert!(rt; sink.bytes().is_empty());
     assert!(rt; sink.faults() == 1);
     Ok(())
@@ -159,7 +164,7 @@ fn a_reader_that_fails(rt: HostRuntime) {
     let mut buf = [0u8; 4];
     let mut source = StdSource::new(Halting { calls: 0 });
     assert!(rt; source.read(&mut buf) == Ok(3));
-    assert!(rt; source.read(&mut buf).is_err());
+    assert!(rt; source.read(&mut buf) == Err(Failed));
     assert!(rt; source.faults() == 1);
     assert!(rt; source.read(&mut buf) == Ok(0));
 }
@@ -167,9 +172,9 @@ fn a_reader_that_fails(rt: HostRuntime) {
 #[test]
 fn a_writer_that_fails(rt: HostRuntime) {
     let mut sink = StdSink::new(Halting { calls: 0 });
-    assert!(rt; put_all(&mut sink, TEXT).is_err());
+    assert!(rt; put_all(&mut sink, TEXT) == Err(Failed));
     assert!(rt; sink.faults() == 1);
-    assert!(rt; sink.write(TEXT).is_err());
+    assert!(rt; sink.write(TEXT) == Err(Failed));
     assert!(rt; sink.faults() == 2);
-    assert!(rt; put_all(&mut sink, TEXT).is_ok());
+    assert!(rt; put_all(&mut sink, TEXT) == Ok(()));
 }

@@ -3,26 +3,12 @@ use Rattle.std.proofs.Common.{◌≡◌, ◌+◌, ◌≤◌, Bool, true, false, 
 use Rattle.std.specs.List.{IsDistinct, AllByRecursion, filter}
 use Rattle.std.specs.Map.{remove_entry, keys_of}
 use Rattle.std.specs.Option.{option_flatten, option_map}
-use Rattle.std.proofs.lemmas.Bool.{eqb-true}
 use Rattle.rp_base.specs.declared.ids.CmdId.{CmdId}
 use Rattle.rp_pending.specs.declared.proposals.Proposal.{Proposal}
-use Rattle.rp_flush.specs.Assigns.{same_id}
+use Rattle.rp_base.specs.Ids.{same_id}
+use Rattle.rp_base.proofs.IdLaws.{same_is}
 use Rattle.rp_pending.specs.Proposals.{has_id, proposal_of, without, with_changed}
 use Rattle.rp_pending.specs.Slots.{Slot, proposals_in, IsNamed, AreNamed, slot_of, with_slot}
-
-and_true : (a b : Bool) → (a && b) ≡ true → (a ≡ true) × (b ≡ true)
-and_true true b h = (refl, h)
-and_true false b h = cc
-
--- ids that are the same by the test are one
-pub one_id : (x y : CmdId) → same_id x y ≡ true → x ≡ y
-one_id x y h =
-    let last = and_true _ _ h in
-    let first = and_true _ _ last.0 in
-    let p = eqb-true _ _ first.0 in
-    let q = eqb-true _ _ first.1 in
-    let r = eqb-true _ _ last.1 in
-    λ i. record { client = p i; seq = q i; attempt = r i }
 
 -- none of these has the id
 pub record AreOthers (id : CmdId) (ps : List Proposal) : Type 0 where
@@ -56,7 +42,7 @@ none_below k (e ∷ es) a = ap (λ b. cond b (Some e.1) (slot_of k es)) a.0 ∙ 
 others_below : (id k : CmdId) (es : List Slot) → same_id id k ≡ true → IsDistinct same_id (k ∷ keys_of es) → AreNamed es → AreOthers id (proposals_in es)
 unfolding IsDistinct
 others_below id k es e d n =
-    subst (λ x. AreOthers x (proposals_in es)) (sym (one_id id k e)) (others k es n (none_below k es d.0))
+    subst (λ x. AreOthers x (proposals_in es)) (sym (same_is id k e)) (others k es n (none_below k es d.0))
 
 distinct_below : (k : CmdId) (es : List Slot) → IsDistinct same_id (k ∷ keys_of es) → IsDistinct same_id (keys_of es)
 unfolding IsDistinct
@@ -129,7 +115,7 @@ named_at id (s ∷ es) slot n h = by (same_id id s.0) refl h (named_at id es slo
     by : (b : Bool) → same_id id s.0 ≡ b → cond b (Some s.1) (slot_of id es) ≡ Some slot → (slot_of id es ≡ Some slot → IsNamed (id, slot)) → IsNamed (id, slot)
     by true e h ih =
         let is : s.1 ≡ slot = cc in
-        subst (λ x. IsNamed (id, x)) is (subst (λ k. IsNamed (k, s.1)) (sym (one_id id s.0 e)) n.0)
+        subst (λ x. IsNamed (id, x)) is (subst (λ k. IsNamed (k, s.1)) (sym (same_is id s.0 e)) n.0)
     by false e h ih = ih h
 
 pub named_with : (id : CmdId) (es : List Slot) (slot : Option Proposal) → AreNamed es → IsNamed (id, slot) → AreNamed (with_slot id es slot)
@@ -137,7 +123,7 @@ named_with id [] slot n m = tt
 named_with id (s ∷ es) slot n m = by (same_id id s.0) refl (named_with id es slot n.1 m)
   where
     by : (b : Bool) → same_id id s.0 ≡ b → AreNamed (with_slot id es slot) → AreNamed (cond b ((s.0, slot) ∷ es) (s ∷ with_slot id es slot))
-    by true e ih = (subst (λ k. IsNamed (k, slot)) (one_id id s.0 e) m, n.1)
+    by true e ih = (subst (λ k. IsNamed (k, slot)) (same_is id s.0 e) m, n.1)
     by false e ih = (n.0, ih)
 
 -- one proposal less

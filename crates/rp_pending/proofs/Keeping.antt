@@ -9,7 +9,7 @@ use Rattle.rp_base.specs.declared.ids.CmdId.{CmdId}
 use Rattle.rp_pending.specs.declared.proposals.Proposal.{Proposal}
 use Rattle.rp_pending.specs.declared.proposals.Change.{Change}
 use Rattle.rp_pending.specs.declared.proposals.Change.TheVariants.{Propose, WaitAgain}
-use Rattle.rp_flush.specs.Assigns.{same_id}
+use Rattle.rp_base.specs.Ids.{same_id}
 use Rattle.rp_pending.specs.Proposals.{proposal_of, without, with_changed}
 use Rattle.rp_pending.specs.Slots.{Slot, proposals_in, changed, slot_of, with_slot, IsNamed, AreSound}
 use Rattle.rp_pending.proofs.Finding.{found, emptied, changed_in, named_at, named_with, one_less, cleared, compacted, named_more, none_goes}

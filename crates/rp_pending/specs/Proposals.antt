@@ -2,7 +2,7 @@
 use Rattle.std.specs.Prelude.{ℕ, Bool, true, false, not, if◌then◌else◌, map, List, Option, None, Some}
 use Rattle.std.specs.List.{find, filter}
 use Rattle.rp_base.specs.declared.ids.CmdId.{CmdId}
-use Rattle.rp_flush.specs.Assigns.{same_id}
+use Rattle.rp_base.specs.Ids.{same_id}
 use Rattle.rp_pending.specs.declared.proposals.Proposal.{Proposal}
 use Rattle.rp_pending.specs.declared.proposals.Stage.{Stage}
 use Rattle.rp_pending.specs.declared.proposals.Stage.TheVariants as stages

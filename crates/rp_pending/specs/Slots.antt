@@ -7,7 +7,7 @@ use Rattle.rp_base.specs.declared.ids.CmdId.{CmdId}
 use Rattle.rp_pending.specs.declared.proposals.Proposal.{Proposal}
 use Rattle.rp_pending.specs.declared.proposals.Change.{Change}
 use Rattle.rp_pending.specs.declared.proposals.Change.TheVariants.{Propose, WaitAgain}
-use Rattle.rp_flush.specs.Assigns.{same_id}
+use Rattle.rp_base.specs.Ids.{same_id}
 use Rattle.rp_pending.specs.Proposals.{proposed, waiting_again}
 
 abbrev pub Slot : Type 0

@@ -2,7 +2,7 @@ ghost use Rattle.std.specs.Prelude.{◌≡◌, ◌≤◌, ◌+◌, [], ◌∷◌
 ghost use Rattle.std.specs.List.{IsDistinct};
 ghost use Rattle.std.specs.Option.{option_copied};
 ghost use Rattle.rp_pending.specs.Refreshes.{first_round, to_refresh, waiting_of};
-ghost use Rattle.rp_flush.specs.Assigns.{same_id};
+ghost use Rattle.rp_base.specs.Ids.{same_id};
 ghost use Rattle.rp_pending.specs.Proposals.{proposal_of, without, with_changed, proposed, waiting_again};
 
 use crate::proposals::{Change, Proposal};

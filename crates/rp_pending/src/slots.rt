@@ -4,7 +4,7 @@ ghost use Rattle.std.specs.Map.{keys_of, remove_entry};
 ghost use Rattle.std.specs.Option.{option_copied, option_flatten, option_map};
 ghost use Rattle.indexmap.specs.IndexMap.{spare};
 ghost use Rattle.rp_pending.specs.declared.proposals.Proposal.{Proposal};
-ghost use Rattle.rp_flush.specs.Assigns.{same_id};
+ghost use Rattle.rp_base.specs.Ids.{same_id};
 ghost use Rattle.rp_pending.specs.Slots.{changed, proposals_in, slot_of, with_slot, AreSound};
 
 use crate::proposals::{Change, Proposal};

@@ -1,8 +1,9 @@
 use crate::{Pending, Proposal, Refresh, Stage};
-use rp_base::{CmdId, Key, LeaseIndex, LeaseSeq, Tick};
+use rp_base::{CmdId, Key, LeaseIndex, LeaseSeq, Tick, Value};
 use rp_request::{Batch, Reply, Request, Waiting};
 use std::alloc::Global;
 use std::test::Fail;
+use std::thread;
 
 fn attempt(number: u32) -> CmdId {
     CmdId {
@@ -16,7 +17,10 @@ fn proposal(alloc: Global, number: u32) -> Result<Proposal, Fail> {
     let key = Key::read(b"a")?;
     Ok(Proposal {
         id: attempt(number),
-        request: Request::Put { key, value: 5 },
+        request: Request::Put {
+            key,
+            value: Value::Number(5),
+        },
         batch: Batch::new(alloc),
         reply: Reply::Set,
         seq: LeaseSeq::new(1),
@@ -106,6 +110,15 @@ fn a_proposal_is_added_found_and_finished(rt: HostRuntime) -> Result<(), Fail> {
     assert!(rt; has(&pending, 3));
     assert!(rt; pending.waiting()?.as_slice() == [wait(3)].as_slice());
     assert!(rt; are(pending.ids()?.as_slice(), &[3]));
+    Ok(())
+}
+
+/// Pending proposals may pass to another thread and back.
+#[test]
+fn a_thread_hands_proposals_back(rt: HostRuntime) -> Result<(), Fail> {
+    let pending = filled(rt.alloc(), 2)?;
+    let (back, ()) = thread::join(&rt, move || pending, || ());
+    assert!(rt; has(&back, 2));
     Ok(())
 }
 

@@ -12,20 +12,29 @@ pub struct Entry {
     pub payload: Bytes,
 }
 
+impl Entry {
+    /// An equal entry.
+    pub fn copy(&self) -> Result<Entry, NoMemory>
+        ensures { IfOk result (λ copy. copy ≡ self.now) }
+    {
+        let payload = self.payload.copy()?;
+        Ok(Entry {
+            term: self.term,
+            payload,
+        })
+    }
+}
+
 /// Entries in the order of their indexes.
 pub type Entries = Seq<Entry>;
 
 /// Copies of entries.
-pub(crate) fn copies(alloc: Global, entries: &[Entry]) -> Result<Entries, NoMemory>
+pub fn copies(alloc: Global, entries: &[Entry]) -> Result<Entries, NoMemory>
     ensures { IfOk result (λ copies. copies ≡ entries.now) }
 {
     let mut copies = Vec::with_capacity(alloc, entries.len())?;
     for entry in entries {
-        let payload = entry.payload.copy()?;
-        copies.push(Entry {
-            term: entry.term,
-            payload,
-        })?;
+        copies.push(entry.copy()?)?;
     }
     Ok(Seq::from_vec(copies))
 }

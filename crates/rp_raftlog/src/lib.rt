@@ -6,5 +6,5 @@ mod logs;
 #[cfg(test)]
 mod tests;
 
-pub use entries::{Entries, Entry};
+pub use entries::{Entries, Entry, copies};
 pub use logs::{Log, Mismatch};

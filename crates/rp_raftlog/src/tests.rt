@@ -1,9 +1,10 @@
 ghost use Rattle.std.specs.Prelude.{◌≡◌, IfOk};
 
-use crate::{Entries, Entry, Log, Mismatch};
+use crate::{Entries, Entry, Log, Mismatch, copies};
 use rp_base::Seq;
 use std::alloc::Global;
 use std::test::Fail;
+use std::thread;
 
 /// An entry of a term, with a payload of one byte.
 fn entry(alloc: Global, term: u64, byte: u8) -> Result<Entry, Fail> {
@@ -64,6 +65,25 @@ fn log(alloc: Global, parts: &[(u64, u8)]) -> Result<Log, Fail>
     let taken = accept(alloc, &mut log, 10, 1, parts)?;
     let _ = taken.ok().ok_or("they match")?;
     Ok(log)
+}
+
+#[test]
+fn copies_entries(rt: HostRuntime) -> Result<(), Fail> {
+    let entries = entries(rt.alloc(), &[(1, 5), (2, 6)])?;
+    let copied = copies(rt.alloc(), entries.as_slice())?;
+    assert!(rt; are(&copied, &[(1, 5), (2, 6)]));
+    let copied = entry(rt.alloc(), 3, 7)?.copy()?;
+    assert!(rt; is(&copied, (3, 7)));
+    Ok(())
+}
+
+/// A log may pass to another thread and back.
+#[test]
+fn a_thread_hands_a_log_back(rt: HostRuntime) -> Result<(), Fail> {
+    let log = log(rt.alloc(), &[(1, 5), (2, 6)])?;
+    let (back, ()) = thread::join(&rt, move || log, || ());
+    assert!(rt; back.last() == (12, 2));
+    Ok(())
 }
 
 #[test]

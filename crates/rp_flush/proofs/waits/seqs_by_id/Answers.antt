@@ -1,6 +1,6 @@
 use Rattle.std.proofs.Common.{◌∙◌, sym, ap}
 use Rattle.std.specs.BTreeMap.{get}
-use Rattle.rp_flush.specs.Steps.{cmd_cmp}
+use Rattle.rp_base.specs.Ids.{cmd_cmp}
 use Rattle.rp_flush.proofs.Finds.{still_answers, answers_more}
 use Rattle.rp_flush.proofs.waits.seqs_by_id.Goals as goal
 use Rattle.rp_flush.proofs.waits.seqs_by_id.Goals.{then-not-contains_key+in_ok-insert, else-not-contains_key}

@@ -1,7 +1,7 @@
 use Rattle.std.proofs.Common.{arith, sym, subst, ap, ◌∙◌}
 use Rattle.std.specs.List.{IsDistinct}
 use Rattle.std.specs.Map.{keys_of}
-use Rattle.rp_flush.specs.Assigns.{same_id}
+use Rattle.rp_base.specs.Ids.{same_id}
 use Rattle.rp_pending.specs.Slots.{proposals_in, AreSound}
 use Rattle.rp_pending.proofs.Finding.{compacted, no_more}
 use Rattle.rp_pending.proofs.Keeping.{sound_compacted}

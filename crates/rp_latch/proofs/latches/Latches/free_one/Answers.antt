@@ -3,7 +3,8 @@ use Rattle.std.proofs.lemmas.List.Quantifiers.{all_pairs_remove}
 use Rattle.std.specs.Prelude.{map}
 use Rattle.std.specs.List.{All, AllPairs, filter, remove, count_by}
 use Rattle.rp_latch.specs.declared.ages.Numbered.{Numbered}
-use Rattle.rp_latch.specs.Holds.{same_id, is_of_other}
+use Rattle.rp_base.specs.Ids.{same_id}
+use Rattle.rp_latch.specs.Holds.{is_of_other}
 use Rattle.rp_latch.specs.Indexes.{hold_of, IsOlder, AreApart, first_latch, second_latch, latch_at, tag_of, passes, Lists}
 use Rattle.rp_latch.proofs.Order.{at_number}
 use Rattle.rp_latch.proofs.Conflicts.{lists_less}

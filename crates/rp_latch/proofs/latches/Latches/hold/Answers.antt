@@ -4,7 +4,8 @@ use Rattle.std.proofs.lemmas.List.Elements.{All-push}
 use Rattle.std.specs.Prelude.{map}
 use Rattle.std.specs.List.{All, AllPairs}
 use Rattle.rp_latch.specs.declared.ages.Numbered.{Numbered}
-use Rattle.rp_latch.specs.Holds.{any_meet, conflict}
+use Rattle.rp_base.specs.Spans.{any_meet}
+use Rattle.rp_latch.specs.Holds.{conflict}
 use Rattle.rp_latch.specs.Indexes.{hold_of, IsOlder, AreApart, first_latch, second_latch, tag_of, Lists}
 use Rattle.rp_latch.proofs.Elements.{none_at}
 use Rattle.rp_latch.proofs.Conflicts.{none_meets, lists_more, first_clear, second_clear}

@@ -1,7 +1,7 @@
 use Rattle.std.proofs.Common.{◌+◌, ◌++◌, ◌∷◌, [], ap, refl, sym, subst, ◌∙◌}
 use Rattle.std.specs.List.{IsDistinct}
 use Rattle.std.specs.Map.{keys_of}
-use Rattle.rp_flush.specs.Assigns.{same_id}
+use Rattle.rp_base.specs.Ids.{same_id}
 use Rattle.rp_pending.specs.Proposals.{proposal_of}
 use Rattle.rp_pending.specs.Slots.{proposals_in, AreSound}
 use Rattle.rp_pending.proofs.Keeping.{found_in, one_more_in, sound_more}

@@ -1,6 +1,6 @@
 use Rattle.std.proofs.Common.{map, subst}
 use Rattle.std.specs.List.{IsDistinct}
-use Rattle.rp_flush.specs.Assigns.{same_id}
+use Rattle.rp_base.specs.Ids.{same_id}
 use Rattle.rp_pending.proofs.Finding.{ids_apart}
 use Rattle.rp_pending.proofs.lists.Pending.ids_are_distinct.Goals as goal
 
