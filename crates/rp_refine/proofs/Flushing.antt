@@ -20,20 +20,18 @@ use Rattle.rp_pending.specs.Proposals.{has_id, proposal_of, without, with_change
 use Rattle.rp_pending.specs.Refreshes.{waiting_of}
 use Rattle.rp_request.specs.Applied.{records_of}
 use Rattle.rp_request.specs.History.{History}
-use Rattle.rp_base.proofs.IdLaws.{same_is}
+use Rattle.rp_base.proofs.IdLaws.{same_is, id_cases}
 use Rattle.rp_replica.specs.declared.events.ReplicaEvent.TheVariants as events
 use Rattle.rp_replica.specs.Replicas.{Replica}
 use Rattle.rp_replica.specs.Applications.{payload_of}
-use Rattle.rp_replica.specs.Flushes.{command_of, write_of, payloads_of, entry_of, freed_all, without_all, proposed_all, refused_with, flushed}
+use Rattle.rp_replica.specs.Flushes.{assigning, command_of, write_of, payloads_of, entry_of, freed_all, without_all, proposed_all, refused_with, flushed}
 use Rattle.rp_rangesafe.specs.Attempts.{Body, Stage, Waiting, Proposed, Refused, Attempt, Attempts, IsPending, IsOf, staged, handed_out, with_attempt}
 use Rattle.rp_rangesafe.specs.World.{World, here, Event, Refuse, Commit, Lawful, AllLawful, happens, run}
 use Rattle.rp_rangesafe.specs.World as machine
 use Rattle.rp_rangesafe.specs.Places.{IsLater}
 use Rattle.rp_rangesafe.specs.Ranges.{Owner, Ranges, first_applied}
-use Rattle.rp_base.proofs.IdLaws.{id_cases}
 use Rattle.rp_rangesafe.proofs.Tables.{at_same, at_other}
 use Rattle.rp_rangesafe.proofs.Runs.{later_state}
-use Rattle.rp_replica.specs.Writes.{assigning}
 use Rattle.rp_refine.specs.Runs.{Outcomes, Run, with_outcome, with_ended, left_by}
 use Rattle.rp_refine.proofs.Stands.{IsMade, AllHold, stands_drop, stands_turn}
 use Rattle.rp_refine.proofs.Ghosts.{ArePlain, IsPlain}

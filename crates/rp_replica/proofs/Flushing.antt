@@ -1,5 +1,5 @@
 -- A planned flush is the flush of the definition.
-use Rattle.std.proofs.Common.{◌≡◌, ℕ, max, List, ◌++◌, map, refl, sym, ap, subst, ◌∙◌, arith}
+use Rattle.std.proofs.Common.{◌≡◌, ℕ, List, ◌++◌, map, refl, sym, ap, subst, ◌∙◌, arith}
 use Rattle.std.specs.Prelude.{filter_map}
 use Rattle.rp_base.specs.declared.ids.CmdId.{CmdId}
 use Rattle.rp_base.specs.declared.leases.Lease as leases
@@ -13,15 +13,11 @@ use Rattle.rp_replica.specs.declared.events.Ended.{Ended}
 use Rattle.rp_replica.specs.declared.plans.ReplicaPlan.{ReplicaPlan}
 use Rattle.rp_replica.specs.declared.plans.ReplicaPlan.TheVariants.{Flushes}
 use Rattle.rp_replica.specs.Replicas.{Replica}
-use Rattle.rp_replica.specs.Flushes.{entry_of, flushed, payloads_of, refused_with, write_of}
+use Rattle.rp_replica.specs.Flushes.{assigning, entry_of, flushed, payloads_of, refused_with, write_of}
 use Rattle.rp_replica.specs.Allows.{MayFlush}
 use Rattle.rp_replica.specs.Plans.{Makes}
 use Rattle.rp_replica.specs.Carried.{EachCarries}
 use Rattle.rp_replica.proofs.Assigning.{assigned_pending, entries_are, few_entries, length_entries}
-
--- what a flush assigns here
-abbrev assigning : Replica → Assigned
-assigning r = assigned_of r.inbox (waiting_of r.pending) r.applied.state.lease.seq (max r.assigned r.applied.state.lai)
 
 abbrev with_lists : Assigned → (now round : ℕ) → List Entry → List Ended → ReplicaPlan
 with_lists a now round entries outcomes =
@@ -30,13 +26,13 @@ with_lists a now round entries outcomes =
 made : (r : Replica) (now round : ℕ) → EachCarries (map entry_of (payloads_of r.pending (assigning r))) → MayFlush r
     → Makes r (with_lists (assigning r) now round (map entry_of (payloads_of r.pending (assigning r))) (map (refused_with r.applied.state.lease) (assigning r).refused)) (flushed r now round)
 made r now round carry h =
-    let few = few_entries r.inbox r.pending (waiting_of r.pending) r.applied.state.lease.seq (max r.assigned r.applied.state.lai) in
+    let few = few_entries r.inbox r.pending (waiting_of r.pending) r.applied.state.lease.seq r.applied.state.lai r.assigned in
     let long = length_entries r.pending (assigning r) in
     record {
       does = refl;
       fits = record {
         index = omega (arith, h.index, few, long);
-        known = assigned_pending r.inbox r.pending r.applied.state.lease.seq (max r.assigned r.applied.state.lai);
+        known = assigned_pending r.inbox r.pending r.applied.state.lease.seq r.applied.state.lai r.assigned;
         carry = carry;
       };
     }
@@ -45,13 +41,13 @@ made r now round carry h =
 pub makes_flush : (r : Replica) (now round : ℕ) (lease told : leases.Lease) (lai : ℕ) (a : Assigned)
     (asks : List LeaseAsk) (writes : List (CmdId × ℕ)) (refused : List CmdId) (entries : List Entry) (outcomes : List Ended)
     → lease ≡ r.applied.state.lease → told ≡ r.applied.state.lease → lai ≡ r.applied.state.lai
-    → a ≡ assigned_of r.inbox (waiting_of r.pending) lease.seq (max r.assigned lai) → asks ≡ a.leases → writes ≡ a.writes → refused ≡ a.refused
+    → a ≡ assigned_of r.inbox (waiting_of r.pending) lease.seq lai r.assigned → asks ≡ a.leases → writes ≡ a.writes → refused ≡ a.refused
     → entries ≡ map (λ ask. entry_of (payloads.Lease ask)) asks ++ map entry_of (filter_map (write_of r.pending) writes)
     → EachCarries entries → outcomes ≡ map (refused_with told) refused → MayFlush r → Makes r (with_lists a now round entries outcomes) (flushed r now round)
 makes_flush r now round lease told lai a asks writes refused entries outcomes l t i e ls ws rs es carry o h =
     let is : a ≡ assigning r =
-    e ∙ ap (λ l. assigned_of r.inbox (waiting_of r.pending) l.seq (max r.assigned lai)) l
-    ∙ ap (λ n. assigned_of r.inbox (waiting_of r.pending) r.applied.state.lease.seq (max r.assigned n)) i in
+    e ∙ ap (λ l. assigned_of r.inbox (waiting_of r.pending) l.seq lai r.assigned) l
+    ∙ ap (λ n. assigned_of r.inbox (waiting_of r.pending) r.applied.state.lease.seq n r.assigned) i in
     let entries_is : entries ≡ map entry_of (payloads_of r.pending (assigning r)) =
     es ∙ ap (λ l. map (λ ask. entry_of (payloads.Lease ask)) l ++ map entry_of (filter_map (write_of r.pending) writes)) ls
     ∙ ap (λ l. map (λ ask. entry_of (payloads.Lease ask)) a.leases ++ map entry_of (filter_map (write_of r.pending) l)) ws

@@ -52,7 +52,7 @@ pub(crate) fn assign_inbox(
     assigned: LeaseIndex,
 ) -> Result<Assigned, NoMemory>
     requires { max assigned lai + length inbox.now.list < 2 ^ 64 }
-    ensures { IfOk result (λ all. all ≡ assigned_of inbox.now.list (waiting_of pending.now.list) lease.seq (max assigned lai)) }
+    ensures { IfOk result (λ all. all ≡ assigned_of inbox.now.list (waiting_of pending.now.list) lease.seq lai assigned) }
 {
     // An id is looked up, so none may stand twice.
     pending.ids_are_distinct();
