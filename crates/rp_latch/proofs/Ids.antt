@@ -14,7 +14,7 @@ use Rattle.rp_latch.specs.Indexes.{id_cmp, is_before, has_id, IsNotAfter, ById}
 use Rattle.rp_latch.proofs.Elements.{pairs_insert}
 
 -- an id whose client and number have changed places: the order of tags is the order of such ids
-turned : CmdId → CmdId
+abbrev turned : CmdId → CmdId
 turned id = record { client = id.seq; seq = id.client; attempt = id.attempt }
 
 same_turned : (x y : CmdId) → same_id (turned x) (turned y) ≡ same_id x y

@@ -12,6 +12,7 @@ use Rattle.rp_request.specs.declared.commands.Payload.{Payload}
 use Rattle.rp_request.specs.declared.commands.Payload.TheVariants as payloads
 use Rattle.rp_request.specs.Fits.{FitsPayload}
 use Rattle.rp_base.specs.Ids.{same_id}
+use Rattle.rp_flush.proofs.Numbering.{last_counts}
 use Rattle.rp_flush.specs.Assigns.{asks_of, ids_of, once, numbered, waits_under}
 use Rattle.rp_pending.specs.Proposals.{has_id, proposal_of, with_changed, proposed}
 use Rattle.rp_pending.specs.Refreshes.{waiting_of}
@@ -103,8 +104,10 @@ flush_sound r sent k most ticks round h fit =
     let last : ℕ = max r.assigned r.applied.state.lai in
     let same : last ≡ r.assigned = max-eq_left h.lai in
     let few = few_proposed r in
+    let under = filter (waits_under (waiting_of r.pending) r.applied.state.lease.seq) (once (ids_of r.inbox)) in
+    let count : (assigning r).last ≡ r.assigned + length under = last_counts r.applied.state.lai r.assigned under h.lai in
     let long = length_entries r.pending (assigning r) in
-    let some = few_entries r.inbox r.pending (waiting_of r.pending) r.applied.state.lease.seq last in
+    let some = few_entries r.inbox r.pending (waiting_of r.pending) r.applied.state.lease.seq r.applied.state.lai r.assigned in
     let all = length-append r.log.entries (map entry_of (payloads_of r.pending (assigning r))) in
     let asks = no_asks r.inbox h.inbox in
     let is : payloads_of r.pending (assigning r) ≡ filter_map (write_of r.pending) (assigning r).writes =
@@ -112,15 +115,15 @@ flush_sound r sent k most ticks round h fit =
     record {
       pending = proposed_sent sent (assigning r).writes ticks round _ (without_sent sent (assigning r).refused r.pending h.pending);
       entries = all_append (IsGiven (assigning r).last) r.log.entries _
-          (all_weaker (IsGiven r.assigned) (IsGiven (assigning r).last) (given_later r.assigned (assigning r).last (omega (arith, same))) r.log.entries h.entries)
+          (all_weaker (IsGiven r.assigned) (IsGiven (assigning r).last) (given_later r.assigned (assigning r).last (omega (arith, count))) r.log.entries h.entries)
           (subst (λ l. AllByRecursion (IsGiven (assigning r).last) (map entry_of l)) (sym is)
-          (given_all sent r.pending (assigning r).writes (assigning r).last h.pending (numbers_within last _ (assigning r).last (omega arith))
+          (given_all sent r.pending (assigning r).writes (assigning r).last h.pending (numbers_within last under (assigning r).last (omega (arith, same, count)))
           (subst (AllByRecursion FitsPayload) is fit.each)));
       base = h.base;
       index = omega (arith, h.index, all);
-      lai = omega (arith, same, h.lai);
+      lai = omega (arith, count, h.lai);
       seq = h.seq;
       inbox = tt;
-      given = omega (arith, h.given, same, few);
+      given = omega (arith, h.given, count, few);
       written = omega (arith, h.written, all, long, some);
     }
