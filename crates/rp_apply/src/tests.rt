@@ -1,13 +1,17 @@
+//! Each call, by commands, leases, a split and a snapshot.
 ghost use Rattle.std.specs.Prelude.{IsTrue};
 ghost use Rattle.rp_request.specs.Applicable.{Fits};
 
 use crate::{ApplyState, Verdict, check};
-use rp_base::{CmdId, Key, Lease, LeaseAsk, LeaseIndex, LeaseSeq, NoMemory, NodeId, RangeId, Tick};
+use rp_base::{
+    CmdId, Key, Lease, LeaseAsk, LeaseIndex, LeaseSeq, NoMemory, NodeId, RangeId, Tick, Value,
+};
 use rp_range::{first_desc, first_lease, split_at};
 use rp_request::{Batch, Command, Op, Payload, Place, Record, Reply, Request, Why};
 use rp_table::Table;
 use std::alloc::Global;
 use std::test::Fail;
+use std::thread::join;
 
 const ID: CmdId = CmdId {
     client: 1,
@@ -35,6 +39,7 @@ fn key(text: &str) -> Result<Key, Fail> {
 /// A command under this sequence, with this maximum, that sets a key.
 fn put(alloc: Global, key: Key, value: u64, seq: u64, max: u64) -> Result<Payload, NoMemory> {
     let mut batch = Batch::new(alloc);
+    let value = Value::Number(value);
     batch.push(Op::Set { key, value })?;
     Ok(Payload::Write(Command {
         id: ID,
@@ -48,6 +53,7 @@ fn put(alloc: Global, key: Key, value: u64, seq: u64, max: u64) -> Result<Payloa
 
 /// The record of such a command, taken.
 fn took(key: Key, value: u64, seq: u64) -> Record {
+    let value = Value::Number(value);
     Record::Took(Place::Write {
         id: ID,
         request: Request::Put { key, value },
@@ -135,7 +141,7 @@ fn a_command_applies_once(rt: HostRuntime) -> Result<(), Fail> {
     assert!(rt; lastly(&state, Record::Passed(Why::OldIndex), took(a, 2, 1)));
     assert!(rt; state.index() == 3 && state.lai() == LeaseIndex::new(1));
     assert!(rt; state.before() == 0 && state.records().len() == 3);
-    assert!(rt; state.table().len() == 1 && state.table().get(a) == Some(2));
+    assert!(rt; state.table().len() == 1 && state.table().get(a) == Some(Value::Number(2)));
     Ok(())
 }
 
@@ -154,7 +160,10 @@ fn a_lower_index_is_passed(rt: HostRuntime) -> Result<(), Fail> {
     assert!(rt; state.table().get(a) == None);
     assert!(rt; apply(&mut state, &again) == Some(Verdict::Took));
     assert!(rt; state.lai() == LeaseIndex::new(3));
-    assert!(rt; state.table().get(a) == Some(1) && state.table().get(b) == Some(2));
+    assert!(rt;
+        state.table().get(a) == Some(Value::Number(1))
+            && state.table().get(b) == Some(Value::Number(2))
+    );
     Ok(())
 }
 
@@ -219,5 +228,17 @@ fn a_snapshot_keeps_records(rt: HostRuntime) -> Result<(), Fail> {
     let piece = state.earlier().first().ok_or("a piece")?;
     assert!(rt; piece.before() == 0);
     assert!(rt; piece.as_slice().first() == Some(&Record::Passed(Why::Nothing)));
+    Ok(())
+}
+
+#[test]
+fn passes_through_threads(rt: HostRuntime) -> Result<(), Fail> {
+    let mut state = fresh(rt.alloc());
+    let a = key("a")?;
+    let command = put(rt.alloc(), a, 5, 1, 1)?;
+    assert!(rt; apply(&mut state, &command) == Some(Verdict::Took));
+    let (state, seven) = join(&rt, move || state, || 7);
+    assert!(rt; state.table().get(a) == Some(Value::Number(5)));
+    assert!(rt; seven == 7);
     Ok(())
 }
