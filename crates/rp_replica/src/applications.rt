@@ -78,34 +78,25 @@ impl Replica {
         }
     }
 
-    fn turn_of(&self, payload: &Payload) -> Turn
-        ensures turn { result ≡ turn_of self.now.replica payload.now }
-        ensures known { IsKnown self.now.replica.pending result }
+    /// What an entry makes of the proposal that it came of, and what its client is told.
+    fn turn_and_end(
+        &self,
+        alloc: Global,
+        payload: &Payload,
+    ) -> Result<(Turn, Outcomes), NoMemory>
+        ensures turn { IfOk result (λ r. r.0 ≡ turn_of self.now.replica payload.now) }
+        ensures known { IfOk result (λ r. IsKnown self.now.replica.pending r.0) }
+        ensures told { IfOk result (λ r. r.1 ≡ told_of self.now.replica payload.now) }
     {
         let Payload::Write(command) = payload else {
-            return Turn::Stays;
+            return Ok((Turn::Stays, Outcomes::new(alloc)));
         };
         if !self.is_own(command) {
-            return Turn::Stays;
+            return Ok((Turn::Stays, Outcomes::new(alloc)));
         }
-        turn(command, check(&self.applied, payload))
-    }
-
-    fn told_of(&self, alloc: Global, payload: &Payload) -> Result<Outcomes, NoMemory>
-        ensures { IfOk result (λ o. o ≡ told_of self.now.replica payload.now) }
-    {
-        let Payload::Write(command) = payload else {
-            return Ok(Outcomes::new(alloc));
-        };
-        if !self.is_own(command) {
-            return Ok(Outcomes::new(alloc));
-        }
-        told(
-            alloc,
-            self.applied.lease(),
-            command,
-            check(&self.applied, payload),
-        )
+        let verdict = check(&self.applied, payload);
+        let outcomes = told(alloc, self.applied.lease(), command, verdict)?;
+        Ok((turn(command, verdict), outcomes))
     }
 
     pub(crate) fn plan_application(&self, alloc: Global) -> Result<ReplicaPlan, NoMemory>
@@ -118,8 +109,7 @@ impl Replica {
             });
         };
         let payload = payload_of(alloc, entry)?;
-        let turn = self.turn_of(&payload);
-        let outcomes = self.told_of(alloc, &payload)?;
+        let (turn, outcomes) = self.turn_and_end(alloc, &payload)?;
         Ok(ReplicaPlan::Applies {
             application: Application {
                 payload,
