@@ -117,6 +117,24 @@ fn two_names(rt: HostRuntime) -> Result<(), Fail> {
 }
 
 #[test]
+fn a_text_is_not_counted_with(rt: HostRuntime) -> Result<(), Fail> {
+    let script =
+        b"cluster 1\nsend 1 0 1 put a 'hi\nflush 1 0\napply 1 0\nsend 1 0 1 add a 1\nsend 1 0 1 cput a 'hi 7\nflush 1 0\napply 1 0\nsend 1 0 1 add a 1\nflush 1 0\napply 1 0\nend\n";
+    let output =
+        b"nodes 1\nreply 1.1 1 ok none\nreply 1.2 1 refused is-text a\nreply 1.3 1 ok set\nreply 1.4 1 ok 8\nrange 0 ^ ~ level 0 lease 1 1 40\nplace 1 write 1.1 1 put a 'hi under 1 ok none\nplace 2 write 1.3 1 cput a 'hi 7 under 1 ok set\nplace 3 write 1.4 1 add a 1 under 1 ok 8\nnode 1 live term 1 applied 3 lai 3\nrow a 8\nend\n";
+    assert!(rt;
+        gives(
+            rt.alloc(),
+            &["run"],
+            script.as_slice(),
+            0,
+            output.as_slice()
+        )?
+    );
+    Ok(())
+}
+
+#[test]
 fn conditions_and_deletions(rt: HostRuntime) -> Result<(), Fail> {
     let script =
         b"cluster 1\nsend 1 0 1 put a 1\nflush 1 0\napply 1 0\nsend 1 0 1 cput a none 2\nsend 1 0 1 cput a 1 2\nflush 1 0\napply 1 0\nsend 1 0 1 wipe a b\nflush 1 0\napply 1 0\nsend 1 0 1 del a\nflush 1 0\napply 1 0\nend\n";
