@@ -12,7 +12,7 @@ use Rattle.rp_rangesafe.specs.Attempts.{IsBorn, Success, Refused}
 use Rattle.rp_rangesafe.specs.Along.{entry, state}
 use Rattle.rp_rangesafe.specs.World.{World, state_at}
 use Rattle.rp_rangesafe.specs.Places.{IsReached, IsLater, IsPlace, items_to}
-use Rattle.rp_rangesafe.specs.Ranges.{Owner, Nobody, Turned, At, Ranges, IsRefusedAt, IsRefused, AreReached, AreLater, IsTheOnePlace, HasNowhere}
+use Rattle.rp_rangesafe.specs.Ranges.{Owner, Nobody, Turned, At, Ranges, IsMade, IsRefusedAt, IsRefused, AreReached, AreLater, IsTheOnePlace, HasNowhere}
 use Rattle.rp_rangesafe.proofs.OneRange.{success_is_placed, refused_never}
 use Rattle.rp_rangesafe.proofs.Runs.{later_itself}
 use Rattle.rp_rangesafe.proofs.Whole.{Whole, Onto, whole_reached, onto_later, later_whole, refused_onto, owner_onto}
@@ -27,6 +27,10 @@ pub range_goes_on : (w : Ranges) → AreReached w → (later : Ranges) → AreLa
     → (later.opened r ≡ true) × IsLater (w.range r) (later.range r)
 range_goes_on w reach later l r o = let k = onto_later w later reach l in (k.opened r o, k.later r o)
 
+pub owner_stays : (w : Ranges) → AreReached w → (later : Ranges) → AreLater w later → (id : CmdId) → IsMade (w.owner id)
+    → later.owner id ≡ w.owner id
+owner_stays w reach later l id m = owner_onto w later reach l id (w.owner id) refl m
+
 pub one_place_of_all : (w : Ranges) → AreReached w → (range : ℕ) (id : CmdId) (reply : Reply) → ((w.range range).attempt id).stage ≡ Success reply
     → IsTheOnePlace w range id reply
 one_place_of_all w reach range id reply e =
@@ -35,6 +39,7 @@ one_place_of_all w reach range id reply e =
       index = p.index;
       command = p.command;
       place = p.place;
+      applied = p.applied;
       answers = p.answers;
       only = λ q k x c same_client same_seq t. once_over w reach q range k p.index x id c p.command same_client same_seq t p.place;
     }

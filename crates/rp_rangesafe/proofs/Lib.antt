@@ -16,6 +16,9 @@ pub mod Whole
 pub mod Once
 pub mod Barriers
 pub mod Leases
+pub mod Admissions
+pub mod Holders
+pub mod Lasts
 pub mod Rights
 pub mod Splits
 pub mod Joint

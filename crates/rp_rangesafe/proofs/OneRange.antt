@@ -75,6 +75,7 @@ success_is_placed w r id reply e =
       index = t.k;
       command = t.c;
       place = record { within = let l = t.below in let m = s.within (w.attempt id).node in omega arith; takes = t.place.takes; named = t.place.named };
+      applied = t.below;
       answers = t.answers;
     }
 

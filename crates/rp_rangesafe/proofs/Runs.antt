@@ -22,7 +22,8 @@ pub run_sound : (f : ℕ → Payload) (w : World) (es : List Event) → AllLawfu
 run_sound f w [] h x s = s
 run_sound f w (e ∷ es) h x s = run_sound f (happens w e) es h.1 x (sound_step f w e h.0 (run_extends f (happens w e) es x) s)
 
-same_start : (w : World) (e : Event) → (happens w e).start ≡ w.start
+-- no event changes the start
+pub same_start : (w : World) (e : Event) → (happens w e).start ≡ w.start
 same_start w (Admit id node body) = refl
 same_start w (Flush id max) = refl
 same_start w (Return id) = refl
@@ -42,11 +43,12 @@ pub sound_reached : (f : ℕ → Payload) (w : World) → IsReached w → Extend
 sound_reached f w r x = subst (Sound f) r.reached
     (run_sound f (begin r.start) r.events r.lawful (subst (λ (v : World). Extends f v.log) (sym r.reached) x) (sound_begin f r.start))
 
-all_lawful_further : (w : World) (es fs : List Event) → AllLawful w es → AllLawful (run w es) fs → AllLawful w (es ++ fs)
-all_lawful_further w [] fs h k = k
-all_lawful_further w (e ∷ es) fs h k = (h.0, all_lawful_further (happens w e) es fs h.1 k)
+-- lawful lists, one after the other
+pub lawful_further : (w : World) (es fs : List Event) → AllLawful w es → AllLawful (run w es) fs → AllLawful w (es ++ fs)
+lawful_further w [] fs h k = k
+lawful_further w (e ∷ es) fs h k = (h.0, lawful_further (happens w e) es fs h.1 k)
 
-run_further : (w : World) (es fs : List Event) → run w (es ++ fs) ≡ run (run w es) fs
+pub run_further : (w : World) (es fs : List Event) → run w (es ++ fs) ≡ run (run w es) fs
 run_further w [] fs = refl
 run_further w (e ∷ es) fs = run_further (happens w e) es fs
 
@@ -54,7 +56,7 @@ pub later_reached : (w later : World) → IsReached w → IsLater w later → Is
 later_reached w later r l = record {
   start = r.start;
   events = r.events ++ l.events;
-  lawful = all_lawful_further (begin r.start) r.events l.events r.lawful (subst (λ v. AllLawful v l.events) (sym r.reached) l.lawful);
+  lawful = lawful_further (begin r.start) r.events l.events r.lawful (subst (λ v. AllLawful v l.events) (sym r.reached) l.lawful);
   reached = run_further (begin r.start) r.events l.events ∙ ap (λ v. run v l.events) r.reached ∙ l.reached;
 }
 
@@ -64,7 +66,7 @@ later_itself w = record { events = []; lawful = tt; reached = refl }
 pub later_further : (u v w : World) → IsLater u v → IsLater v w → IsLater u w
 later_further u v w l m = record {
   events = l.events ++ m.events;
-  lawful = all_lawful_further u l.events m.events l.lawful (subst (λ x. AllLawful x m.events) (sym l.reached) m.lawful);
+  lawful = lawful_further u l.events m.events l.lawful (subst (λ x. AllLawful x m.events) (sym l.reached) m.lawful);
   reached = run_further u l.events m.events ∙ ap (λ x. run x m.events) l.reached ∙ m.reached;
 }
 

@@ -122,7 +122,7 @@ restart_lawful = (
 
 ask_lawful : AreLawful after_restart ask_steps
 unfolding with_attempt at_node with_node with_owner command_verdict asked
-ask_lawful = (record { there = refl; lawful = tt; begins = tt }, (record { there = refl; lawful = (refl, omega arith); begins = tt }, tt))
+ask_lawful = (record { there = refl; lawful = omega arith; begins = tt }, (record { there = refl; lawful = (refl, omega arith); begins = tt }, tt))
 
 again_lawful : AreLawful after_ask again_steps
 unfolding with_attempt at_node with_node with_owner command_verdict asked

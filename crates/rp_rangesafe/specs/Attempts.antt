@@ -53,6 +53,10 @@ IsBorn (Overtaken own passed) = Unit {0}
 IsBorn (Removed own) = Unit {0}
 IsBorn (Restarted own) = Unit {0}
 
+-- the attempt was admitted at this node
+abbrev pub IsBornAt : Attempt → ℕ → Type 0
+IsBornAt a node = IsBorn a.stage × (a.node ≡ node)
+
 -- it has not ended, and holds its latches
 abbrev pub IsPending : Stage → Type 0
 IsPending Unborn = ⊥
@@ -112,6 +116,11 @@ IsUntaken (Restarted own) = ⊥
 abbrev pub IsAmong : List ℕ → ℕ → Type 0
 IsAmong [] m = ⊥
 IsAmong (x ∷ xs) m = (m ≡ x) ⊎ IsAmong xs m
+
+-- the number is the last that was given
+abbrev pub IsLast : List ℕ → ℕ → Type 0
+IsLast [] m = ⊥
+IsLast (x ∷ xs) m = m ≡ x
 
 -- the command was made of the attempt
 pub record IsOf (a : Attempt) (c : Command) : Type 0 where

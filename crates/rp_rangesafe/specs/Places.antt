@@ -10,7 +10,7 @@ use Rattle.rp_request.specs.Applied.{AppliedState, records_of, IsBlocked}
 use Rattle.rp_request.specs.Onward.{IsOnward}
 use Rattle.rp_rangesafe.specs.Attempts.{Body, IsOf, IsAmong, IsOpen, IsUntaken}
 use Rattle.rp_rangesafe.specs.Along.{entry, Takes}
-use Rattle.rp_rangesafe.specs.World.{World, IsEvaluated, state_at, here, begin, Event, AllLawful, run}
+use Rattle.rp_rangesafe.specs.World.{World, IsEvaluated, state_at, here, begin, Event, Admit, Flush, Return, Refuse, Commit, Apply, Snapshot, Remove, Restart, AllLawful, run}
 
 -- a range as it can be: lawful events lead to it from its start
 pub record IsReached (w : World) : Type 0 where
@@ -24,6 +24,18 @@ pub record IsLater (w later : World) : Type 0 where
   pub events : List Event
   pub lawful : AllLawful w events
   pub reached : run w events ≡ later
+
+-- the node at which an event happens: its own, or that of its attempt; a commit happens at none
+abbrev pub HappensAt : World → Event → ℕ → Type 0
+HappensAt w (Admit id node body) m = m ≡ node
+HappensAt w (Flush id max) m = m ≡ (w.attempt id).node
+HappensAt w (Return id) m = m ≡ (w.attempt id).node
+HappensAt w (Refuse id) m = m ≡ (w.attempt id).node
+HappensAt w (Commit p) m = ⊥
+HappensAt w (Apply node) m = m ≡ node
+HappensAt w (Snapshot node to) m = m ≡ node
+HappensAt w (Remove node) m = m ≡ node
+HappensAt w (Restart node) m = m ≡ node
 
 -- from the one state on to the other no number fell, one lease sequence has one holder, and the range kept its number
 pub record IsFurther (s t : AppliedState) : Type 0 where
@@ -53,11 +65,12 @@ IsDeadForGood w id m = (later : World) (k : ℕ) (c : Command) → IsLater w lat
 abbrev pub HasNever : World → CmdId → Type 0
 HasNever w id = (later : World) (k : ℕ) (c : Command) → IsLater w later → IsPlace later id k c → ⊥
 
--- the attempt has a place with this reply
+-- the attempt has a place with this reply, which its node has applied
 pub record IsPlacedWith (w : World) (id : CmdId) (reply : Reply) : Type 0 where
   pub index : ℕ
   pub command : Command
   pub place : IsPlace w id index command
+  pub applied : index < w.index (w.attempt id).node
   pub answers : command.reply ≡ reply
 
 -- what a command carries of its evaluation

@@ -188,11 +188,13 @@ pub record AreLater (w later : Ranges) : Type 0 where
 abbrev pub lists : Ranges → ℕ → List Place
 lists w r = items_to (w.range r) (length (w.range r).log)
 
--- the attempt, made in this range, has a place there with this reply, and it is the one place of its command in all ranges
+-- the attempt, made in this range, has a place there with this reply, which its node has applied,
+-- and it is the one place of its command in all ranges
 pub record IsTheOnePlace (w : Ranges) (range : ℕ) (id : CmdId) (reply : Reply) : Type 0 where
   pub index : ℕ
   pub command : Command
   pub place : IsPlace (w.range range) id index command
+  pub applied : index < (w.range range).index ((w.range range).attempt id).node
   pub answers : command.reply ≡ reply
   pub only : (q k : ℕ) (x : CmdId) (c : Command) → x.client ≡ id.client → x.seq ≡ id.seq → IsPlace (w.range q) x k c → (q ≡ range) × (k ≡ index)
 

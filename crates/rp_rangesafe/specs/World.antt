@@ -92,11 +92,12 @@ pub record MayAdmit (w : World) (id : CmdId) (node : ℕ) (body : Body) : Type 0
   pub evaluates : IsEvaluated (here w node) body
   pub latched : (q : CmdId) → IsPending (w.attempt q).stage → (w.attempt q).node ≡ node → Apart (covers body.request) (covers (w.attempt q).body.request)
 
--- the list may grow by Nothing, by any lease ask, and by a command that was handed out, any number of times
+-- the list may grow by Nothing, by any lease ask of a node, which has a number of at least 1, and
+-- by a command that was handed out, any number of times
 abbrev pub MayCommit : World → Payload → Type 0
 MayCommit w Nothing = Unit {0}
 MayCommit w (Write c) = IsOf (w.attempt c.id) c
-MayCommit w (Lease ask) = Unit {0}
+MayCommit w (Lease ask) = 0 < ask.holder
 
 -- what is proposed under a maximum that was passed
 pub record IsPassed (w : World) (id : CmdId) : Type 0 where
