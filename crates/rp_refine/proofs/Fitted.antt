@@ -43,7 +43,7 @@ use Rattle.rp_replica.specs.Events.{event}
 use Rattle.rp_refine.specs.Runs.{Input, Run, begun, FitsItem, LawfulEvent, AllLawful, next, play}
 use Rattle.rp_refine.proofs.Admitting.{passed}
 use Rattle.rp_refine.proofs.Fitting.{FitsTable, fits_after, fits_evaluated}
-use Rattle.rp_refine.proofs.Flushing.{IsReadBack, MayWrite}
+use Rattle.rp_refine.proofs.Flushing.{AreOfNodes, IsReadBack, MayWrite}
 
 -- what a proposal holds but its maximum
 record FitsProposal (p : Proposal) : Type 0 where
@@ -146,6 +146,15 @@ fits_asks : (inbox : List Item) → AllByRecursion FitsItem inbox → AllByRecur
 fits_asks [] h = tt
 fits_asks (kinds.Write id ∷ inbox) h = fits_asks inbox h.1
 fits_asks (kinds.Lease ask ∷ inbox) h = (h.0, fits_asks inbox h.1)
+
+nodes_of : (inbox : List Item) → AllByRecursion FitsItem inbox → AreOfNodes (asks_of inbox)
+nodes_of [] h = tt
+nodes_of (kinds.Write id ∷ inbox) h = nodes_of inbox h.1
+nodes_of (kinds.Lease ask ∷ inbox) h = ((let k = h.0.from_one in omega (arith, k)), nodes_of inbox h.1)
+
+-- the lease asks of a flush name nodes
+pub fit_nodes : (r : Replica) → Fitted r → AreOfNodes (assigning r).leases
+fit_nodes r h = nodes_of r.inbox h.inbox
 
 fits_flushed : (r : Replica) → Fitted r → MayFlush r → AllByRecursion FitsPayload (payloads_of r.pending (assigning r))
 fits_flushed r h may =

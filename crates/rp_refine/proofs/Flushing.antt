@@ -46,6 +46,10 @@ IsReadBack p = payload_of (Some (entry_of p)) ≡ Some p
 abbrev pub MayWrite : Replica → Type 0
 MayWrite r = AllByRecursion IsReadBack (payloads_of r.pending (assigning r))
 
+-- each lease ask of a flush names a node
+abbrev pub AreOfNodes : List LeaseAsk → Type 0
+AreOfNodes asks = AllByRecursion (λ ask. 0 < ask.holder) asks
+
 -- events that admit nothing lead to a range of which this holds
 record Went (h : World) (Q : World → Type 0) : Type 0 where
   events : List Event
@@ -282,23 +286,24 @@ module _ (node : ℕ) (applied : History) (owner : CmdId → Owner) (ps0 : List 
 
   -- the lease asks, and then the commands
   ask_all : (asks : List LeaseAsk) (ws : List (CmdId × ℕ)) (log : LogState) (outcome : Outcomes) (ls : List Hold) (ps : List Proposal) (ticks round : ℕ) (k : World)
-      → Distinct (map (λ w. w.0) ws) → AllByRecursion (λ w. 0 < w.1) ws → AllByRecursion IsReadBack (map payloads.Lease asks ++ filter_map (write_of ps0) ws)
+      → Distinct (map (λ w. w.0) ws) → AllByRecursion (λ w. 0 < w.1) ws → AreOfNodes asks
+      → AllByRecursion IsReadBack (map payloads.Lease asks ++ filter_map (write_of ps0) ws)
       → Going log outcome ls ps (map (λ w. w.0) ws) k
       → Went k (Going (appended log (map entry_of (map payloads.Lease asks ++ filter_map (write_of ps0) ws))) outcome ls (proposed_all ws ticks round ps) [])
-  ask_all [] ws log outcome ls ps ticks round k d above fits g = write_all ws log outcome ls ps ticks round k d above fits g
-  ask_all (ask ∷ asks) ws log outcome ls ps ticks round k d above fits g =
+  ask_all [] ws log outcome ls ps ticks round k d above nodes fits g = write_all ws log outcome ls ps ticks round k d above fits g
+  ask_all (ask ∷ asks) ws log outcome ls ps ticks round k d above nodes fits g =
       let c : Payload = payloads.Lease ask in
-      went_on (went_one {h = k} {Q = Going (appended log (entry_of c ∷ [])) outcome ls ps (map (λ w. w.0) ws)} (Commit c) tt tt
-      (commit_one log outcome ls ps (map (λ w. w.0) ws) c k tt fits.0 g))
+      went_on (went_one {h = k} {Q = Going (appended log (entry_of c ∷ [])) outcome ls ps (map (λ w. w.0) ws)} (Commit c) tt nodes.0
+      (commit_one log outcome ls ps (map (λ w. w.0) ws) c k nodes.0 fits.0 g))
       (λ m r. subst (λ l. Went m (Going l outcome ls (proposed_all ws ticks round ps) [])) (log_joined log (entry_of c) (map entry_of (map payloads.Lease asks ++ filter_map (write_of ps0) ws)))
-      (ask_all asks ws (appended log (entry_of c ∷ [])) outcome ls ps ticks round m d above fits.1 r))
+      (ask_all asks ws (appended log (entry_of c ∷ [])) outcome ls ps ticks round m d above nodes.1 fits.1 r))
 
 later_distinct : (xs ys : List CmdId) → Distinct (xs ++ ys) → Distinct ys
 later_distinct [] ys h = h
 later_distinct (x ∷ xs) ys h = later_distinct xs ys h.1
 
-pub flush_follows : (w : Ranges) (x : Run) → Shadow w x → (ticks round : ℕ) → MayWrite x.replica → Follows w (left_by x.outcome events.Flush (flushed x.replica ticks round))
-flush_follows w x s ticks round fits = follows w (left_by x.outcome events.Flush (flushed x.replica ticks round)) x s turns where
+pub flush_follows : (w : Ranges) (x : Run) → Shadow w x → (ticks round : ℕ) → AreOfNodes (assigning x.replica).leases → MayWrite x.replica → Follows w (left_by x.outcome events.Flush (flushed x.replica ticks round))
+flush_follows w x s ticks round nodes fits = follows w (left_by x.outcome events.Flush (flushed x.replica ticks round)) x s turns where
   turns : Turns (w.range 0) w.owner (left_by x.outcome events.Flush (flushed x.replica ticks round))
   turns =
       let a = assigning x.replica in
@@ -312,7 +317,7 @@ flush_follows w x s ticks round fits = follows w (left_by x.outcome events.Flush
       let begin : Going x.replica.node x.replica.applied w.owner x.replica.pending x.replica.log x.outcome x.replica.latches x.replica.pending (a.refused ++ map (λ v. v.0) a.writes) (w.range 0) = record { base = s.shows.base; tells = t; made = made_all (w.range 0).attempt x.replica.pending t.stands.holds; waits = waits } in
       let went = went_on (refuse_all x.replica.node x.replica.applied w.owner x.replica.pending x.replica.applied.state.lease x.replica.log a.refused (map (λ v. v.0) a.writes) x.outcome x.replica.latches x.replica.pending (w.range 0) distinct begin)
       (λ m q. ask_all x.replica.node x.replica.applied w.owner x.replica.pending a.leases a.writes x.replica.log (with_ended x.outcome (map (refused_with x.replica.applied.state.lease) a.refused))
-      (freed_all a.refused x.replica.latches) (without_all a.refused x.replica.pending) ticks round m (later_distinct a.refused (map (λ v. v.0) a.writes) distinct) (numbers_positive last under) fits q) in
+      (freed_all a.refused x.replica.latches) (without_all a.refused x.replica.pending) ticks round m (later_distinct a.refused (map (λ v. v.0) a.writes) distinct) (numbers_positive last under) nodes fits q) in
       record {
         events = went.events;
         plain = went.plain;

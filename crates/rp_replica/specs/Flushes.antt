@@ -1,5 +1,6 @@
--- Flush: the inbox becomes payloads in the log, each command under a lease index (after CockroachDB's proposal
--- buffer, whose flush gives the maximum lease indexes under the replica's lock).
+-- Flush: the inbox becomes payloads in the log, each command under a lease index (after
+-- CockroachDB's proposal buffer, whose flush gives the maximum lease indexes under the replica's
+-- lock).
 use Rattle.std.specs.Prelude.{ℕ, List, [], ◌∷◌, ◌++◌, map, filter_map, Option, None, Some}
 use Rattle.std.specs.Option.{option_map}
 use Rattle.std.specs.List.{filter}
@@ -65,7 +66,8 @@ proposed_all (w ∷ ws) ticks round ps = proposed_all ws ticks round (with_chang
 abbrev pub refused_with : leases.Lease → CmdId → Ended
 refused_with lease id = record { id = id; outcome = outcomes.Refused (NotLeaseHolder lease) }
 
--- what a flush assigns here, under the present lease: where no command gets a lease index, the last one given stays
+-- what a flush assigns here, under the present lease: where no command gets a lease index, the last
+-- one given stays
 abbrev pub assigning : Replica → Assigned
 assigning r = assigned_of r.inbox (waiting_of r.pending) r.applied.state.lease.seq r.applied.state.lai r.assigned
 

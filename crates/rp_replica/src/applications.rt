@@ -1,3 +1,4 @@
+//! The application of the next committed entry, and what it makes of its proposal.
 ghost use Rattle.std.specs.Prelude.{◌≡◌, ◌≤◌, ◌+◌, IfOk, Some};
 ghost use Rattle.rp_replica.specs.Replicas.{leaves};
 ghost use Rattle.rp_replica.specs.Applications.{applied, is_own, is_own_command, payload_of, turn, turn_of, told, told_of, recorded, turned};
@@ -79,11 +80,7 @@ impl Replica {
     }
 
     /// What an entry makes of the proposal that it came of, and what its client is told.
-    fn turn_and_end(
-        &self,
-        alloc: Global,
-        payload: &Payload,
-    ) -> Result<(Turn, Outcomes), NoMemory>
+    fn turn_and_end(&self, alloc: Global, payload: &Payload) -> Result<(Turn, Outcomes), NoMemory>
         ensures turn { IfOk result (λ r. r.0 ≡ turn_of self.now.replica payload.now) }
         ensures known { IfOk result (λ r. IsKnown self.now.replica.pending r.0) }
         ensures told { IfOk result (λ r. r.1 ≡ told_of self.now.replica payload.now) }

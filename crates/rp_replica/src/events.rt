@@ -1,3 +1,4 @@
+//! What happens at a replica, and what it answers and ends.
 use rp_base::{CmdId, Key, Seq, Value};
 use rp_request::{Outcome, Refusal, Request};
 

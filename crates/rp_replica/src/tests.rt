@@ -133,13 +133,18 @@ fn put_is(
     let (key, value) = pair;
     let id = attempt(client);
     let request = Request::Put { key, value };
-    answers(step(alloc, replica, ReplicaEvent::Admit { id, request }), answer)
+    answers(
+        step(alloc, replica, ReplicaEvent::Admit { id, request }),
+        answer,
+    )
 }
 
 /// Whether client 1's command comes from the buffer, and is flushed as the first entry.
 fn is_flushed(alloc: Global, replica: &mut Replica) -> bool {
-    answers(collect(alloc, replica, Item::Write(attempt(1))), EventAnswer::Done)
-        && answers(step(alloc, replica, ReplicaEvent::Flush), EventAnswer::Done)
+    answers(
+        collect(alloc, replica, Item::Write(attempt(1))),
+        EventAnswer::Done,
+    ) && answers(step(alloc, replica, ReplicaEvent::Flush), EventAnswer::Done)
         && replica.commit_index() == 1
 }
 
