@@ -1,6 +1,7 @@
 //! What a request writes and replies, or why it is refused.
 ghost use Rattle.std.specs.Prelude.{◌≡◌, ◌+◌, ◌≤◌, [], ◌∷◌, nat_lt, nat_le, ◌&&◌, if◌then◌else◌, unwrap_or, length, map, Ok, Err, IfOk, IfErr};
 ghost use Rattle.std.specs.FinMap.{get, keys};
+ghost use Rattle.rp_base.specs.Limits.{batch_most};
 ghost use Rattle.rp_base.specs.Spans.{span_of};
 ghost use Rattle.rp_base.specs.Tables.{greatest, value_at, holds_text, part};
 ghost use Rattle.rp_request.specs.Effect as effects;
@@ -9,7 +10,7 @@ ghost use Rattle.rp_base.specs.declared.ranges.Desc.{Desc};
 ghost use Rattle.rp_request.specs.Evaluations.{with_batch, evaluated, Does};
 ghost use Rattle.rp_eval.specs.Faults.{no_memory, split_fault, refusal_of, Gives};
 
-use rp_base::{Desc, Key, NoMemory, Span, SplitFault, Value};
+use rp_base::{BATCH_MOST, Desc, Key, NoMemory, Span, SplitFault, Value};
 use rp_range::split_at;
 use rp_request::{Batch, Evaluated, Op, Refusal, Reply, Request};
 use rp_table::Table;
@@ -156,7 +157,7 @@ fn del(alloc: Global, table: &Table, key: Key) -> Result<Evaluated, EvalFault>
 
 /// The removal of each key, in order.
 fn removals(alloc: Global, keys: &[Key]) -> Result<Batch, NoMemory>
-    requires { length keys.now ≤ 16 }
+    requires { length keys.now ≤ batch_most }
     ensures { IfOk result (λ b. b ≡ removes keys.now) }
 {
     let mut batch = Batch::new(alloc);
@@ -170,7 +171,7 @@ fn wipe(alloc: Global, table: &Table, span: Span) -> Result<Evaluated, EvalFault
     ensures { (d : Desc) → Gives result (with_batch (removes (keys (part table.now.map span.start span.end))) (effects.wipe table.now.map d span.start span.end)) }
 {
     let count = table.count_in(span);
-    if count > 16 {
+    if count > BATCH_MOST as u64 {
         return Err(EvalFault::TooWide { count });
     }
     let keys = table.keys_in(span)?;

@@ -1,4 +1,6 @@
+//! Commands: the writes of a request, and what goes into a range's log.
 ghost use Rattle.std.specs.Prelude.{◌≡◌, ◌≤◌, ◌<◌, [], ◌∷◌, ◌++◌, length, IfOk, OnOk, OnErr};
+ghost use Rattle.rp_base.specs.Limits.{batch_most};
 
 use crate::outcomes::Reply;
 use crate::requests::Request;
@@ -23,13 +25,14 @@ pub struct Batch {
 
 impl Model for Batch {
     ghost use Rattle.std.specs.Prelude.{◌≤◌, List, length};
+    ghost use Rattle.rp_base.specs.Limits.{batch_most};
     ghost use Rattle.rp_request.specs.declared.commands.Op.{Op};
 
     ghost Value = { List Op };
 
     ghost view = { λ b. b.ops.items };
 
-    ghost invariant = { λ b. length b.ops.items ≤ 16 };
+    ghost invariant = { λ b. length b.ops.items ≤ batch_most };
 }
 
 impl Batch {
@@ -42,9 +45,26 @@ impl Batch {
         }
     }
 
+    /// The writes of a vector. It takes no memory.
+    pub fn from_vec(ops: Vec<Op>) -> Batch
+        requires { length ops.items ≤ batch_most }
+        ensures { result ≡ ops.items }
+    {
+        Batch { ops }
+    }
+
+    /// The writes as a vector. It takes no memory.
+    pub fn into_vec(self) -> Vec<Op>
+        ensures ops { result.items ≡ self }
+        ensures most { length result.items ≤ batch_most }
+    {
+        let Batch { ops } = self;
+        ops
+    }
+
     /// Puts a write at the end.
     pub fn push(&mut self, op: Op) -> Result<(), NoMemory>
-        requires { length self.old < 16 }
+        requires { length self.old < batch_most }
         ensures ok { OnOk result (self.new ≡ self.old ++ op ∷ []) }
         ensures err { OnErr result (self.new ≡ self.old) }
     {
@@ -61,7 +81,7 @@ impl Batch {
 
     pub fn as_slice(&self) -> &[Op]
         ensures ops { result.now ≡ self.now }
-        ensures most { length result.now ≤ 16 }
+        ensures most { length result.now ≤ batch_most }
     {
         &self.ops
     }
