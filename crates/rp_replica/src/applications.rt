@@ -10,7 +10,7 @@ ghost use Rattle.rp_apply.specs.Rooms.{IsWithin, needed};
 ghost use Rattle.rp_replica.specs.Plans.{items_of};
 ghost use Rattle.rp_raftlog.specs.declared.entries.Entry.{Entry};
 
-use crate::events::{Effects, Ended, EventAnswer, Outcomes};
+use crate::events::{Effects, Ended, EventAnswer, Outcomes, push_end};
 use crate::plans::{Application, ReplicaPlan, Turn};
 use crate::replicas::Replica;
 use rp_apply::{Verdict, check};
@@ -34,8 +34,8 @@ fn payload_of(alloc: Global, entry: &Entry) -> Result<Payload, NoMemory>
 }
 
 /// What the verdict on its own entry makes of a proposal.
-fn turn(command: &Command, verdict: Verdict) -> Turn
-    ensures { result ≡ turn command.now verdict }
+fn turn(command: &Command, verdict: &Verdict) -> Turn
+    ensures { result ≡ turn command.now verdict.now }
 {
     match verdict {
         Verdict::Took | Verdict::OldLease { .. } => Turn::Ends { id: command.id },
@@ -49,9 +49,9 @@ fn told(
     alloc: Global,
     lease: Lease,
     command: &Command,
-    verdict: Verdict,
+    verdict: &Verdict,
 ) -> Result<Outcomes, NoMemory>
-    ensures { IfOk result (λ o. o ≡ told lease command.now verdict) }
+    ensures { IfOk result (λ o. o ≡ told lease command.now verdict.now) }
 {
     let outcome = match verdict {
         Verdict::Took => Outcome::Success(command.reply),
@@ -60,12 +60,13 @@ fn told(
             return Ok(Outcomes::new(alloc));
         }
     };
-    let mut outcomes = Outcomes::new(alloc);
-    outcomes.push(Ended {
+    let end = Ended {
         id: command.id,
         outcome,
-    })?;
-    Ok(outcomes)
+    };
+    let mut ends = Vec::new(alloc);
+    push_end(&mut ends, &end)?;
+    Ok(Outcomes::from_vec(ends))
 }
 
 impl Replica {
@@ -92,8 +93,9 @@ impl Replica {
             return Ok((Turn::Stays, Outcomes::new(alloc)));
         }
         let verdict = check(&self.applied, payload);
-        let outcomes = told(alloc, self.applied.lease(), command, verdict)?;
-        Ok((turn(command, verdict), outcomes))
+        let turn = turn(command, &verdict);
+        let outcomes = told(alloc, self.applied.lease(), command, &verdict)?;
+        Ok((turn, outcomes))
     }
 
     pub(crate) fn plan_application(&self, alloc: Global) -> Result<ReplicaPlan, NoMemory>

@@ -12,7 +12,7 @@ ghost use Rattle.rp_replica.specs.Writes.{WritesFit};
 ghost use Rattle.rp_request.specs.Fits.{FitsPayload};
 ghost use Rattle.std.specs.List.{AllByRecursion};
 
-use crate::events::{Effects, Ended, EventAnswer, Outcomes};
+use crate::events::{Effects, Ended, EventAnswer, Outcomes, push_end};
 use crate::plans::{FlushPlan, ReplicaPlan};
 use crate::replicas::Replica;
 use crate::waits::assign_inbox;
@@ -113,23 +113,24 @@ fn push_writes(
     Ok(())
 }
 
-/// Puts the end of a refused attempt behind others.
-fn push_refusal(told: &mut Outcomes, lease: &Lease, id: CmdId) -> Result<(), NoMemory>
-    ensures { OnOk result (told.new ≡ told.old ++ refused_with lease.now id ∷ []) }
+/// The end of a refused attempt: the present lease.
+fn refused_with(lease: &Lease, id: CmdId) -> Ended
+    ensures { result ≡ refused_with lease.now id }
 {
     let outcome = Outcome::Refused(Refusal::NotLeaseHolder { lease: *lease });
-    told.push(Ended { id, outcome })
+    Ended { id, outcome }
 }
 
 /// What the refused attempts are told: the present lease.
 fn refusals(alloc: Global, refused: &[CmdId], lease: &Lease) -> Result<Outcomes, NoMemory>
     ensures { IfOk result (λ o. o ≡ map (refused_with lease.now) refused.now) }
 {
-    let mut told = Outcomes::new(alloc);
+    let mut ends = Vec::new(alloc);
     for id in refused {
-        push_refusal(&mut told, lease, *id)?;
+        let end = refused_with(lease, *id);
+        push_end(&mut ends, &end)?;
     }
-    Ok(told)
+    Ok(Outcomes::from_vec(ends))
 }
 
 /// The entries of a flush: lease asks first, then commands.
