@@ -12,6 +12,7 @@ use Rattle.rp_base.specs.declared.items.Item.{Item}
 use Rattle.rp_base.specs.declared.items.Item.TheVariants as kinds
 use Rattle.rp_base.specs.declared.leases.Lease as leases
 use Rattle.rp_base.specs.declared.leases.LeaseAsk.{LeaseAsk}
+use Rattle.rp_base.specs.declared.values.Value.{Value}
 use Rattle.rp_request.specs.declared.commands.Command.{Command}
 use Rattle.rp_request.specs.declared.commands.Payload.{Payload}
 use Rattle.rp_request.specs.declared.commands.Payload.TheVariants as payloads
@@ -63,7 +64,7 @@ pub record Fitted (r : Replica) : Type 0 where
   pending : AllByRecursion FitsProposal r.pending
   entries : AllByRecursion FitsEntry r.log.entries
 
-nothing : {v : ℕ} → None ≡ Some v → ⊥
+nothing : {v : Value} → None ≡ Some v → ⊥
 nothing e = cc
 
 pub fitted_begun : Fitted begun.replica
