@@ -30,7 +30,13 @@ draw_answer b = if can_draw b then Ok b.drawn else Err (record { count = buffer_
 -- a draw makes the next place drawn
 abbrev pub after_draw : Buffer → Buffer
 after_draw b =
-    if can_draw b then record { is_open = b.is_open; drawn = b.drawn + 1; slots = slice_set b.slots b.drawn Drawn } else b
+    if can_draw b
+    then record {
+      is_open = b.is_open;
+      drawn = b.drawn + 1;
+      slots = slice_set b.slots b.drawn Drawn;
+    }
+    else b
 
 -- the place is drawn, and nothing is published there
 abbrev pub is_drawn : Option Slot → Bool
@@ -42,12 +48,19 @@ is_drawn (Some Taken) = false
 
 -- an item is published at a drawn place
 abbrev pub publish_answer : Buffer → ℕ → Result (Unit {0}) NotDrawn
-publish_answer b place = if is_drawn (slice_get b.slots place) then Ok tt else Err (record { place = place })
+publish_answer b place =
+    if is_drawn (slice_get b.slots place) then Ok tt else Err (record { place = place })
 
 -- there it stands from then on
 abbrev pub after_publish : Buffer → ℕ → Item → Buffer
 after_publish b place item =
-    if is_drawn (slice_get b.slots place) then record { is_open = b.is_open; drawn = b.drawn; slots = slice_set b.slots place (Published item) } else b
+    if is_drawn (slice_get b.slots place)
+    then record {
+      is_open = b.is_open;
+      drawn = b.drawn;
+      slots = slice_set b.slots place (Published item);
+    }
+    else b
 
 -- the item that is published at a place
 abbrev pub published : Slot → Option Item
@@ -78,7 +91,9 @@ is_taken Taken = true
 abbrev pub after_collect : Buffer → Buffer
 after_collect b =
     let slots = map taken b.slots in
-    if list_all is_taken (take b.drawn slots) then start else record { is_open = false; drawn = b.drawn; slots = slots }
+    if list_all is_taken (take b.drawn slots)
+    then start
+    else record { is_open = false; drawn = b.drawn; slots = slots }
 
 -- a node's buffers, one for each range, as they start
 abbrev pub fresh : List Buffer
@@ -93,6 +108,8 @@ abbrev pub with_buffer : List Buffer → ℕ → Buffer → List Buffer
 with_buffer buffers range b = slice_set buffers range b
 
 -- a collect of a range's buffer gives these items and leaves these buffers
-pub record Collects (before : List Buffer) (range : ℕ) (items : List Item) (after : List Buffer) : Type 0 where
+pub record Collects
+    (before : List Buffer) (range : ℕ) (items : List Item) (after : List Buffer)
+    : Type 0 where
   pub items_are : items ≡ given (buffer_of before range)
   pub buffers_are : after ≡ with_buffer before range (after_collect (buffer_of before range))

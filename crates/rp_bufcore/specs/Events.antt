@@ -48,7 +48,8 @@ given_along b (e ∷ es) = given_by b e ++ given_along (step b e) es
 -- twice, and none is lost
 abbrev pub EachGivenOnce : Type 0
 EachGivenOnce = (events : List Event) (test : Item → Bool)
-    → count_by test (published_along start events) ≡ count_by test (given_along start events) + count_by test (given (run start events))
+    → count_by test (published_along start events)
+    ≡ count_by test (given_along start events) + count_by test (given (run start events))
 
 -- an item that was published is among those that the next collect gives
 abbrev pub GivenByTheNext : Type 0

@@ -98,8 +98,8 @@ impl PlainBuf {
         Ok(place)
     }
 
-    /// Publishes an item at a drawn place. `NotDrawn` exactly where the place is not drawn, or has an
-    /// item already.
+    /// Publishes an item at a drawn place. `NotDrawn` exactly where the place is not drawn, or has
+    /// an item already.
     pub fn publish(&mut self, place: u8, item: Item) -> Result<(), NotDrawn>
         ensures answer { result ≡ publish_answer self.old place }
         ensures after { self.new ≡ after_publish self.old place item }

@@ -15,8 +15,10 @@ pub trait BufferEnd {
     /// Appends what is collected from the range's buffer, at most `BUFFER_CAPACITY` items.
     fn collect(&mut self, range: RangeId, out: &mut Items)
         requires { buffer_capacity ≤ out.old.spare }
-        ensures { (items : List Item) × (length items ≤ buffer_capacity) × (out.new.list ≡ out.old.list ++ items)
-            × (out.old.spare ≤ out.new.spare + length items) × gives self.old range items self.new };
+        ensures { (items : List Item) × (length items ≤ buffer_capacity)
+            × (out.new.list ≡ out.old.list ++ items)
+            × (out.old.spare ≤ out.new.spare + length items)
+            × gives self.old range items self.new };
 }
 
 /// A node's buffers, one for each of the eight ranges. Contracts see the list of them.
@@ -53,21 +55,23 @@ impl PlainEnd {
         }
     }
 
-    /// Draws the next place of the range's buffer. `Full` exactly where that buffer is closed or all of
-    /// its places are drawn.
+    /// Draws the next place of the range's buffer. `Full` exactly where that buffer is closed or
+    /// all of its places are drawn.
     pub fn draw(&mut self, range: RangeId) -> Result<u8, Full>
         ensures answer { result ≡ draw_answer (buffer_of self.old range) }
-        ensures after { self.new ≡ with_buffer self.old range (after_draw (buffer_of self.old range)) }
+        ensures after { self.new
+            ≡ with_buffer self.old range (after_draw (buffer_of self.old range)) }
     {
         let buffer = &mut self.buffers[usize::from(range.get())];
         buffer.draw()
     }
 
-    /// Publishes an item at a drawn place of the range's buffer. `NotDrawn` exactly where the place is
-    /// not drawn, or has an item already.
+    /// Publishes an item at a drawn place of the range's buffer. `NotDrawn` exactly where the place
+    /// is not drawn, or has an item already.
     pub fn publish(&mut self, range: RangeId, place: u8, item: Item) -> Result<(), NotDrawn>
         ensures answer { result ≡ publish_answer (buffer_of self.old range) place }
-        ensures after { self.new ≡ with_buffer self.old range (after_publish (buffer_of self.old range) place item) }
+        ensures after { self.new
+            ≡ with_buffer self.old range (after_publish (buffer_of self.old range) place item) }
     {
         let buffer = &mut self.buffers[usize::from(range.get())];
         buffer.publish(place, item)

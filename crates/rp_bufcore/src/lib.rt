@@ -1,5 +1,5 @@
-//! The buffer in which proposals wait for a flush: many producers draw places in it and publish their
-//! items there, and one consumer collects what is published.
+//! The buffer in which proposals wait for a flush: many producers draw places in it and publish
+//! their items there, and one consumer collects what is published.
 #![tactic(auto)]
 
 mod buffers;

@@ -1,20 +1,28 @@
 -- The fields: what is spelled is read again, and what is read is so spelled.
-use Rattle.std.proofs.Common.{◌≡◌, ℕ, ◌+◌, ◌^◌, ◌<◌, ◌≤◌, ◌&&◌, ◌==◌, Bool, true, false, cond, ltb, nat_lt, nat_le, List, [], ◌∷◌, ◌++◌, length, take, Option, None, Some, Result, Ok, Err, refl, sym, ap, subst, ◌∙◌, arith, if◌then◌else◌}
+use Rattle.std.proofs.Common.{◌≡◌, ℕ, ◌+◌, ◌^◌, ◌<◌, ◌≤◌, ◌&&◌, ◌==◌, Bool, true, false, cond, ltb, nat_le, List, [], ◌∷◌, ◌++◌, length, take, Option, None, Some, Result, Ok, Err, refl, sym, ap, subst, ◌∙◌, arith, if◌then◌else◌}
 use Rattle.std.specs.Int.{Width, w16, w32, w64, byte_len, from_be_bytes, to_be_bytes}
 use Rattle.std.proofs.lemmas.Bool.{ltb-false, le-ltb, eqb-true}
 use Rattle.std.proofs.lemmas.Bool.Decides.{nat_tests}
 use Rattle.std.proofs.lemmas.List.{append-nil, take_at, drop_at, take-append-drop, length-append, length-take}
 use Rattle.std.proofs.lemmas.Nat.{be_bytes_2, be_bytes_4, be_bytes_8, from_be_bytes-to_be_bytes_2, from_be_bytes-to_be_bytes_4, from_be_bytes-to_be_bytes_8}
-use Rattle.rp_base.specs.Keys.{IsKey, key_of, key_text, end_of}
+use Rattle.rp_base.specs.Keys.{IsKey, key_of, key_text}
+use Rattle.rp_base.specs.ShortTexts.{text_of, IsText}
+use Rattle.rp_base.specs.Spans.{key_span_of}
+use Rattle.rp_base.specs.Values.{IsValue, is_text}
 use Rattle.rp_base.specs.declared.BadKey.{BadKey}
+use Rattle.rp_base.specs.declared.BadText.{BadText}
 use Rattle.rp_base.specs.declared.KeySpan.{KeySpan}
+use Rattle.rp_base.specs.declared.Value.{Value}
+use Rattle.rp_base.specs.declared.Value.TheVariants.{Number, Text}
 use Rattle.rp_base.proofs.KeyLaws.{spelled_as_read, read_as_spelled, key_text_len}
+use Rattle.rp_base.proofs.SpanLaws.{key_span_is, key_span_has}
+use Rattle.rp_base.proofs.TextLaws.{read_as_it_is, text_as_read}
 use Rattle.rp_codec.specs.Cursors.{Left, past}
-use Rattle.rp_request.specs.Fits.{AreBytes, FitsValue, FitsOption, FitsEnd, FitsSpan}
-use Rattle.rp_codec.specs.Reading.{bad, ◌>>=◌, given, refused, bytes_at, first_of, byte_at, byte_parts, byte_in, number_at, value_at, as_key, key_parts, key_at, option_parts, option_at, begins_with, end_where, end_at, span_of, span_parts, span_at}
-use Rattle.rp_codec.specs.Spelling.{value_bytes, key_bytes, option_bytes, end_bytes, span_bytes}
+use Rattle.rp_request.specs.Fits.{AreBytes, FitsOption, FitsEnd, FitsSpan}
+use Rattle.rp_codec.specs.Reading.{Reader, bad, ◌>>=◌, given, refused, bytes_at, first_of, byte_at, byte_parts, byte_in, number_at, as_text, text_parts, text_at, plain_at, kind_of, tagged_at, value_at, as_key, key_parts, key_at, option_parts, option_at, begins_with, end_where, end_at, as_span, span_parts, span_at}
+use Rattle.rp_codec.specs.Spelling.{text_bytes, tagged_bytes, plain_bytes, value_bytes, key_bytes, option_bytes, end_bytes, span_bytes}
 use Rattle.rp_codec.proofs.Readers.{AreBytes-drop, AreBytes-take, AreBytes-rest, from_place, Again, again_given, again_then, again_last, again_one_field, Taken, Takes, takes_so, takes_given, takes_refused, takes_then, takes_last, takes_one_field, takes_if, found, found_is}
-use Rattle.rp_codec.proofs.Spans.{span_is}
+use Rattle.rp_codec.proofs.Suits.{Suits, no_text}
 
 -- ---- so many bytes
 
@@ -127,13 +135,98 @@ number_takes w limit wide =
     let below : from_be_bytes w m.value < limit = wide.below m.value m.of.2 in
     (rw (m.is, back) (sym m.of.0), rw m.is below))
 
-pub value_again : (v : ℕ) → FitsValue v → Again value_at (value_bytes v) v
-unfolding value_at value_bytes
-value_again v fits = number_again w64 (2 ^ 64) wide64 v fits
+pub n64_again : (n : ℕ) → n < 2 ^ 64 → Again (number_at w64) (to_be_bytes w64 n) n
+n64_again n fits = number_again w64 (2 ^ 64) wide64 n fits
 
-pub value_takes : Takes value_at (λ v text. (text ≡ value_bytes v) × FitsValue v)
+pub n64_takes : Takes (number_at w64) (λ n text. (text ≡ to_be_bytes w64 n) × (n < 2 ^ 64))
+n64_takes = number_takes w64 (2 ^ 64) wide64
+
+-- ---- tags
+
+-- a tag, and the form that it stands for
+pub tagged : {A : Type 0} (low high tag : ℕ) (f : ℕ → Reader A) (text : List ℕ) (x : A) → low ≤ tag → tag ≤ high → Again (f tag) text x → Again (byte_in low high >>= f) (tag ∷ text) x
+tagged low high tag f text x from to behind = again_then (byte_in low high) f (tag ∷ []) text tag x (byte_in_again low high tag from to) behind
+
+-- the form that a tag stands for, where the tag is this number
+pub for_tag : {A : Type 0} (tag n : ℕ) (p : Reader A) (Says : ℕ → A → List ℕ → Type 0) → Takes p (Says n) → (tag == n) ≡ true → Takes p (Says tag)
+for_tag tag n p Says h same = subst (λ (m : ℕ). Takes p (Says m)) (sym (eqb-true _ _ same)) h
+
+-- ---- texts
+
+as_text_takes : (r : Result (List ℕ) BadText) → Takes (as_text r) (λ t text. (r ≡ Ok t) × (text ≡ []))
+as_text_takes (Ok n) = takes_so (given n) _ (λ t text. (Ok n ≡ Ok t) × (text ≡ [])) (takes_given n) (λ t text is. (rw (is.0) refl, is.1))
+as_text_takes (Err e) = takes_refused _
+
+text_again : (text : List ℕ) → IsText text → Again text_at (text_bytes text) text
+unfolding text_at text_parts text_bytes
+text_again text good =
+    let last : Again (as_text (text_of text)) [] text = rw (read_as_it_is text good) (again_given text) in
+    let bytes : Again (bytes_at (length text) >>= λ bytes. as_text (text_of bytes)) (text ++ []) text =
+    again_then (bytes_at (length text)) (λ bytes. as_text (text_of bytes)) text [] text text (bytes_again (length text) text refl) last in
+    again_one_field text_parts (text_bytes text) text
+    (again_then byte_at (λ len. bytes_at len >>= λ bytes. as_text (text_of bytes)) (length text ∷ []) text (length text) text (byte_again (length text))
+    (rw append-nil at bytes))
+
+text_takes : Takes text_at (λ t text. (text ≡ text_bytes t) × IsText t)
+unfolding text_at text_parts text_bytes
+text_takes =
+    takes_one_field text_parts _
+    (takes_so text_parts _ (λ t text. (text ≡ text_bytes t) × IsText t)
+    (takes_then byte_at (λ len. bytes_at len >>= λ bytes. as_text (text_of bytes)) _ _ byte_takes
+    (λ len text is. takes_then (bytes_at len) (λ bytes. as_text (text_of bytes)) _ (λ bytes t rest. (text_of bytes ≡ Ok t) × (rest ≡ [])) (bytes_take len) (λ bytes front is. as_text_takes (text_of bytes))))
+    (λ x text t.
+    let read = text_as_read t.second.value x t.second.second.0 in
+    let same : x ≡ t.second.value = read.0 in
+    let back : t.back ≡ x = t.second.joined ∙ rw (t.second.second.1, ← t.second.first.0, same) (append-nil t.second.value) in
+    let len : t.value ≡ length x = sym t.second.first.1 ∙ ap length (sym same) in
+    (t.joined ∙ rw (t.first.0, back, len) refl, read.1)))
+
+-- ---- values
+
+plain_again : (n : ℕ) → n < 2 ^ 64 → Again plain_at (to_be_bytes w64 n) (Number n)
+unfolding plain_at
+plain_again n fits = again_last (number_at w64) Number (to_be_bytes w64 n) n (n64_again n fits)
+
+tagged_again : (v : Value) → IsValue v → Again tagged_at (tagged_bytes v) v
+unfolding tagged_at kind_of tagged_bytes
+tagged_again (Number n) fits = tagged 0 1 0 kind_of (to_be_bytes w64 n) (Number n) (omega arith) (omega arith) (plain_again n fits)
+tagged_again (Text text) fits = tagged 0 1 1 kind_of (text_bytes text) (Text text) (omega arith) (omega arith) (again_last text_at Text (text_bytes text) text (text_again text fits))
+
+pub value_again : (texts : Bool) (v : Value) → IsValue v → Suits texts (is_text (Some v)) → Again (value_at texts) (value_bytes texts v) v
+unfolding value_at value_bytes plain_bytes
+value_again true v fits suits = tagged_again v fits
+value_again false (Number n) fits suits = plain_again n fits
+value_again false (Text text) fits suits = absurd (let no : false ≡ true = suits refl in cc)
+
+abbrev SaysValue : ℕ → Value → List ℕ → Type 0
+SaysValue kind v text = (kind ∷ text ≡ tagged_bytes v) × IsValue v
+
+number_kind_takes : Takes plain_at (SaysValue 0)
+unfolding plain_at tagged_bytes
+number_kind_takes = takes_so _ _ _ (takes_last (number_at w64) Number _ n64_takes) (λ v text m. (rw (m.is, m.of.0) refl, rw m.is m.of.1))
+
+text_kind_takes : Takes (text_at >>= λ text. given (Text text)) (SaysValue 1)
+unfolding tagged_bytes
+text_kind_takes = takes_so _ _ _ (takes_last text_at Text _ text_takes) (λ v text m. (rw (m.is, m.of.0) refl, rw m.is m.of.1))
+
+kind_of_takes : (kind : ℕ) → kind ≤ 1 → Takes (kind_of kind) (SaysValue kind)
+unfolding kind_of
+kind_of_takes kind to =
+    takes_if (kind == 0) _ _ _ (for_tag kind 0 plain_at SaysValue number_kind_takes) (λ n0. for_tag kind 1 _ SaysValue text_kind_takes (grind (arith, nat_tests)))
+
+tagged_takes : Takes tagged_at (λ v text. (text ≡ tagged_bytes v) × IsValue v)
+unfolding tagged_at
+tagged_takes = takes_so _ _ _ (takes_then (byte_in 0 1) kind_of _ SaysValue (byte_in_takes 0 1) (λ kind text is. kind_of_takes kind is.2))
+    (λ v text t. (t.joined ∙ rw t.first.0 t.second.0, t.second.1))
+
+plain_takes : (texts : Bool) → Takes plain_at (λ v text. (text ≡ plain_bytes v) × IsValue v × Suits texts (is_text (Some v)))
+unfolding plain_at plain_bytes
+plain_takes texts = takes_so _ _ _ (takes_last (number_at w64) Number _ n64_takes) (λ v text m. (rw (m.is, m.of.0) refl, rw m.is m.of.1, rw m.is (no_text texts)))
+
+pub value_takes : (texts : Bool) → Takes (value_at texts) (λ v text. (text ≡ value_bytes texts v) × IsValue v × Suits texts (is_text (Some v)))
 unfolding value_at value_bytes
-value_takes = number_takes w64 (2 ^ 64) wide64
+value_takes true = takes_so _ _ _ tagged_takes (λ v text is. (is.0, is.1, λ h. refl))
+value_takes false = plain_takes false
 
 -- ---- keys
 
@@ -167,27 +260,34 @@ key_takes =
 
 -- ---- values that may be missing
 
-pub option_again : (o : Option ℕ) → FitsOption o → Again option_at (option_bytes o) o
-unfolding option_at option_parts option_bytes
-option_again None fits =
-    again_one_field option_parts (0 ∷ []) None
-    (again_then (byte_in 0 1) (λ flag. if flag == 0 then given None else (value_at >>= λ v. given (Some v))) (0 ∷ []) [] 0 None (byte_in_again 0 1 0 (omega arith) (omega arith)) (again_given None))
-option_again (Some v) fits =
-    again_one_field option_parts (1 ∷ value_bytes v) (Some v)
-    (again_then (byte_in 0 1) (λ flag. if flag == 0 then given None else (value_at >>= λ v. given (Some v))) (1 ∷ []) (value_bytes v) 1 (Some v) (byte_in_again 0 1 1 (omega arith) (omega arith))
-    (again_last value_at Some (value_bytes v) v (value_again v fits)))
+option_parts_again : (texts : Bool) (o : Option Value) → FitsOption o → Suits texts (is_text o) → Again (option_parts texts) (option_bytes texts o) o
+unfolding option_parts option_bytes
+option_parts_again texts None fits suits =
+    tagged 0 1 0 (λ flag. if flag == 0 then given None else (value_at texts >>= λ v. given (Some v))) [] None (omega arith) (omega arith) (again_given None)
+option_parts_again texts (Some v) fits suits =
+    tagged 0 1 1 (λ flag. if flag == 0 then given None else (value_at texts >>= λ v. given (Some v))) (value_bytes texts v) (Some v) (omega arith) (omega arith)
+    (again_last (value_at texts) Some (value_bytes texts v) v (value_again texts v fits suits))
 
-pub option_takes : Takes option_at (λ o text. (text ≡ option_bytes o) × FitsOption o)
-unfolding option_at option_parts option_bytes
-option_takes =
-    takes_one_field option_parts _
-    (takes_so option_parts _ (λ o text. (text ≡ option_bytes o) × FitsOption o)
-    (takes_then (byte_in 0 1) (λ flag. if flag == 0 then given None else (value_at >>= λ v. given (Some v))) _ (λ flag o text. (flag ∷ text ≡ option_bytes o) × FitsOption o) (byte_in_takes 0 1)
-    (λ flag text is. takes_if (flag == 0) (given None) (value_at >>= λ v. given (Some v)) _
-    (λ yes. takes_so (given None) _ _ (takes_given None) (λ o more m. (rw (eqb-true _ _ yes, m.0, m.1) refl, rw m.0 tt)))
-    (λ no. takes_so (value_at >>= λ v. given (Some v)) _ _ (takes_last value_at Some _ value_takes)
-    (λ o more m. let one : flag ≡ 1 = let low : flag ≤ 1 = is.2 in grind (arith, nat_tests) in (rw (one, m.is, m.of.0) refl, rw m.is m.of.1)))))
-    (λ o text t. (t.joined ∙ rw t.first.0 t.second.0, t.second.1)))
+pub option_again : (texts : Bool) (o : Option Value) → FitsOption o → Suits texts (is_text o) → Again (option_at texts) (option_bytes texts o) o
+unfolding option_at
+option_again true o fits suits = option_parts_again true o fits suits
+option_again false o fits suits = again_one_field (option_parts false) (option_bytes false o) o (option_parts_again false o fits suits)
+
+option_parts_take : (texts : Bool) → Takes (option_parts texts) (λ o text. (text ≡ option_bytes texts o) × FitsOption o × Suits texts (is_text o))
+unfolding option_parts option_bytes
+option_parts_take texts =
+    takes_so (option_parts texts) _ _
+    (takes_then (byte_in 0 1) (λ flag. if flag == 0 then given None else (value_at texts >>= λ v. given (Some v))) _ (λ flag o text. (flag ∷ text ≡ option_bytes texts o) × FitsOption o × Suits texts (is_text o)) (byte_in_takes 0 1)
+    (λ flag text is. takes_if (flag == 0) (given None) (value_at texts >>= λ v. given (Some v)) _
+    (λ yes. takes_so (given None) _ _ (takes_given None) (λ o more m. (rw (eqb-true _ _ yes, m.0, m.1) refl, rw m.0 tt, rw m.0 (no_text texts))))
+    (λ no. takes_so (value_at texts >>= λ v. given (Some v)) _ _ (takes_last (value_at texts) Some _ (value_takes texts))
+    (λ o more m. let one : flag ≡ 1 = let low : flag ≤ 1 = is.2 in grind (arith, nat_tests) in (rw (one, m.is, m.of.0) refl, rw m.is m.of.1, rw m.is m.of.2)))))
+    (λ o text t. (t.joined ∙ rw t.first.0 t.second.0, t.second.1, t.second.2))
+
+pub option_takes : (texts : Bool) → Takes (option_at texts) (λ o text. (text ≡ option_bytes texts o) × FitsOption o × Suits texts (is_text o))
+unfolding option_at
+option_takes true = option_parts_take true
+option_takes false = takes_one_field (option_parts false) _ (option_parts_take false)
 
 -- ---- ends of spans
 
@@ -232,29 +332,30 @@ end_takes left after end fits e = end_taken left after end (begins_with 255 left
 
 -- ---- spans
 
-span_of_takes : (start : ℕ) (end : Option ℕ) (v : Bool) (test : nat_lt start (end_of end) ≡ v) → Takes (span_of start end v test) (λ s text. (s.start ≡ start) × (s.end ≡ end) × (text ≡ []))
-span_of_takes start end true test = takes_so (span_of start end true test) _ _ (takes_given _) (λ s text is. (rw (is.0) refl, rw (is.0) refl, is.1))
-span_of_takes start end false test = takes_refused _
+as_span_takes : (o : Option KeySpan) → Takes (as_span o) (λ s text. (o ≡ Some s) × (text ≡ []))
+as_span_takes (Some found) = takes_so (given found) _ (λ s text. (Some found ≡ Some s) × (text ≡ [])) (takes_given found) (λ s text is. (rw (is.0) refl, is.1))
+as_span_takes None = takes_refused _
 
 pub span_again : (s : KeySpan) → FitsSpan s → Again span_at (span_bytes s) s
 unfolding span_at span_parts span_bytes
 span_again s fits =
-    let last : Again (span_of s.start s.end (nat_lt s.start (end_of s.end)) refl) [] s = λ place rest. span_is s.start s.end s (from_place place rest) refl refl ∙ again_given s place rest in
-    let ends : Again (end_at >>= λ end. span_of s.start end (nat_lt s.start (end_of end)) refl) (end_bytes s.end ++ []) s =
-    again_then end_at (λ end. span_of s.start end (nat_lt s.start (end_of end)) refl) (end_bytes s.end) [] s.end s (end_again s.end fits.1) last in
+    let last : Again (as_span (key_span_of s.start s.end)) [] s = rw (key_span_is s.start s.end s refl refl) (again_given s) in
+    let ends : Again (end_at >>= λ end. as_span (key_span_of s.start end)) (end_bytes s.end ++ []) s =
+    again_then end_at (λ end. as_span (key_span_of s.start end)) (end_bytes s.end) [] s.end s (end_again s.end fits.1) last in
     again_one_field span_parts (span_bytes s) s
-    (again_then key_at (λ start. end_at >>= λ end. span_of start end (nat_lt start (end_of end)) refl) (key_bytes s.start) (end_bytes s.end) s.start s (key_again s.start fits.0) (rw append-nil at ends))
+    (again_then key_at (λ start. end_at >>= λ end. as_span (key_span_of start end)) (key_bytes s.start) (end_bytes s.end) s.start s (key_again s.start fits.0) (rw append-nil at ends))
 
 pub span_takes : Takes span_at (λ s text. (text ≡ span_bytes s) × FitsSpan s)
 unfolding span_at span_parts span_bytes
 span_takes =
     takes_one_field span_parts _
     (takes_so span_parts _ (λ s text. (text ≡ span_bytes s) × FitsSpan s)
-    (takes_then key_at (λ start. end_at >>= λ end. span_of start end (nat_lt start (end_of end)) refl) _ _ key_takes
-    (λ start text is. takes_then end_at (λ end. span_of start end (nat_lt start (end_of end)) refl) _ (λ end s rest. (s.start ≡ start) × (s.end ≡ end) × (rest ≡ [])) end_takes
-    (λ end text is. span_of_takes start end (nat_lt start (end_of end)) refl)))
+    (takes_then key_at (λ start. end_at >>= λ end. as_span (key_span_of start end)) _ _ key_takes
+    (λ start text is. takes_then end_at (λ end. as_span (key_span_of start end)) _ (λ end s rest. (key_span_of start end ≡ Some s) × (rest ≡ [])) end_takes
+    (λ end text is. as_span_takes (key_span_of start end))))
     (λ s text t.
-    let from : s.start ≡ t.value = t.second.second.0 in
-    let to : s.end ≡ t.second.value = t.second.second.1 in
-    let back : t.back ≡ end_bytes s.end = t.second.joined ∙ rw (t.second.second.2, t.second.first.0, to) (append-nil (end_bytes t.second.value)) in
+    let has = key_span_has t.value t.second.value s t.second.second.0 in
+    let from : s.start ≡ t.value = has.0 in
+    let to : s.end ≡ t.second.value = has.1 in
+    let back : t.back ≡ end_bytes s.end = t.second.joined ∙ rw (t.second.second.1, t.second.first.0, to) (append-nil (end_bytes t.second.value)) in
     (t.joined ∙ rw (t.first.0, back, from) refl, (rw from t.first.1, rw to t.second.first.1))))

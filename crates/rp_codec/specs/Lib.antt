@@ -1,4 +1,5 @@
 pub mod Cursors
 pub mod Reading
 pub mod Spelling
+pub mod Stops
 pub mod Worked

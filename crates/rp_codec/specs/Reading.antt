@@ -1,13 +1,19 @@
--- How bytes are read as a payload, field by field from the front, and which field is bad.
-use Rattle.std.specs.Prelude.{◌≡◌, ℕ, zero, suc, ◌+◌, ◌<◌, ◌==◌, ◌&&◌, Bool, true, false, nat_le, nat_lt, if◌then◌else◌, List, [], ◌∷◌, length, take, Option, None, Some, Result, Ok, Err, refl}
-use Rattle.std.proofs.Common.{arith}
-use Rattle.std.proofs.lemmas.Bool.Decides.{nat_tests}
+-- How bytes are read as a payload, field by field from the front, and which field is bad. Version 1 has no texts,
+-- version 2 may have some.
+use Rattle.std.specs.Prelude.{◌≡◌, ℕ, zero, suc, ◌+◌, ◌==◌, ◌&&◌, not, Bool, true, false, nat_le, nat_lt, if◌then◌else◌, List, [], ◌∷◌, length, take, Option, None, Some, Result, Ok, Err}
 use Rattle.std.specs.Int.{Width, w16, w32, w64, byte_len, from_be_bytes}
-use Rattle.rp_base.specs.Keys.{key_of, end_of}
+use Rattle.rp_base.specs.Gives.{Gives}
+use Rattle.rp_base.specs.Keys.{key_of}
+use Rattle.rp_base.specs.ShortTexts.{text_of}
+use Rattle.rp_base.specs.Spans.{key_span_of}
 use Rattle.rp_base.specs.declared.BadKey.{BadKey}
+use Rattle.rp_base.specs.declared.BadText.{BadText}
 use Rattle.rp_base.specs.declared.CmdId.{CmdId}
 use Rattle.rp_base.specs.declared.KeySpan.{KeySpan}
 use Rattle.rp_base.specs.declared.LeaseAsk.{LeaseAsk}
+use Rattle.rp_base.specs.declared.Value.{Value}
+use Rattle.rp_base.specs.declared.Value.TheVariants.{Number, Text}
+use Rattle.rp_request.specs.Texts.{payload_has_text}
 use Rattle.rp_request.specs.declared.Command.{Command}
 use Rattle.rp_request.specs.declared.Op.{Op}
 use Rattle.rp_request.specs.declared.Op.TheVariants as ops
@@ -82,9 +88,41 @@ number_at w = do
   bytes ← bytes_at (byte_len w)
   given (from_be_bytes w bytes)
 
--- a value: a number of 8 bytes
-unfoldable pub value_at : Reader ℕ
-value_at = number_at w64
+-- what was read is a text, or is outside its form
+abbrev pub as_text : Result (List ℕ) BadText → Reader (List ℕ)
+as_text (Ok text) = given text
+as_text (Err e) = refused
+
+-- a text: a length, and so many bytes of a text
+unfoldable pub text_parts : Reader (List ℕ)
+text_parts = do
+  len ← byte_at
+  bytes ← bytes_at len
+  as_text (text_of bytes)
+
+unfoldable pub text_at : Reader (List ℕ)
+text_at = as_one_field text_parts
+
+-- a value without its kind: a number
+unfoldable pub plain_at : Reader Value
+plain_at = do
+  n ← number_at w64
+  given (Number n)
+
+-- what stands behind a value's kind, which is 0 for a number and 1 for a text
+unfoldable pub kind_of : ℕ → Reader Value
+kind_of kind = if kind == 0 then plain_at else (text_at >>= λ text. given (Text text))
+
+-- a value with its kind
+unfoldable pub tagged_at : Reader Value
+tagged_at = do
+  kind ← byte_in 0 1
+  kind_of kind
+
+-- a value: with its kind where texts may stand, that is, in version 2
+unfoldable pub value_at : Bool → Reader Value
+value_at true = tagged_at
+value_at false = plain_at
 
 abbrev pub as_key : Result ℕ BadKey → Reader ℕ
 as_key (Ok k) = given k
@@ -101,13 +139,15 @@ unfoldable pub key_at : Reader ℕ
 key_at = as_one_field key_parts
 
 -- a value that may be missing: 0, or 1 and the value
-unfoldable pub option_parts : Reader (Option ℕ)
-option_parts = do
+unfoldable pub option_parts : Bool → Reader (Option Value)
+option_parts texts = do
   flag ← byte_in 0 1
-  if flag == 0 then given None else (value_at >>= λ v. given (Some v))
+  if flag == 0 then given None else (value_at texts >>= λ v. given (Some v))
 
-unfoldable pub option_at : Reader (Option ℕ)
-option_at = as_one_field option_parts
+-- in version 2 each part is a field by itself, in version 1 all are one
+unfoldable pub option_at : Bool → Reader (Option Value)
+option_at true = option_parts true
+option_at false = as_one_field (option_parts false)
 
 -- the next byte is this one
 abbrev pub begins_with : ℕ → List ℕ → Bool
@@ -122,29 +162,26 @@ end_where false = key_at >>= λ k. given (Some k)
 unfoldable pub end_at : Reader (Option ℕ)
 end_at = λ left. end_where (begins_with 255 left.bytes) left
 
--- the start of a span is below its end
-pub below : (start end : ℕ) → nat_lt start end ≡ true → start < end
-below start end test = grind (arith, nat_tests)
-
-abbrev pub span_of : (start : ℕ) (end : Option ℕ) (v : Bool) → nat_lt start (end_of end) ≡ v → Reader KeySpan
-span_of start end true test = given (record { start = start; end = end; ordered = below start (end_of end) test })
-span_of start end false test = refused
+-- what was read is a span, or is outside its form
+abbrev pub as_span : Option KeySpan → Reader KeySpan
+as_span (Some s) = given s
+as_span None = refused
 
 -- a span of keys: its start, and its end
 unfoldable pub span_parts : Reader KeySpan
 span_parts = do
   start ← key_at
   end ← end_at
-  span_of start end (nat_lt start (end_of end)) refl
+  as_span (key_span_of start end)
 
 unfoldable pub span_at : Reader KeySpan
 span_at = as_one_field span_parts
 
 -- put: key, value
-unfoldable pub put_at : Reader Request
-put_at = do
+unfoldable pub put_at : Bool → Reader Request
+put_at texts = do
   k ← key_at
-  v ← value_at
+  v ← value_at texts
   given (requests.Put k v)
 
 -- add: key, number
@@ -155,11 +192,11 @@ add_at = do
   given (requests.Add k n)
 
 -- cput: key, expected value, value
-unfoldable pub cput_at : Reader Request
-cput_at = do
+unfoldable pub cput_at : Bool → Reader Request
+cput_at texts = do
   k ← key_at
-  o ← option_at
-  v ← value_at
+  o ← option_at texts
+  v ← value_at texts
   given (requests.CPut k o v)
 
 -- del: key
@@ -189,25 +226,25 @@ split_at = do
   given (requests.Split k)
 
 -- what stands behind a request's tag, which is 1 to 7
-unfoldable pub request_of : ℕ → Reader Request
-request_of tag = if tag == 1 then put_at
+unfoldable pub request_of : Bool → ℕ → Reader Request
+request_of texts tag = if tag == 1 then put_at texts
     else (if tag == 2 then add_at
-    else (if tag == 3 then cput_at
+    else (if tag == 3 then cput_at texts
     else (if tag == 4 then del_at
     else (if tag == 5 then wipe_at
     else (if tag == 6 then move_at
     else split_at)))))
 
 -- a request
-unfoldable pub request_at : Reader Request
-request_at = do
+unfoldable pub request_at : Bool → Reader Request
+request_at texts = do
   tag ← byte_in 1 7
-  request_of tag
+  request_of texts tag
 
 -- replies: an option, a number, nothing, a number, a range
-unfoldable pub old_at : Reader Reply
-old_at = do
-  o ← option_at
+unfoldable pub old_at : Bool → Reader Reply
+old_at texts = do
+  o ← option_at texts
   given (replies.Old o)
 
 unfoldable pub now_at : Reader Reply
@@ -226,24 +263,24 @@ range_at = do
   given (replies.Range r)
 
 -- what stands behind a reply's tag, which is 1 to 5
-unfoldable pub reply_of : ℕ → Reader Reply
-reply_of tag = if tag == 1 then old_at
+unfoldable pub reply_of : Bool → ℕ → Reader Reply
+reply_of texts tag = if tag == 1 then old_at texts
     else (if tag == 2 then now_at
     else (if tag == 3 then given replies.Set
     else (if tag == 4 then count_at
     else range_at)))
 
 -- a reply
-unfoldable pub reply_at : Reader Reply
-reply_at = do
+unfoldable pub reply_at : Bool → Reader Reply
+reply_at texts = do
   tag ← byte_in 1 5
-  reply_of tag
+  reply_of texts tag
 
 -- writes: key and value, or a key that is taken away
-unfoldable pub set_at : Reader Op
-set_at = do
+unfoldable pub set_at : Bool → Reader Op
+set_at texts = do
   k ← key_at
-  v ← value_at
+  v ← value_at texts
   given (ops.Set k v)
 
 unfoldable pub remove_at : Reader Op
@@ -252,21 +289,21 @@ remove_at = do
   given (ops.Remove k)
 
 -- one write: its tag is 1 or 2
-unfoldable pub op_at : Reader Op
-op_at = do
+unfoldable pub op_at : Bool → Reader Op
+op_at texts = do
   tag ← byte_in 1 2
-  if tag == 1 then set_at else remove_at
+  if tag == 1 then set_at texts else remove_at
 
 -- so many writes
-unfoldable pub ops_at : ℕ → Reader (List Op)
-ops_at zero = given []
-ops_at (suc n) = op_at >>= λ op. ops_at n >>= λ more. given (op ∷ more)
+unfoldable pub ops_at : Bool → ℕ → Reader (List Op)
+ops_at texts zero = given []
+ops_at texts (suc n) = op_at texts >>= λ op. ops_at texts n >>= λ more. given (op ∷ more)
 
 -- a batch: at most 16 writes
-unfoldable pub batch_at : Reader (List Op)
-batch_at = do
+unfoldable pub batch_at : Bool → Reader (List Op)
+batch_at texts = do
   count ← byte_in 0 16
-  ops_at count
+  ops_at texts count
 
 -- an attempt
 unfoldable pub id_at : Reader CmdId
@@ -277,14 +314,14 @@ id_at = do
   given (record { client = client; seq = seq; attempt = attempt })
 
 -- a command
-unfoldable pub command_at : Reader Command
-command_at = do
+unfoldable pub command_at : Bool → Reader Command
+command_at texts = do
   id ← id_at
   seq ← number_at w64
   max ← number_at w64
-  request ← request_at
-  reply ← reply_at
-  batch ← batch_at
+  request ← request_at texts
+  reply ← reply_at texts
+  batch ← batch_at texts
   given (record { id = id; request = request; batch = batch; reply = reply; seq = seq; max = max })
 
 -- a lease ask: a node, 1 to 5, and two numbers
@@ -296,41 +333,60 @@ ask_at = do
   given (record { holder = holder; prev = prev; expires = expires })
 
 -- what stands behind a payload's tag, which is 0 to 2
-unfoldable pub payload_of : ℕ → Reader Payload
-payload_of tag = if tag == 0 then given payloads.Nothing
-    else (if tag == 1 then (command_at >>= λ c. given (payloads.Write c))
+unfoldable pub payload_of : Bool → ℕ → Reader Payload
+payload_of texts tag = if tag == 0 then given payloads.Nothing
+    else (if tag == 1 then (command_at texts >>= λ c. given (payloads.Write c))
     else (ask_at >>= λ a. given (payloads.Lease a)))
 
--- a payload: the version, which is 1, and a tag
+-- a payload's tag: 0 to 2; in version 2 a command's alone
+unfoldable pub tag_at : Bool → Reader ℕ
+tag_at true = byte_in 1 1
+tag_at false = byte_in 0 2
+
+-- what stands behind the version
+unfoldable pub version_of : Bool → Reader Payload
+version_of texts = do
+  tag ← tag_at texts
+  payload_of texts tag
+
+-- a payload: the version, 1 or 2, a tag, and its fields
 unfoldable pub payload_at : Reader Payload
 payload_at = do
-  version ← byte_in 1 1
-  tag ← byte_in 0 2
-  payload_of tag
+  version ← byte_in 1 2
+  version_of (version == 2)
 
 -- nothing stands behind what was read; else the place behind it is bad
 abbrev pub ended : {A : Type 0} → Result (A × Left) BadField → Result A BadField
 ended (Ok found) = if length found.1.bytes == 0 then Ok found.0 else bad found.1.place
 ended (Err e) = Err e
 
--- the payload that all of the bytes say, or the bad field
+-- the payload that all of the bytes say, by either version, or the bad field
+unfoldable pub all_in : List ℕ → Result Payload BadField
+all_in bytes = ended (payload_at (whole bytes))
+
+-- version 2 spells what holds a text alone: else its version byte is bad
+abbrev pub canonical : (texts : Bool) → Result Payload BadField → Result Payload BadField
+canonical texts (Ok p) = if texts && not (payload_has_text p) then bad 0 else Ok p
+canonical texts (Err e) = Err e
+
+-- the payload whose spelling the bytes are, or the bad field
 unfoldable pub payload_in : List ℕ → Result Payload BadField
-payload_in bytes = ended (payload_at (whole bytes))
+payload_in bytes = canonical (begins_with 2 bytes) (all_in bytes)
 
 -- a call answered what reading gives: the value, with the cursor behind it, or the bad field
 abbrev pub Reads : {A : Type 0} → Result A BadField → Left → Result (A × Left) BadField → Type 0
 Reads (Ok x) left read = read ≡ Ok (x, left)
 Reads (Err e) left read = read ≡ Err e
 
+-- the bad field that a fault names: none for want of memory
+abbrev pub field_of : DecodeFault → Option BadField
+field_of (faults.Bad place) = Some (record { place = place })
+field_of faults.NoMemory = None
+
 -- the same of a call that takes memory, which may be refused
-abbrev pub Fails : {A : Type 0} → DecodeFault → Result A BadField → Type 0
-Fails (faults.Bad place) read = read ≡ bad place
-Fails faults.NoMemory read = Unit {0}
-
 abbrev pub Decodes : {A : Type 0} → Result A DecodeFault → Left → Result (A × Left) BadField → Type 0
-Decodes (Ok x) left read = read ≡ Ok (x, left)
-Decodes (Err e) left read = Fails e read
+Decodes result left read = Gives (λ x. (x, left)) field_of result read
 
-abbrev pub Gives : {A : Type 0} → Result A DecodeFault → Result A BadField → Type 0
-Gives (Ok x) read = read ≡ Ok x
-Gives (Err e) read = Fails e read
+-- a call answered this payload or bad field, but for want of memory
+abbrev pub Decoded : Result Payload DecodeFault → Result Payload BadField → Type 0
+Decoded result read = Gives (λ p. p) field_of result read

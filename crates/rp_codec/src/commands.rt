@@ -1,3 +1,4 @@
+//! Requests, replies, writes, attempts and lease asks, read from the front.
 ghost use Rattle.std.specs.Prelude.{◌≡◌, ◌≤◌};
 ghost use Rattle.rp_codec.specs.Reading.{Reads, put_at, add_at, cput_at, del_at, wipe_at, move_at, split_at, request_of, request_at, old_at, now_at, count_at, range_at, reply_of, reply_at, set_at, remove_at, op_at, id_at, ask_at};
 
@@ -8,11 +9,11 @@ use rp_base::{CmdId, LeaseAsk, LeaseSeq, NodeId, RangeId, Tick};
 use rp_request::{Op, Reply, Request};
 
 #[tactic(auto, unfolding(crate::specs::Reading::put_at))]
-fn put(cursor: &mut Cursor) -> Result<Request, BadField>
-    ensures { Reads result cursor.new (put_at cursor.old) }
+fn put(cursor: &mut Cursor, texts: bool) -> Result<Request, BadField>
+    ensures { Reads result cursor.new (put_at texts cursor.old) }
 {
     let key = key(cursor)?;
-    let value = value(cursor)?;
+    let value = value(cursor, texts)?;
     Ok(Request::Put { key, value })
 }
 
@@ -26,12 +27,12 @@ fn add(cursor: &mut Cursor) -> Result<Request, BadField>
 }
 
 #[tactic(auto, unfolding(crate::specs::Reading::cput_at))]
-fn cput(cursor: &mut Cursor) -> Result<Request, BadField>
-    ensures { Reads result cursor.new (cput_at cursor.old) }
+fn cput(cursor: &mut Cursor, texts: bool) -> Result<Request, BadField>
+    ensures { Reads result cursor.new (cput_at texts cursor.old) }
 {
     let key = key(cursor)?;
-    let expect = option(cursor)?;
-    let value = value(cursor)?;
+    let expect = option(cursor, texts)?;
+    let value = value(cursor, texts)?;
     Ok(Request::CPut { key, expect, value })
 }
 
@@ -70,13 +71,13 @@ fn split(cursor: &mut Cursor) -> Result<Request, BadField>
 }
 
 #[tactic(auto, unfolding(crate::specs::Reading::request_of))]
-fn request_of(cursor: &mut Cursor, tag: u8) -> Result<Request, BadField>
-    ensures { Reads result cursor.new (request_of tag cursor.old) }
+fn request_of(cursor: &mut Cursor, texts: bool, tag: u8) -> Result<Request, BadField>
+    ensures { Reads result cursor.new (request_of texts tag cursor.old) }
 {
     match tag {
-        1 => put(cursor),
+        1 => put(cursor, texts),
         2 => add(cursor),
-        3 => cput(cursor),
+        3 => cput(cursor, texts),
         4 => del(cursor),
         5 => wipe(cursor),
         6 => moving(cursor),
@@ -86,18 +87,18 @@ fn request_of(cursor: &mut Cursor, tag: u8) -> Result<Request, BadField>
 
 /// Reads a request.
 #[tactic(auto, unfolding(crate::specs::Reading::request_at))]
-pub fn request(cursor: &mut Cursor) -> Result<Request, BadField>
-    ensures { Reads result cursor.new (request_at cursor.old) }
+pub fn request(cursor: &mut Cursor, texts: bool) -> Result<Request, BadField>
+    ensures { Reads result cursor.new (request_at texts cursor.old) }
 {
     let tag = byte_in(cursor, 1, 7)?;
-    request_of(cursor, tag)
+    request_of(cursor, texts, tag)
 }
 
 #[tactic(auto, unfolding(crate::specs::Reading::old_at))]
-fn old(cursor: &mut Cursor) -> Result<Reply, BadField>
-    ensures { Reads result cursor.new (old_at cursor.old) }
+fn old(cursor: &mut Cursor, texts: bool) -> Result<Reply, BadField>
+    ensures { Reads result cursor.new (old_at texts cursor.old) }
 {
-    let value = option(cursor)?;
+    let value = option(cursor, texts)?;
     Ok(Reply::Old(value))
 }
 
@@ -126,11 +127,11 @@ fn range(cursor: &mut Cursor) -> Result<Reply, BadField>
 }
 
 #[tactic(auto, unfolding(crate::specs::Reading::reply_of))]
-fn reply_of(cursor: &mut Cursor, tag: u8) -> Result<Reply, BadField>
-    ensures { Reads result cursor.new (reply_of tag cursor.old) }
+fn reply_of(cursor: &mut Cursor, texts: bool, tag: u8) -> Result<Reply, BadField>
+    ensures { Reads result cursor.new (reply_of texts tag cursor.old) }
 {
     match tag {
-        1 => old(cursor),
+        1 => old(cursor, texts),
         2 => now(cursor),
         3 => Ok(Reply::Set),
         4 => count(cursor),
@@ -140,19 +141,19 @@ fn reply_of(cursor: &mut Cursor, tag: u8) -> Result<Reply, BadField>
 
 /// Reads a reply.
 #[tactic(auto, unfolding(crate::specs::Reading::reply_at))]
-pub fn reply(cursor: &mut Cursor) -> Result<Reply, BadField>
-    ensures { Reads result cursor.new (reply_at cursor.old) }
+pub fn reply(cursor: &mut Cursor, texts: bool) -> Result<Reply, BadField>
+    ensures { Reads result cursor.new (reply_at texts cursor.old) }
 {
     let tag = byte_in(cursor, 1, 5)?;
-    reply_of(cursor, tag)
+    reply_of(cursor, texts, tag)
 }
 
 #[tactic(auto, unfolding(crate::specs::Reading::set_at))]
-fn set(cursor: &mut Cursor) -> Result<Op, BadField>
-    ensures { Reads result cursor.new (set_at cursor.old) }
+fn set(cursor: &mut Cursor, texts: bool) -> Result<Op, BadField>
+    ensures { Reads result cursor.new (set_at texts cursor.old) }
 {
     let key = key(cursor)?;
-    let value = value(cursor)?;
+    let value = value(cursor, texts)?;
     Ok(Op::Set { key, value })
 }
 
@@ -166,11 +167,11 @@ fn remove(cursor: &mut Cursor) -> Result<Op, BadField>
 
 /// Reads one write of a batch.
 #[tactic(auto, unfolding(crate::specs::Reading::op_at))]
-pub fn op(cursor: &mut Cursor) -> Result<Op, BadField>
-    ensures { Reads result cursor.new (op_at cursor.old) }
+pub fn op(cursor: &mut Cursor, texts: bool) -> Result<Op, BadField>
+    ensures { Reads result cursor.new (op_at texts cursor.old) }
 {
     match byte_in(cursor, 1, 2)? {
-        1 => set(cursor),
+        1 => set(cursor, texts),
         _ => remove(cursor),
     }
 }

@@ -1,10 +1,11 @@
+//! The fields of payloads, read from the front.
 ghost use Rattle.std.specs.Prelude.{◌≡◌, ◌≤◌, IfOk};
 ghost use Rattle.std.specs.Int.{w16, w32, w64};
-ghost use Rattle.rp_codec.specs.Reading.{Reads, byte_in, number_at, value_at, key_at, option_at, end_at, span_at, key_parts, option_parts, span_parts, byte_parts};
+ghost use Rattle.rp_codec.specs.Reading.{Reads, byte_in, number_at, text_parts, text_at, plain_at, kind_of, tagged_at, value_at, key_at, option_at, end_at, span_at, key_parts, option_parts, span_parts, byte_parts};
 
 use crate::cursors::Cursor;
 use crate::faults::BadField;
-use rp_base::{Key, KeySpan};
+use rp_base::{Key, KeySpan, ShortText, Value};
 
 #[tactic(auto, unfolding(crate::specs::Reading::byte_parts))]
 fn byte_parts(cursor: &mut Cursor, low: u8, high: u8) -> Result<u8, BadField>
@@ -63,12 +64,63 @@ pub fn number64(cursor: &mut Cursor) -> Result<u64, BadField>
     ]))
 }
 
-/// Reads a value.
-#[tactic(auto, unfolding(crate::specs::Reading::value_at))]
-pub fn value(cursor: &mut Cursor) -> Result<u64, BadField>
-    ensures { Reads result cursor.new (value_at cursor.old) }
+#[tactic(auto, unfolding(crate::specs::Reading::text_parts))]
+fn text_parts(cursor: &mut Cursor) -> Result<ShortText, BadField>
+    ensures { Reads result cursor.new (text_parts cursor.old) }
 {
-    number64(cursor)
+    let len = cursor.byte()?;
+    let bytes = cursor.bytes(usize::from(len))?;
+    match ShortText::read(bytes) {
+        Ok(text) => Ok(text),
+        Err(_) => Err(cursor.bad()),
+    }
+}
+
+/// Reads a text.
+#[tactic(auto, unfolding(crate::specs::Reading::text_at))]
+fn text(cursor: &mut Cursor) -> Result<ShortText, BadField>
+    ensures { Reads result cursor.new (text_at cursor.old) }
+{
+    let field = cursor.bad();
+    match text_parts(cursor) {
+        Ok(text) => Ok(text),
+        Err(_) => Err(field),
+    }
+}
+
+/// Reads a value without its kind: a number.
+#[tactic(auto, unfolding(crate::specs::Reading::plain_at))]
+fn plain(cursor: &mut Cursor) -> Result<Value, BadField>
+    ensures { Reads result cursor.new (plain_at cursor.old) }
+{
+    Ok(Value::Number(number64(cursor)?))
+}
+
+#[tactic(auto, unfolding(crate::specs::Reading::kind_of))]
+fn kind_of(cursor: &mut Cursor, kind: u8) -> Result<Value, BadField>
+    ensures { Reads result cursor.new (kind_of kind cursor.old) }
+{
+    if kind == 0 {
+        return plain(cursor);
+    }
+    Ok(Value::Text(text(cursor)?))
+}
+
+/// Reads a value with its kind.
+#[tactic(auto, unfolding(crate::specs::Reading::tagged_at))]
+fn tagged(cursor: &mut Cursor) -> Result<Value, BadField>
+    ensures { Reads result cursor.new (tagged_at cursor.old) }
+{
+    let kind = byte_in(cursor, 0, 1)?;
+    kind_of(cursor, kind)
+}
+
+/// Reads a value, with its kind where texts may stand.
+#[tactic(auto, unfolding(crate::specs::Reading::value_at))]
+pub fn value(cursor: &mut Cursor, texts: bool) -> Result<Value, BadField>
+    ensures { Reads result cursor.new (value_at texts cursor.old) }
+{
+    if texts { tagged(cursor) } else { plain(cursor) }
 }
 
 #[tactic(auto, unfolding(crate::specs::Reading::key_parts))]
@@ -96,22 +148,25 @@ pub fn key(cursor: &mut Cursor) -> Result<Key, BadField>
 }
 
 #[tactic(auto, unfolding(crate::specs::Reading::option_parts))]
-fn option_parts(cursor: &mut Cursor) -> Result<Option<u64>, BadField>
-    ensures { Reads result cursor.new (option_parts cursor.old) }
+fn option_parts(cursor: &mut Cursor, texts: bool) -> Result<Option<Value>, BadField>
+    ensures { Reads result cursor.new (option_parts texts cursor.old) }
 {
     if byte_in(cursor, 0, 1)? == 0 {
         return Ok(None);
     }
-    Ok(Some(value(cursor)?))
+    Ok(Some(value(cursor, texts)?))
 }
 
-/// Reads a value that may be missing.
+/// Reads a value that may be missing. Where no texts may stand, it is one field.
 #[tactic(auto, unfolding(crate::specs::Reading::option_at))]
-pub fn option(cursor: &mut Cursor) -> Result<Option<u64>, BadField>
-    ensures { Reads result cursor.new (option_at cursor.old) }
+pub fn option(cursor: &mut Cursor, texts: bool) -> Result<Option<Value>, BadField>
+    ensures { Reads result cursor.new (option_at texts cursor.old) }
 {
+    if texts {
+        return option_parts(cursor, texts);
+    }
     let field = cursor.bad();
-    match option_parts(cursor) {
+    match option_parts(cursor, texts) {
         Ok(option) => Ok(option),
         Err(_) => Err(field),
     }

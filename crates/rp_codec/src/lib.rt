@@ -10,6 +10,7 @@ pub mod laws;
 mod reading;
 #[cfg(test)]
 mod tests;
+mod texts;
 mod writing;
 
 pub use faults::DecodeFault;

@@ -1,7 +1,10 @@
+//! The worked payloads, a round trip for each form, and places of bad fields.
 ghost use Rattle.std.specs.Prelude.{◌<◌};
 
 use crate::{DecodeFault, decode, encode};
-use rp_base::{CmdId, Key, KeySpan, LeaseAsk, LeaseIndex, LeaseSeq, NodeId, RangeId, Tick};
+use rp_base::{
+    CmdId, Key, KeySpan, LeaseAsk, LeaseIndex, LeaseSeq, NodeId, RangeId, ShortText, Tick, Value,
+};
 use rp_request::{Batch, Command, Op, Payload, Reply, Request};
 use std::alloc::Global;
 use std::test::Fail;
@@ -13,11 +16,10 @@ const PUT: [u8; 51] = [
     0, 0, 0, 0, 0, 5, 1, 0, 1, 1, 1, 0x61, 0, 0, 0, 0, 0, 0, 0, 5,
 ];
 
-/// The wipe from `a` on by client 2, number 3, attempt 4 under sequence 5 with maximum 6, which took
-/// away `bc`.
-const WIPE: [u8; 44] = [
-    1, 1, 0, 2, 0, 0, 0, 3, 0, 4, 0, 0, 0, 0, 0, 0, 0, 5, 0, 0, 0, 0, 0, 0, 0, 6, 5, 1, 0x61, 255,
-    4, 0, 0, 0, 0, 0, 0, 0, 1, 1, 2, 2, 0x62, 0x63,
+/// The same put of the text `hi`.
+const PUT_TEXT: [u8; 43] = [
+    2, 1, 0, 1, 0, 0, 0, 1, 0, 1, 0, 0, 0, 0, 0, 0, 0, 1, 0, 0, 0, 0, 0, 0, 0, 1, 1, 1, 0x61, 1, 2,
+    0x68, 0x69, 1, 0, 1, 1, 1, 0x61, 1, 2, 0x68, 0x69,
 ];
 
 /// Node 3 asks for the lease behind sequence 258, to tick 40.
@@ -27,22 +29,46 @@ fn key(text: &str) -> Result<Key, Fail> {
     Ok(Key::read(text.as_bytes()).ok().ok_or("a key")?)
 }
 
-fn put(alloc: Global) -> Result<Payload, Fail> {
-    let key = key("a")?;
+fn text(text: &str) -> Result<Value, Fail> {
+    let text = ShortText::read(text.as_bytes()).ok().ok_or("a text")?;
+    Ok(Value::Text(text))
+}
+
+/// A command of client 1, number 1, attempt 1 under sequence 1 with maximum 1, with one write.
+fn command(alloc: Global, request: &Request, reply: &Reply, op: &Op) -> Result<Payload, Fail> {
     let mut batch = Batch::new(alloc);
-    batch.push(Op::Set { key, value: 5 })?;
+    batch.push(*op)?;
     Ok(Payload::Write(Command {
         id: CmdId {
             client: 1,
             seq: 1,
             attempt: 1,
         },
-        request: Request::Put { key, value: 5 },
+        request: *request,
         batch,
-        reply: Reply::Old(None),
+        reply: *reply,
         seq: LeaseSeq::new(1),
         max: LeaseIndex::new(1),
     }))
+}
+
+/// The put of `a` to a value, which was missing before.
+fn put(alloc: Global, value: &Value) -> Result<Payload, Fail> {
+    let key = key("a")?;
+    let request = Request::Put { key, value: *value };
+    let op = Op::Set { key, value: *value };
+    command(alloc, &request, &Reply::Old(None), &op)
+}
+
+/// Whether the command is read from its spelling.
+fn comes_back(alloc: Global, request: &Request, reply: &Reply, op: &Op) -> Result<bool, Fail> {
+    let bytes = encode(alloc, &command(alloc, request, reply, op)?)?;
+    let read = decode(alloc, bytes.as_slice()).ok().ok_or("a payload")?;
+    let Payload::Write(command) = read else {
+        return Ok(false);
+    };
+    let same = command.request == *request && command.reply == *reply;
+    Ok(same && command.batch.as_slice() == std::slice::from_ref(op))
 }
 
 /// Whether the bytes are refused at this place.
@@ -62,6 +88,15 @@ fn bad_with(alloc: Global, at: usize, byte: u8, place: usize) -> bool
     bad(alloc, &bytes, place)
 }
 
+/// Whether the put of a text is refused at this place where this byte stands in it.
+fn bad_text_with(alloc: Global, at: usize, byte: u8, place: usize) -> bool
+    requires { at < 43 }
+{
+    let mut bytes = PUT_TEXT;
+    bytes[at] = byte;
+    bad(alloc, &bytes, place)
+}
+
 /// Whether the bytes are read, and what was read is spelled by them.
 fn is_read(alloc: Global, bytes: &[u8]) -> Result<bool, Fail> {
     let payload = decode(alloc, bytes).ok().ok_or("a payload")?;
@@ -69,96 +104,103 @@ fn is_read(alloc: Global, bytes: &[u8]) -> Result<bool, Fail> {
 }
 
 #[test]
-fn the_put_is_written(rt: HostRuntime) -> Result<(), Fail> {
-    let bytes = encode(rt.alloc(), &put(rt.alloc())?)?;
-    assert!(rt; bytes.as_slice() == PUT.as_slice());
+fn the_puts_are_written(rt: HostRuntime) -> Result<(), Fail> {
+    let number = encode(rt.alloc(), &put(rt.alloc(), &Value::Number(5))?)?;
+    assert!(rt; number.as_slice() == PUT.as_slice());
+    let text = encode(rt.alloc(), &put(rt.alloc(), &text("hi")?)?)?;
+    assert!(rt; text.as_slice() == PUT_TEXT.as_slice());
     Ok(())
 }
 
 #[test]
-fn the_put_is_read(rt: HostRuntime) -> Result<(), Fail> {
-    let payload = decode(rt.alloc(), &PUT).ok().ok_or("a payload")?;
-    let Payload::Write(command) = payload else {
-        return Err(Fail::from("a command"));
-    };
-    let key = key("a")?;
-    assert!(rt;
-        command.id
-            == CmdId {
-                client: 1,
-                seq: 1,
-                attempt: 1
-            }
-    );
-    assert!(rt; command.request == Request::Put { key, value: 5 });
-    assert!(rt; command.reply == Reply::Old(None));
-    assert!(rt; command.seq.get() == 1 && command.max.get() == 1);
-    assert!(rt; command.batch.as_slice() == [Op::Set { key, value: 5 }].as_slice());
-    Ok(())
-}
-
-#[test]
-fn other_payloads(rt: HostRuntime) -> Result<(), Fail> {
-    let nothing = encode(rt.alloc(), &Payload::Nothing)?;
-    assert!(rt; nothing.as_slice() == [1, 0].as_slice());
+fn spellings_are_read(rt: HostRuntime) -> Result<(), Fail> {
+    assert!(rt; is_read(rt.alloc(), &PUT)?);
+    assert!(rt; is_read(rt.alloc(), &PUT_TEXT)?);
+    assert!(rt; is_read(rt.alloc(), &ASK)?);
     assert!(rt; is_read(rt.alloc(), &[1, 0])?);
+    Ok(())
+}
+
+#[test]
+fn an_ask_is_written(rt: HostRuntime) -> Result<(), Fail> {
     let ask = LeaseAsk {
         holder: NodeId::new(3).ok_or("a node")?,
         prev: LeaseSeq::new(258),
         expires: Tick::new(40),
     };
     assert!(rt; encode(rt.alloc(), &Payload::Lease(ask))?.as_slice() == ASK.as_slice());
-    assert!(rt; is_read(rt.alloc(), &ASK)?);
     Ok(())
 }
 
 #[test]
-fn a_wipe(rt: HostRuntime) -> Result<(), Fail> {
-    assert!(rt; is_read(rt.alloc(), &WIPE)?);
+fn requests_with_values_come_back(rt: HostRuntime) -> Result<(), Fail> {
+    let key = key("a")?;
+    let value = text("hi")?;
+    let set = Op::Set {
+        key,
+        value: Value::Number(7),
+    };
+    let put = Request::Put { key, value };
+    assert!(rt; comes_back(rt.alloc(), &put, &Reply::Set, &set)?);
+    let cput = Request::CPut {
+        key,
+        expect: Some(text("hi")?),
+        value: Value::Number(7),
+    };
+    assert!(rt; comes_back(rt.alloc(), &cput, &Reply::Old(Some(Value::Number(3))), &set)?);
     Ok(())
 }
 
 #[test]
-fn a_span_is_one_field(rt: HostRuntime) {
-    let mut bytes = WIPE;
-    assert!(rt; bad(rt.alloc(), &bytes[..29], 27));
-    bytes[29] = 1;
-    assert!(rt; bad(rt.alloc(), &bytes, 27));
-    bytes[30] = 0x61;
-    assert!(rt; bad(rt.alloc(), &bytes, 27));
-    bytes[30] = 0x62;
-    assert!(rt; bad(rt.alloc(), &bytes, 31));
+fn other_requests_come_back(rt: HostRuntime) -> Result<(), Fail> {
+    let a = key("a")?;
+    let b = key("bc")?;
+    let gone = Op::Remove { key: b };
+    let add = Request::Add { key: a, by: 3 };
+    assert!(rt; comes_back(rt.alloc(), &add, &Reply::Now(8), &gone)?);
+    let moved = Request::Move {
+        from: a,
+        to: b,
+        by: 3,
+    };
+    assert!(rt; comes_back(rt.alloc(), &moved, &Reply::Now(8), &gone)?);
+    let del = Request::Del { key: b };
+    assert!(rt; comes_back(rt.alloc(), &del, &Reply::Old(None), &gone)?);
+    Ok(())
 }
 
 #[test]
-fn cut_short(rt: HostRuntime) {
+fn wipes_and_splits_come_back(rt: HostRuntime) -> Result<(), Fail> {
+    let a = key("a")?;
+    let gone = Op::Remove { key: a };
+    let span = KeySpan::new(a, None).ok_or("a span")?;
+    let wipe = Request::Wipe { span };
+    assert!(rt; comes_back(rt.alloc(), &wipe, &Reply::Count(1), &gone)?);
+    let right = RangeId::new(4).ok_or("a range")?;
+    let split = Request::Split { key: a };
+    assert!(rt; comes_back(rt.alloc(), &split, &Reply::Range(right), &gone)?);
+    Ok(())
+}
+
+#[test]
+fn places_of_version_1(rt: HostRuntime) {
     assert!(rt; bad(rt.alloc(), &[], 0));
-    assert!(rt; bad(rt.alloc(), &PUT[..1], 1));
     assert!(rt; bad(rt.alloc(), &PUT[..28], 27));
-    assert!(rt; bad(rt.alloc(), &PUT[..38], 38));
-    assert!(rt; bad(rt.alloc(), &PUT[..39], 39));
     assert!(rt; bad(rt.alloc(), &PUT[..50], 43));
-}
-
-#[test]
-fn outside_their_forms(rt: HostRuntime) {
-    assert!(rt; bad_with(rt.alloc(), 0, 2, 0));
+    assert!(rt; bad_with(rt.alloc(), 0, 3, 0));
     assert!(rt; bad_with(rt.alloc(), 1, 3, 1));
-    assert!(rt; bad_with(rt.alloc(), 26, 8, 26));
-    assert!(rt; bad_with(rt.alloc(), 27, 0, 27));
-    assert!(rt; bad_with(rt.alloc(), 27, 17, 27));
     assert!(rt; bad_with(rt.alloc(), 28, 0x41, 27));
-    assert!(rt; bad_with(rt.alloc(), 37, 6, 37));
-    assert!(rt; bad_with(rt.alloc(), 38, 1, 48));
     assert!(rt; bad_with(rt.alloc(), 38, 2, 38));
     assert!(rt; bad_with(rt.alloc(), 39, 17, 39));
-    assert!(rt; bad_with(rt.alloc(), 39, 0, 40));
 }
 
 #[test]
-fn bytes_behind(rt: HostRuntime) {
-    let mut bytes = [0; 52];
-    bytes[..51].copy_from_slice(&PUT);
-    assert!(rt; bad(rt.alloc(), &bytes, 51));
-    assert!(rt; bad(rt.alloc(), &[1, 0, 1, 0], 2));
+fn places_of_version_2(rt: HostRuntime) {
+    assert!(rt; bad_text_with(rt.alloc(), 0, 1, 38));
+    assert!(rt; bad_text_with(rt.alloc(), 1, 2, 1));
+    assert!(rt; bad_text_with(rt.alloc(), 29, 2, 29));
+    assert!(rt; bad_text_with(rt.alloc(), 30, 65, 30));
+    assert!(rt; bad_text_with(rt.alloc(), 31, 32, 30));
+    assert!(rt; bad_text_with(rt.alloc(), 34, 2, 34));
+    assert!(rt; bad(rt.alloc(), &PUT_TEXT[..42], 40));
 }

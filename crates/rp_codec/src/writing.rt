@@ -1,12 +1,17 @@
-ghost use Rattle.std.specs.Prelude.{◌≡◌, ◌<◌, ◌^◌, ◌≤◌, ◌∷◌, ◌++◌, [], length, IfOk, OnOk};
+//! Payloads, written as bytes.
+ghost use Rattle.std.specs.Prelude.{◌≡◌, ◌<◌, ◌^◌, ◌≤◌, ◌∷◌, ◌++◌, [], length, Bool, Some, IfOk, OnOk};
 ghost use Rattle.std.specs.List.{flat_map, AllByRecursion};
 ghost use Rattle.std.specs.Int.{w64, to_be_bytes};
 ghost use Rattle.rp_base.specs.Keys.{IsKey};
-ghost use Rattle.rp_request.specs.Fits.{FitsValue, FitsOption, FitsEnd, FitsSpan, FitsRequest, FitsReply, FitsOp, FitsBatch, FitsId, FitsCommand, FitsAsk, FitsPayload};
+ghost use Rattle.rp_base.specs.Values.{IsValue};
+ghost use Rattle.rp_base.specs.ShortTexts.{IsText};
+ghost use Rattle.rp_request.specs.Texts.{payload_has_text};
+ghost use Rattle.rp_request.specs.Fits.{FitsOption, FitsEnd, FitsSpan, FitsRequest, FitsReply, FitsOp, FitsBatch, FitsId, FitsCommand, FitsAsk, FitsPayload};
 ghost use Rattle.rp_codec.specs.Reading.{payload_in};
-ghost use Rattle.rp_codec.specs.Spelling.{value_bytes, key_bytes, option_bytes, end_bytes, span_bytes, request_bytes, reply_bytes, op_bytes, batch_bytes, id_bytes, command_bytes, ask_bytes, spelling};
+ghost use Rattle.rp_codec.specs.Spelling.{text_bytes, tagged_bytes, plain_bytes, value_bytes, key_bytes, option_bytes, end_bytes, span_bytes, request_bytes, reply_bytes, op_bytes, batch_bytes, id_bytes, command_bytes, ask_bytes, payload_bytes, spelling};
 
-use rp_base::{Bytes, CmdId, Key, KeySpan, LeaseAsk, NoMemory, RangeId};
+use crate::texts::payload_has_text;
+use rp_base::{Bytes, CmdId, Key, KeySpan, LeaseAsk, NoMemory, RangeId, ShortText, Value};
 use rp_request::{Batch, Command, Op, Payload, Reply, Request};
 use std::alloc::Global;
 
@@ -18,12 +23,61 @@ fn push_number(out: &mut Vec<u8>, number: u64) -> Result<(), NoMemory>
     Ok(())
 }
 
-#[tactic(auto, unfolding(crate::specs::Spelling::value_bytes))]
-fn push_value(out: &mut Vec<u8>, value: u64) -> Result<(), NoMemory>
-    ensures bytes { OnOk result (out.new.items ≡ out.old.items ++ value_bytes value) }
-    ensures fits { OnOk result (FitsValue value) }
+#[tactic(auto, unfolding(crate::specs::Spelling::text_bytes))]
+fn push_text(out: &mut Vec<u8>, text: &ShortText) -> Result<(), NoMemory>
+    ensures bytes { OnOk result (out.new.items ≡ out.old.items ++ text_bytes text.now) }
+    ensures fits { OnOk result (IsText text.now) }
 {
-    push_number(out, value)
+    out.push(text.len())?;
+    out.extend_from_slice(text.as_bytes())?;
+    Ok(())
+}
+
+/// Appends a value with its kind.
+#[tactic(auto, unfolding(crate::specs::Spelling::tagged_bytes))]
+fn push_tagged(out: &mut Vec<u8>, value: &Value) -> Result<(), NoMemory>
+    ensures bytes { OnOk result (out.new.items ≡ out.old.items ++ tagged_bytes value.now) }
+    ensures fits { OnOk result (IsValue value.now) }
+{
+    match value {
+        Value::Number(number) => {
+            out.push(0)?;
+            push_number(out, *number)
+        }
+        Value::Text(text) => {
+            out.push(1)?;
+            push_text(out, text)
+        }
+    }
+}
+
+/// Appends a value without its kind: a number, or nothing for a text.
+#[tactic(auto, unfolding(crate::specs::Spelling::plain_bytes))]
+fn push_plain(out: &mut Vec<u8>, value: &Value) -> Result<(), NoMemory>
+    ensures bytes { OnOk result (out.new.items ≡ out.old.items ++ plain_bytes value.now) }
+    ensures fits { OnOk result (IsValue value.now) }
+{
+    match value {
+        Value::Number(number) => push_number(out, *number),
+        Value::Text(text) => {
+            // No byte of a text is written; its bytes are good ones all the same.
+            let _good = text.as_bytes();
+            Ok(())
+        }
+    }
+}
+
+/// Appends a value, with its kind where texts may stand.
+#[tactic(auto, unfolding(crate::specs::Spelling::value_bytes))]
+fn push_value(out: &mut Vec<u8>, texts: bool, value: &Value) -> Result<(), NoMemory>
+    ensures bytes { OnOk result (out.new.items ≡ out.old.items ++ value_bytes texts value.now) }
+    ensures fits { OnOk result (IsValue value.now) }
+{
+    if texts {
+        push_tagged(out, value)
+    } else {
+        push_plain(out, value)
+    }
 }
 
 #[tactic(auto, unfolding(crate::specs::Spelling::key_bytes))]
@@ -39,15 +93,15 @@ fn push_key(out: &mut Vec<u8>, key: Key) -> Result<(), NoMemory>
 }
 
 #[tactic(auto, unfolding(crate::specs::Spelling::option_bytes))]
-fn push_option(out: &mut Vec<u8>, option: Option<u64>) -> Result<(), NoMemory>
-    ensures bytes { OnOk result (out.new.items ≡ out.old.items ++ option_bytes option) }
-    ensures fits { OnOk result (FitsOption option) }
+fn push_option(out: &mut Vec<u8>, texts: bool, option: &Option<Value>) -> Result<(), NoMemory>
+    ensures bytes { OnOk result (out.new.items ≡ out.old.items ++ option_bytes texts option.now) }
+    ensures fits { OnOk result (FitsOption option.now) }
 {
     match option {
         None => out.push(0)?,
         Some(value) => {
             out.push(1)?;
-            push_value(out, value)?;
+            push_value(out, texts, value)?;
         }
     }
     Ok(())
@@ -86,13 +140,19 @@ fn push_span(out: &mut Vec<u8>, span: KeySpan) -> Result<(), NoMemory>
 }
 
 /// Appends a tag, a key and a value.
-fn push_with_value(out: &mut Vec<u8>, tag: u8, key: Key, value: u64) -> Result<(), NoMemory>
-    ensures bytes { OnOk result (out.new.items ≡ out.old.items ++ tag ∷ (key_bytes key ++ value_bytes value)) }
-    ensures fits { OnOk result (IsKey key × FitsValue value) }
+fn push_with_value(
+    out: &mut Vec<u8>,
+    texts: bool,
+    tag: u8,
+    key: Key,
+    value: &Value,
+) -> Result<(), NoMemory>
+    ensures bytes { OnOk result (out.new.items ≡ out.old.items ++ tag ∷ (key_bytes key ++ value_bytes texts value.now)) }
+    ensures fits { OnOk result (IsKey key × IsValue value.now) }
 {
     out.push(tag)?;
     push_key(out, key)?;
-    push_value(out, value)
+    push_value(out, texts, value)
 }
 
 /// Appends a tag and a key.
@@ -115,7 +175,7 @@ fn push_with_number(out: &mut Vec<u8>, tag: u8, number: u64) -> Result<(), NoMem
 
 #[tactic(auto, unfolding(crate::specs::Spelling::request_bytes))]
 fn push_add(out: &mut Vec<u8>, key: Key, by: u64) -> Result<(), NoMemory>
-    ensures bytes { OnOk result (out.new.items ≡ out.old.items ++ request_bytes (Request.Add key by)) }
+    ensures bytes { OnOk result (out.new.items ≡ out.old.items ++ 2 ∷ (key_bytes key ++ to_be_bytes w64 by)) }
     ensures fits { OnOk result (FitsRequest (Request.Add key by)) }
 {
     push_with_key(out, 2, key)?;
@@ -123,18 +183,24 @@ fn push_add(out: &mut Vec<u8>, key: Key, by: u64) -> Result<(), NoMemory>
 }
 
 #[tactic(auto, unfolding(crate::specs::Spelling::request_bytes))]
-fn push_cput(out: &mut Vec<u8>, key: Key, expect: Option<u64>, value: u64) -> Result<(), NoMemory>
-    ensures bytes { OnOk result (out.new.items ≡ out.old.items ++ request_bytes (Request.CPut key expect value)) }
-    ensures fits { OnOk result (FitsRequest (Request.CPut key expect value)) }
+fn push_cput(
+    out: &mut Vec<u8>,
+    texts: bool,
+    key: Key,
+    expect: &Option<Value>,
+    value: &Value,
+) -> Result<(), NoMemory>
+    ensures bytes { OnOk result (out.new.items ≡ out.old.items ++ request_bytes texts (Request.CPut key expect.now value.now)) }
+    ensures fits { OnOk result (FitsRequest (Request.CPut key expect.now value.now)) }
 {
     push_with_key(out, 3, key)?;
-    push_option(out, expect)?;
-    push_value(out, value)
+    push_option(out, texts, expect)?;
+    push_value(out, texts, value)
 }
 
 #[tactic(auto, unfolding(crate::specs::Spelling::request_bytes))]
 fn push_wipe(out: &mut Vec<u8>, span: KeySpan) -> Result<(), NoMemory>
-    ensures bytes { OnOk result (out.new.items ≡ out.old.items ++ request_bytes (Request.Wipe span)) }
+    ensures bytes { OnOk result (out.new.items ≡ out.old.items ++ 5 ∷ span_bytes span) }
     ensures fits { OnOk result (FitsRequest (Request.Wipe span)) }
 {
     out.push(5)?;
@@ -143,7 +209,7 @@ fn push_wipe(out: &mut Vec<u8>, span: KeySpan) -> Result<(), NoMemory>
 
 #[tactic(auto, unfolding(crate::specs::Spelling::request_bytes))]
 fn push_move(out: &mut Vec<u8>, from: Key, to: Key, by: u64) -> Result<(), NoMemory>
-    ensures bytes { OnOk result (out.new.items ≡ out.old.items ++ request_bytes (Request.Move from to by)) }
+    ensures bytes { OnOk result (out.new.items ≡ out.old.items ++ 6 ∷ (key_bytes from ++ key_bytes to ++ to_be_bytes w64 by)) }
     ensures fits { OnOk result (FitsRequest (Request.Move from to by)) }
 {
     push_with_key(out, 6, from)?;
@@ -152,33 +218,33 @@ fn push_move(out: &mut Vec<u8>, from: Key, to: Key, by: u64) -> Result<(), NoMem
 }
 
 #[tactic(auto, unfolding(crate::specs::Spelling::request_bytes))]
-fn push_request(out: &mut Vec<u8>, request: Request) -> Result<(), NoMemory>
-    ensures bytes { OnOk result (out.new.items ≡ out.old.items ++ request_bytes request) }
-    ensures fits { OnOk result (FitsRequest request) }
+fn push_request(out: &mut Vec<u8>, texts: bool, request: &Request) -> Result<(), NoMemory>
+    ensures bytes { OnOk result (out.new.items ≡ out.old.items ++ request_bytes texts request.now) }
+    ensures fits { OnOk result (FitsRequest request.now) }
 {
     match request {
-        Request::Put { key, value } => push_with_value(out, 1, key, value),
-        Request::Add { key, by } => push_add(out, key, by),
-        Request::CPut { key, expect, value } => push_cput(out, key, expect, value),
-        Request::Del { key } => push_with_key(out, 4, key),
-        Request::Wipe { span } => push_wipe(out, span),
-        Request::Move { from, to, by } => push_move(out, from, to, by),
-        Request::Split { key } => push_with_key(out, 7, key),
+        Request::Put { key, value } => push_with_value(out, texts, 1, *key, value),
+        Request::Add { key, by } => push_add(out, *key, *by),
+        Request::CPut { key, expect, value } => push_cput(out, texts, *key, expect, value),
+        Request::Del { key } => push_with_key(out, 4, *key),
+        Request::Wipe { span } => push_wipe(out, *span),
+        Request::Move { from, to, by } => push_move(out, *from, *to, *by),
+        Request::Split { key } => push_with_key(out, 7, *key),
     }
 }
 
 #[tactic(auto, unfolding(crate::specs::Spelling::reply_bytes))]
-fn push_old(out: &mut Vec<u8>, value: Option<u64>) -> Result<(), NoMemory>
-    ensures bytes { OnOk result (out.new.items ≡ out.old.items ++ reply_bytes (Reply.Old value)) }
-    ensures fits { OnOk result (FitsReply (Reply.Old value)) }
+fn push_old(out: &mut Vec<u8>, texts: bool, value: &Option<Value>) -> Result<(), NoMemory>
+    ensures bytes { OnOk result (out.new.items ≡ out.old.items ++ reply_bytes texts (Reply.Old value.now)) }
+    ensures fits { OnOk result (FitsReply (Reply.Old value.now)) }
 {
     out.push(1)?;
-    push_option(out, value)
+    push_option(out, texts, value)
 }
 
 #[tactic(auto, unfolding(crate::specs::Spelling::reply_bytes))]
 fn push_range(out: &mut Vec<u8>, range: RangeId) -> Result<(), NoMemory>
-    ensures bytes { OnOk result (out.new.items ≡ out.old.items ++ reply_bytes (Reply.Range range)) }
+    ensures bytes { OnOk result (out.new.items ≡ out.old.items ++ 5 ∷ range ∷ []) }
     ensures fits { OnOk result (FitsReply (Reply.Range range)) }
 {
     out.push(5)?;
@@ -188,55 +254,55 @@ fn push_range(out: &mut Vec<u8>, range: RangeId) -> Result<(), NoMemory>
 
 #[tactic(auto, unfolding(crate::specs::Spelling::reply_bytes))]
 fn push_set(out: &mut Vec<u8>) -> Result<(), NoMemory>
-    ensures { OnOk result (out.new.items ≡ out.old.items ++ reply_bytes Reply.Set) }
+    ensures { OnOk result (out.new.items ≡ out.old.items ++ 3 ∷ []) }
 {
     out.push(3)?;
     Ok(())
 }
 
 #[tactic(auto, unfolding(crate::specs::Spelling::reply_bytes))]
-fn push_reply(out: &mut Vec<u8>, reply: Reply) -> Result<(), NoMemory>
-    ensures bytes { OnOk result (out.new.items ≡ out.old.items ++ reply_bytes reply) }
-    ensures fits { OnOk result (FitsReply reply) }
+fn push_reply(out: &mut Vec<u8>, texts: bool, reply: &Reply) -> Result<(), NoMemory>
+    ensures bytes { OnOk result (out.new.items ≡ out.old.items ++ reply_bytes texts reply.now) }
+    ensures fits { OnOk result (FitsReply reply.now) }
 {
     match reply {
-        Reply::Old(value) => push_old(out, value),
-        Reply::Now(number) => push_with_number(out, 2, number),
+        Reply::Old(value) => push_old(out, texts, value),
+        Reply::Now(number) => push_with_number(out, 2, *number),
         Reply::Set => push_set(out),
-        Reply::Count(number) => push_with_number(out, 4, number),
-        Reply::Range(range) => push_range(out, range),
+        Reply::Count(number) => push_with_number(out, 4, *number),
+        Reply::Range(range) => push_range(out, *range),
     }
 }
 
 #[tactic(auto, unfolding(crate::specs::Spelling::op_bytes))]
-fn push_op(out: &mut Vec<u8>, op: Op) -> Result<(), NoMemory>
-    ensures bytes { OnOk result (out.new.items ≡ out.old.items ++ op_bytes op) }
-    ensures fits { OnOk result (FitsOp op) }
+fn push_op(out: &mut Vec<u8>, texts: bool, op: &Op) -> Result<(), NoMemory>
+    ensures bytes { OnOk result (out.new.items ≡ out.old.items ++ op_bytes texts op.now) }
+    ensures fits { OnOk result (FitsOp op.now) }
 {
     match op {
-        Op::Set { key, value } => push_with_value(out, 1, key, value),
-        Op::Remove { key } => push_with_key(out, 2, key),
+        Op::Set { key, value } => push_with_value(out, texts, 1, *key, value),
+        Op::Remove { key } => push_with_key(out, 2, *key),
     }
 }
 
-fn push_ops(out: &mut Vec<u8>, ops: &[Op]) -> Result<(), NoMemory>
-    ensures bytes { OnOk result (out.new.items ≡ out.old.items ++ flat_map op_bytes ops.now) }
+fn push_ops(out: &mut Vec<u8>, texts: bool, ops: &[Op]) -> Result<(), NoMemory>
+    ensures bytes { OnOk result (out.new.items ≡ out.old.items ++ flat_map (op_bytes texts) ops.now) }
     ensures fits { OnOk result (AllByRecursion FitsOp ops.now) }
 {
     for op in ops {
-        push_op(out, *op)?;
+        push_op(out, texts, op)?;
     }
     Ok(())
 }
 
 #[tactic(auto, unfolding(crate::specs::Spelling::batch_bytes))]
-fn push_batch(out: &mut Vec<u8>, batch: &Batch) -> Result<(), NoMemory>
-    ensures bytes { OnOk result (out.new.items ≡ out.old.items ++ batch_bytes batch.now) }
+fn push_batch(out: &mut Vec<u8>, texts: bool, batch: &Batch) -> Result<(), NoMemory>
+    ensures bytes { OnOk result (out.new.items ≡ out.old.items ++ batch_bytes texts batch.now) }
     ensures fits { OnOk result (FitsBatch batch.now) }
 {
     let ops = batch.as_slice();
     out.push(ops.len() as u8)?;
-    push_ops(out, ops)
+    push_ops(out, texts, ops)
 }
 
 /// Appends an attempt, a lease sequence and a maximum.
@@ -250,14 +316,14 @@ fn push_head(out: &mut Vec<u8>, command: &Command) -> Result<(), NoMemory>
 }
 
 #[tactic(auto, unfolding(crate::specs::Spelling::command_bytes))]
-fn push_command(out: &mut Vec<u8>, command: &Command) -> Result<(), NoMemory>
-    ensures bytes { OnOk result (out.new.items ≡ out.old.items ++ command_bytes command.now) }
+fn push_command(out: &mut Vec<u8>, texts: bool, command: &Command) -> Result<(), NoMemory>
+    ensures bytes { OnOk result (out.new.items ≡ out.old.items ++ command_bytes texts command.now) }
     ensures fits { OnOk result (FitsCommand command.now) }
 {
     push_head(out, command)?;
-    push_request(out, command.request)?;
-    push_reply(out, command.reply)?;
-    push_batch(out, &command.batch)
+    push_request(out, texts, &command.request)?;
+    push_reply(out, texts, &command.reply)?;
+    push_batch(out, texts, &command.batch)
 }
 
 #[tactic(auto, unfolding(crate::specs::Spelling::ask_bytes))]
@@ -270,17 +336,18 @@ fn push_ask(out: &mut Vec<u8>, ask: LeaseAsk) -> Result<(), NoMemory>
     push_number(out, ask.expires.get())
 }
 
-#[tactic(auto, unfolding(crate::specs::Spelling::spelling))]
-fn push_payload(out: &mut Vec<u8>, payload: &Payload) -> Result<(), NoMemory>
-    ensures bytes { OnOk result (out.new.items ≡ out.old.items ++ spelling payload.now) }
+/// Appends a payload as a version spells it.
+#[tactic(auto, unfolding(crate::specs::Spelling::payload_bytes))]
+fn push_by(out: &mut Vec<u8>, texts: bool, payload: &Payload) -> Result<(), NoMemory>
+    ensures bytes { OnOk result (out.new.items ≡ out.old.items ++ payload_bytes texts payload.now) }
     ensures fits { OnOk result (FitsPayload payload.now) }
 {
-    out.push(1)?;
+    out.push(if texts { 2 } else { 1 })?;
     match payload {
         Payload::Nothing => out.push(0)?,
         Payload::Write(command) => {
             out.push(1)?;
-            push_command(out, command)?;
+            push_command(out, texts, command)?;
         }
         Payload::Lease(ask) => {
             out.push(2)?;
@@ -290,7 +357,15 @@ fn push_payload(out: &mut Vec<u8>, payload: &Payload) -> Result<(), NoMemory>
     Ok(())
 }
 
-/// The one spelling of a payload.
+#[tactic(auto, unfolding(crate::specs::Spelling::spelling))]
+fn push_payload(out: &mut Vec<u8>, payload: &Payload) -> Result<(), NoMemory>
+    ensures bytes { OnOk result (out.new.items ≡ out.old.items ++ spelling payload.now) }
+    ensures fits { OnOk result (FitsPayload payload.now) }
+{
+    push_by(out, payload_has_text(payload), payload)
+}
+
+/// The one spelling of a payload: of version 2 where it holds a text, and else of version 1.
 pub fn encode(alloc: Global, payload: &Payload) -> Result<Bytes, NoMemory>
     ensures spelling { IfOk result (λ bytes. bytes ≡ spelling payload.now) }
     ensures fits { OnOk result (FitsPayload payload.now) }

@@ -1,5 +1,5 @@
--- What a flush makes of an inbox: what goes to Raft, in which order, and the lease index of each command
--- (CockroachDB's proposal buffer).
+-- What a flush makes of an inbox: what goes to Raft, in which order, and the lease index of each
+-- command (CockroachDB's proposal buffer).
 use Rattle.std.specs.Prelude.{ℕ, ◌+◌, max, Bool, false, ◌==◌, not, List, [], ◌∷◌, length, filter_map, Option, None, Some}
 use Rattle.std.specs.List.{filter, find}
 use Rattle.std.specs.Option.{option_map, option_map_or}
@@ -43,7 +43,8 @@ waits_under waiting seq id = option_map_or (λ s. s == seq) (seq_of waiting id) 
 abbrev pub waits_under_another : List Waiting → ℕ → CmdId → Bool
 waits_under_another waiting seq id = option_map_or (λ s. not (s == seq)) (seq_of waiting id) false
 
--- the index that the next command gets: the greater of the last one assigned and the lease applied index, plus one
+-- the index that the next command gets: the greater of the last one assigned and the lease applied
+-- index, plus one
 abbrev pub next_index : (lai assigned : ℕ) → ℕ
 next_index lai assigned = max assigned lai + 1
 
@@ -57,8 +58,8 @@ abbrev pub numbered : ℕ → List CmdId → List (CmdId × ℕ)
 numbered last [] = []
 numbered last (id ∷ ids) = (id, last + 1) ∷ numbered (last + 1) ids
 
--- what a flush proposes of an inbox under a lease sequence, where the lease applied index and the last index
--- assigned are these, and what it refuses
+-- what a flush proposes of an inbox under a lease sequence, where the lease applied index and the
+-- last index assigned are these, and what it refuses
 abbrev pub assigned_of : List Item → List Waiting → (seq lai assigned : ℕ) → Assigned
 assigned_of inbox waiting seq lai assigned =
     let ids = once (ids_of inbox) in

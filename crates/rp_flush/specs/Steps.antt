@@ -17,7 +17,10 @@ abbrev pub settled : Assigned → CmdId → (seq lai : ℕ) → Option ℕ → A
 settled a id seq lai None = a
 settled a id seq lai (Some own) =
     if own == seq
-    then record a { writes = a.writes ++ (id, next_index lai a.last) ∷ []; last = next_index lai a.last }
+    then record a {
+      writes = a.writes ++ (id, next_index lai a.last) ∷ [];
+      last = next_index lai a.last;
+    }
     else record a { refused = a.refused ++ id ∷ [] }
 
 -- with an item more

@@ -25,8 +25,8 @@ pub struct Assigned {
 }
 
 impl Assigned {
-    /// Gives a command that waits under the sequence the next index. One that waits under another is
-    /// refused, and one that does not wait is ignored.
+    /// Gives a command that waits under the sequence the next index. One that waits under another
+    /// is refused, and one that does not wait is ignored.
     fn settle(
         &mut self,
         id: CmdId,
@@ -58,8 +58,11 @@ impl Assigned {
         waiting: &mut BTreeMap<CmdId, LeaseSeq>,
     ) -> Result<(), NoMemory>
         requires { max self.old.last lai + 1 < 2 ^ 64 }
-        ensures given { OnOk result (self.new ≡ with_item self.old (get cmd_cmp waiting.old) seq lai item.now) }
-        ensures waiting { OnOk result ((id : CmdId) → get cmd_cmp waiting.new id ≡ cond (is_write_of id item.now) None (get cmd_cmp waiting.old id)) }
+        ensures given { OnOk result
+            (self.new ≡ with_item self.old (get cmd_cmp waiting.old) seq lai item.now) }
+        ensures waiting { OnOk result ((id : CmdId)
+            → get cmd_cmp waiting.new id
+            ≡ cond (is_write_of id item.now) None (get cmd_cmp waiting.old id)) }
     {
         match *item {
             Item::Lease(ask) => self.leases.push(ask),
@@ -71,11 +74,11 @@ impl Assigned {
     }
 }
 
-/// What becomes of an inbox at a flush. The lease asks go first, in the inbox's order, then the commands
-/// in its order. A command that does not wait is ignored, also where it stands a second time; one that
-/// waits under another sequence than the present lease's is refused; each other gets the greater of the
-/// last index that was assigned and the lease applied index, plus one, which is then the last assigned.
-/// Where none gets an index, the last assigned stays.
+/// What becomes of an inbox at a flush. The lease asks go first, in the inbox's order, then the
+/// commands in its order. A command that does not wait is ignored, also where it stands a second
+/// time; one that waits under another sequence than the present lease's is refused; each other gets
+/// the greater of the last index that was assigned and the lease applied index, plus one, which is
+/// then the last assigned. Where none gets an index, the last assigned stays.
 pub fn assign(
     alloc: Global,
     inbox: &Items,
@@ -85,7 +88,8 @@ pub fn assign(
     assigned: LeaseIndex,
 ) -> Result<Assigned, NoMemory>
     requires { max assigned lai + length inbox.now.list < 2 ^ 64 }
-    ensures { IfOk result (λ all. all ≡ assigned_of inbox.now.list waiting.now lease.seq lai assigned) }
+    ensures { IfOk result
+        (λ all. all ≡ assigned_of inbox.now.list waiting.now lease.seq lai assigned) }
 {
     let mut seqs = seqs_by_id(alloc, waiting.as_slice())?;
     let mut all = Assigned {

@@ -1,4 +1,5 @@
--- What latches hold, and which held span stands in the way of spans that are asked (CockroachDB's span latches).
+-- What latches hold, and which held span stands in the way of spans that are asked (CockroachDB's
+-- span latches).
 use Rattle.std.specs.Prelude.{Bool, not, List, [], ◌∷◌, Option, None, Some, Result, Ok, Err, IsFalse}
 use Rattle.std.specs.List.{find}
 use Rattle.rp_base.specs.Ids.{same_id}

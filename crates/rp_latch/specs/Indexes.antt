@@ -66,11 +66,16 @@ lesser (Some n) (Some m) = Some (min n m)
 -- the least number of the latches that pass a test, where one does
 abbrev pub IsOldest : (Latch → Bool) → List Latch → Option ℕ → Type 0
 IsOldest p ls None = IsFalse (list_any p ls)
-IsOldest p ls (Some n) = IsTrue (list_any (λ l. p l && l.number == n) ls) × IsFalse (list_any (λ l. p l && nat_lt l.number n) ls)
+IsOldest p ls (Some n) =
+    IsTrue (list_any (λ l. p l && l.number == n) ls)
+    × IsFalse (list_any (λ l. p l && nat_lt l.number n) ls)
 
--- ids stand by the command's number, then by client, then by the attempt's: later commands come last
+-- ids stand by the command's number, then by client, then by the attempt's: later commands come
+-- last
 abbrev pub id_cmp : CmdId → CmdId → Ordering
-id_cmp x y = ordering_then (nat_cmp x.seq y.seq) (ordering_then (nat_cmp x.client y.client) (nat_cmp x.attempt y.attempt))
+id_cmp x y =
+    ordering_then (nat_cmp x.seq y.seq)
+    (ordering_then (nat_cmp x.client y.client) (nat_cmp x.attempt y.attempt))
 
 -- whether the tag's id stands before this one, and whether it is this one
 abbrev pub is_before : CmdId → Tag → Bool

@@ -18,7 +18,8 @@ pub fn place_of(holds: &VecDeque<Numbered, Global>, number: u64) -> usize
     requires { AllPairs IsOlder holds.now.items }
     ensures within { result ≤ length holds.now.items }
     ensures before { AllWithin (λ h. h.number < number) holds.now.items 0 result }
-    ensures after { AllWithin (λ h. number ≤ h.number) holds.now.items result (length holds.now.items) }
+    ensures after { AllWithin
+        (λ h. number ≤ h.number) holds.now.items result (length holds.now.items) }
 {
     holds.partition_point(|numbered| numbered.number < number)
 }

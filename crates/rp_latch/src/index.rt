@@ -15,8 +15,8 @@ pub struct Latch {
     pub number: u64,
 }
 
-/// Latches that do not meet, in the order of their starts. Contracts see the list, and apart from it
-/// the spare room.
+/// Latches that do not meet, in the order of their starts. Contracts see the list, and apart from
+/// it the spare room.
 #[derive(Drop)]
 pub struct Index {
     latches: VecDeque<Latch, Global>,
@@ -31,7 +31,10 @@ impl Model for Index {
 
     ghost Value = { Kept Latch };
 
-    ghost view = { λ l. record { list = l.latches.items; spare = deque_capacity l.latches - deque_len l.latches } };
+    ghost view = { λ l. record {
+      list = l.latches.items;
+      spare = deque_capacity l.latches - deque_len l.latches;
+    } };
 
     ghost invariant = { λ l. InOrder l.latches.items };
 }
@@ -72,7 +75,8 @@ impl Index {
     fn starts_below(&self, bound: u128) -> usize
         ensures within { result ≤ length self.now.list }
         ensures before { AllWithin (λ l. l.span.start < bound) self.now.list 0 result }
-        ensures after { AllWithin (λ l. bound ≤ l.span.start) self.now.list result (length self.now.list) }
+        ensures after { AllWithin
+            (λ l. bound ≤ l.span.start) self.now.list result (length self.now.list) }
     {
         self.latches
             .partition_point(|latch| latch.span.start < bound)
@@ -82,14 +86,15 @@ impl Index {
     fn ends_by(&self, bound: u128) -> usize
         ensures within { result ≤ length self.now.list }
         ensures before { AllWithin (λ l. l.span.end ≤ bound) self.now.list 0 result }
-        ensures after { AllWithin (λ l. bound < l.span.end) self.now.list result (length self.now.list) }
+        ensures after { AllWithin
+            (λ l. bound < l.span.end) self.now.list result (length self.now.list) }
     {
         self.latches
             .partition_point(|latch| latch.span.end <= bound)
     }
 
-    /// The least number of the latches that meet the span. Those stand side by side, and no others are
-    /// gone through.
+    /// The least number of the latches that meet the span. Those stand side by side, and no others
+    /// are gone through.
     pub fn oldest(&self, span: Span) -> Option<u64>
         ensures { IsOldest (latch_meets span) self.now.list result }
     {
@@ -106,7 +111,8 @@ impl Index {
     pub fn put(&mut self, latch: Latch)
         requires room { 1 ≤ self.old.spare }
         requires clear { IsFalse (some_meet self.old.list latch.span) }
-        ensures list { (p : Latch → Bool) → count_by p self.new.list ≡ count_by p self.old.list + cond (p latch) 1 0 }
+        ensures list { (p : Latch → Bool) → count_by p self.new.list
+            ≡ count_by p self.old.list + cond (p latch) 1 0 }
         ensures spare { self.old.spare ≤ self.new.spare + 1 }
     {
         let at = self.starts_below(latch.span.end);
@@ -116,7 +122,8 @@ impl Index {
     /// Takes a latch out.
     pub fn remove(&mut self, latch: Latch)
         requires { IsTrue (list_any (is_latch latch) self.old.list) }
-        ensures list { (p : Latch → Bool) → count_by p self.new.list + cond (p latch) 1 0 ≡ count_by p self.old.list }
+        ensures list { (p : Latch → Bool) → count_by p self.new.list + cond (p latch) 1 0
+            ≡ count_by p self.old.list }
         ensures spare { self.old.spare ≤ self.new.spare }
     {
         let at = self.starts_below(latch.span.start);

@@ -40,7 +40,8 @@ impl Model for Latches {
 
     ghost view = { λ l. record {
       list = map hold_of l.holds.items;
-      spare = min (deque_capacity l.holds - deque_len l.holds) (min l.firsts.spare (min l.seconds.spare (min l.tags.spare (2 ^ 64 - 1 - l.next))));
+      spare = min (deque_capacity l.holds - deque_len l.holds)
+          (min l.firsts.spare (min l.seconds.spare (min l.tags.spare (2 ^ 64 - 1 - l.next))));
     } };
 
     ghost invariant = { λ l. record {
@@ -80,7 +81,8 @@ fn oldest(firsts: &Index, seconds: &Index, asked: Spans) -> Option<u64>
 fn put_second(index: &mut Index, number: u64, second: Option<Span>)
     requires room { 1 ≤ index.old.spare }
     requires clear { IsClear index.old.list second }
-    ensures list { (p : Latch → Bool) → count_by p index.new.list ≡ count_by p index.old.list + cond (passes p (latch_at number second)) 1 0 }
+    ensures list { (p : Latch → Bool) → count_by p index.new.list
+        ≡ count_by p index.old.list + cond (passes p (latch_at number second)) 1 0 }
     ensures spare { index.old.spare ≤ index.new.spare + 1 }
 {
     if let Some(span) = second {
@@ -91,7 +93,9 @@ fn put_second(index: &mut Index, number: u64, second: Option<Span>)
 /// Takes the latch of a second span out, where there is one.
 fn remove_second(index: &mut Index, number: u64, second: Option<Span>)
     requires { IsThere index.old.list (latch_at number second) }
-    ensures list { (p : Latch → Bool) → count_by p index.new.list + cond (passes p (latch_at number second)) 1 0 ≡ count_by p index.old.list }
+    ensures list { (p : Latch → Bool)
+        → count_by p index.new.list + cond (passes p (latch_at number second)) 1 0
+        ≡ count_by p index.old.list }
     ensures spare { index.old.spare ≤ index.new.spare }
 {
     if let Some(span) = second {
@@ -130,7 +134,8 @@ impl Latches {
         Ok(())
     }
 
-    /// The oldest hold that meets the spans asked, and of its spans the first that does, by binary search.
+    /// The oldest hold that meets the spans asked, and of its spans the first that does, by binary
+    /// search.
     pub fn conflict(&self, asked: Spans) -> Option<Held>
         ensures { result ≡ conflict self.now.list asked }
     {
@@ -144,12 +149,13 @@ impl Latches {
         }
     }
 
-    /// Holds the spans for the attempt, without memory. `Held` exactly where a held span meets one of
-    /// these, whoever holds it; then nothing changes.
+    /// Holds the spans for the attempt, without memory. `Held` exactly where a held span meets one
+    /// of these, whoever holds it; then nothing changes.
     pub fn hold(&mut self, id: CmdId, spans: Spans) -> Result<(), Held>
         requires { 1 ≤ self.old.spare }
         ensures answer { result ≡ answer self.old.list spans }
-        ensures ok { OnOk result (self.new.list ≡ self.old.list ++ record { id = id; spans = spans } ∷ []) }
+        ensures ok { OnOk result (self.new.list
+            ≡ self.old.list ++ record { id = id; spans = spans } ∷ []) }
         ensures err { OnErr result (self.new.list ≡ self.old.list) }
         ensures spare { self.old.spare ≤ self.new.spare + 1 }
         ensures refused { OnErr result (self.old.spare ≤ self.new.spare) }
@@ -172,7 +178,8 @@ impl Latches {
 
     /// Frees one hold of the attempt, where it has one.
     fn free_one(&mut self, id: CmdId) -> bool
-        ensures kept { filter (is_of_other id) self.new.list ≡ filter (is_of_other id) self.old.list }
+        ensures kept { filter (is_of_other id) self.new.list
+            ≡ filter (is_of_other id) self.old.list }
         ensures none { result ≡ false → self.new.list ≡ filter (is_of_other id) self.old.list }
         ensures fewer { result ≡ true → length self.new.list < length self.old.list }
         ensures spare { self.old.spare ≤ self.new.spare }
@@ -212,9 +219,11 @@ impl Latches {
 
     /// No two holds meet, so neither do those of two attempts. A law, which no program calls.
     pub fn holds_are_apart(&self)
-        ensures places { (i : ℕ) (j : ℕ) (x : Hold) (y : Hold) → i ≢ j → slice_get self.now.list i ≡ Some x → slice_get self.now.list j ≡ Some y
+        ensures places { (i : ℕ) (j : ℕ) (x : Hold) (y : Hold) → i ≢ j
+            → slice_get self.now.list i ≡ Some x → slice_get self.now.list j ≡ Some y
             → IsFalse (any_meet x.spans y.spans) }
-        ensures ids { (i : ℕ) (j : ℕ) (x : Hold) (y : Hold) → x.id ≢ y.id → slice_get self.now.list i ≡ Some x → slice_get self.now.list j ≡ Some y
+        ensures ids { (i : ℕ) (j : ℕ) (x : Hold) (y : Hold) → x.id ≢ y.id
+            → slice_get self.now.list i ≡ Some x → slice_get self.now.list j ≡ Some y
             → IsFalse (any_meet x.spans y.spans) }
     {
         let _ = &self.holds;

@@ -31,7 +31,10 @@ impl Model for Tags {
 
     ghost Value = { Kept Tag };
 
-    ghost view = { λ t. record { list = t.tags.items; spare = deque_capacity t.tags - deque_len t.tags } };
+    ghost view = { λ t. record {
+      list = t.tags.items;
+      spare = deque_capacity t.tags - deque_len t.tags;
+    } };
 
     ghost invariant = { λ t. ById t.tags.items };
 }
@@ -73,7 +76,8 @@ impl Tags {
     fn place_of(&self, id: CmdId) -> usize
         ensures within { result ≤ length self.now.list }
         ensures before { AllWithin (λ t. IsTrue (is_before id t)) self.now.list 0 result }
-        ensures after { AllWithin (λ t. IsFalse (is_before id t)) self.now.list result (length self.now.list) }
+        ensures after { AllWithin
+            (λ t. IsFalse (is_before id t)) self.now.list result (length self.now.list) }
     {
         self.tags.partition_point(|tag| is_before(id, tag))
     }
@@ -81,7 +85,8 @@ impl Tags {
     /// Puts a tag in, without memory.
     pub fn put(&mut self, tag: Tag)
         requires room { 1 ≤ self.old.spare }
-        ensures list { (p : Tag → Bool) → count_by p self.new.list ≡ count_by p self.old.list + cond (p tag) 1 0 }
+        ensures list { (p : Tag → Bool) → count_by p self.new.list
+            ≡ count_by p self.old.list + cond (p tag) 1 0 }
         ensures spare { self.old.spare ≤ self.new.spare + 1 }
     {
         let at = self.place_of(tag.id);
@@ -93,7 +98,8 @@ impl Tags {
         ensures none { IfNone result (IsFalse (list_any (has_id id) self.old.list)) }
         ensures same { IfNone result (self.new.list ≡ self.old.list) }
         ensures id { IfSome result (λ tag. IsTrue (has_id id tag)) }
-        ensures list { IfSome result (λ tag. (p : Tag → Bool) → count_by p self.new.list + cond (p tag) 1 0 ≡ count_by p self.old.list) }
+        ensures list { IfSome result (λ tag. (p : Tag → Bool)
+            → count_by p self.new.list + cond (p tag) 1 0 ≡ count_by p self.old.list) }
         ensures spare { self.old.spare ≤ self.new.spare }
     {
         let at = self.place_of(id);

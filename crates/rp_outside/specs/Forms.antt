@@ -27,7 +27,8 @@ told_if whole bytes = if whole then Some bytes else None
 
 -- what is told of the bytes taken once these have come: where they have no room, nothing
 abbrev pub held_with : Store → List ℕ → Option (List ℕ)
-held_with s bytes = if nat_le (length bytes) s.spare then option_map (λ held. held ++ bytes) s.held else None
+held_with s bytes =
+    if nat_le (length bytes) s.spare then option_map (λ held. held ++ bytes) s.held else None
 
 -- a count goes up by one, and stands still at its type's end
 abbrev pub count_up : ℕ → ℕ
@@ -46,7 +47,11 @@ fails_next t = list_any (λ n. n == t.calls + 1) t.fails
 -- one call more came, with a fault or without
 abbrev pub after_call : Troubles → Bool → Troubles
 after_call t failed =
-    record { fails = t.fails; calls = count_up t.calls; faults = (if failed then count_up t.faults else t.faults) }
+    record {
+      fails = t.fails;
+      calls = count_up t.calls;
+      faults = (if failed then count_up t.faults else t.faults);
+    }
 
 -- a source of which some calls fail
 pub record FailingFeed : Type 0 where

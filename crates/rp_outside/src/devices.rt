@@ -24,8 +24,8 @@ pub trait Source {
     // How many faults it had. It never falls.
     ghost faults: { Self → ℕ };
 
-    /// Puts the next bytes in the front of the buffer and answers how many. 0 for a buffer that is not
-    /// empty is the end. `Failed` changes nothing of what is left, nor whether that is told.
+    /// Puts the next bytes in the front of the buffer and answers how many. 0 for a buffer that is
+    /// not empty is the end. `Failed` changes nothing of what is left, nor whether that is told.
     fn read(&mut self, buf: &mut [u8]) -> Result<usize, Failed>
         ensures within { IfOk result (λ n. n ≤ length buf.new) }
         ensures comes { IfOk result (λ n. Comes (left self.old) (take n buf.new) (left self.new)) }
@@ -44,8 +44,8 @@ pub trait Sink {
     // How many faults it had. It never falls.
     ghost faults: { Self → ℕ };
 
-    /// Takes the first bytes of the piece and answers how many, at least 1 of a piece that is not empty.
-    /// `Failed` changes nothing of what is held, nor whether that is told.
+    /// Takes the first bytes of the piece and answers how many, at least 1 of a piece that is not
+    /// empty. `Failed` changes nothing of what is held, nor whether that is told.
     fn write(&mut self, piece: &[u8]) -> Result<usize, Failed>
         ensures within { IfOk result (λ n. n ≤ length piece.now) }
         ensures some { IfOk result (λ n. 0 < length piece.now → 0 < n) }

@@ -9,8 +9,8 @@ use std::alloc::Global;
 use std::io::Write;
 use std::marker::Model;
 
-/// A sink in memory that has no fault. Contracts see the bytes taken, and its room. Bytes for which it
-/// has no room it takes and forgets, and from then on it tells nothing of what it holds.
+/// A sink in memory that has no fault. Contracts see the bytes taken, and its room. Bytes for which
+/// it has no room it takes and forgets, and from then on it tells nothing of what it holds.
 #[derive(Drop)]
 pub struct SoundSink {
     bytes: Grown<u8>,
@@ -24,7 +24,11 @@ impl Model for SoundSink {
 
     ghost Value = { Store };
 
-    ghost view = { λ s. record { held = told_if s.whole s.bytes.list; piece = s.piece; spare = s.bytes.spare } };
+    ghost view = { λ s. record {
+      held = told_if s.whole s.bytes.list;
+      piece = s.piece;
+      spare = s.bytes.spare;
+    } };
 
     ghost invariant = { λ s. 1 ≤ s.piece };
 }
@@ -88,8 +92,8 @@ impl Sink for SoundSink {
     }
 }
 
-/// A sink in memory of which the calls whose numbers stand in a list fail, and those whose bytes have
-/// no room. Contracts see the bytes taken, its room, and the calls and faults so far.
+/// A sink in memory of which the calls whose numbers stand in a list fail, and those whose bytes
+/// have no room. Contracts see the bytes taken, its room, and the calls and faults so far.
 #[derive(Drop)]
 pub struct MemorySink {
     bytes: Grown<u8>,
@@ -103,7 +107,12 @@ impl Model for MemorySink {
 
     ghost Value = { FailingStore };
 
-    ghost view = { λ s. record { held = s.bytes.list; piece = s.piece; spare = s.bytes.spare; troubles = s.schedule } };
+    ghost view = { λ s. record {
+      held = s.bytes.list;
+      piece = s.piece;
+      spare = s.bytes.spare;
+      troubles = s.schedule;
+    } };
 
     ghost invariant = { λ s. 1 ≤ s.piece };
 }
@@ -220,10 +229,12 @@ impl<W: Write> Sink for StdSink<W> {
 
     fn write(&mut self, piece: &[u8]) -> Result<usize, Failed>
         // The bytes go to the writer, where it tells what it holds.
-        ensures bytes { WriteAppends (W.contents self.old.inner) (W.contents self.new.inner) result piece.now }
+        ensures bytes { WriteAppends
+            (W.contents self.old.inner) (W.contents self.new.inner) result piece.now }
         ensures within { IfOk result (λ n. n ≤ length piece.now) }
         ensures some { IfOk result (λ n. 0 < length piece.now → 0 < n) }
-        ensures count { self.new.faults ≡ (if is_err result then count_up self.old.faults else self.old.faults) }
+        ensures count { self.new.faults
+            ≡ (if is_err result then count_up self.old.faults else self.old.faults) }
         ensures faults { self.old.faults ≤ self.new.faults }
     {
         match self.writer.write(piece) {

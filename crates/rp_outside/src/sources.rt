@@ -9,7 +9,8 @@ use rp_base::{Bytes, Calls};
 use std::io::Read;
 use std::marker::Model;
 
-/// A source in memory that has no fault. Contracts see what is left, and the most that a call gives.
+/// A source in memory that has no fault. Contracts see what is left, and the most that a call
+/// gives.
 #[derive(Drop)]
 pub struct SoundSource {
     tape: Tape,
@@ -117,7 +118,8 @@ impl Source for MemorySource {
         ensures fails { is_err result ≡ fails_next self.old.troubles }
         ensures ok { IfOk result (λ n. Reads self.old.feed buf.old n buf.new self.new.feed) }
         ensures within { IfOk result (λ n. n ≤ length buf.new) }
-        ensures comes { IfOk result (λ n. self.old.feed.left ≡ take n buf.new ++ self.new.feed.left) }
+        ensures comes { IfOk result
+            (λ n. self.old.feed.left ≡ take n buf.new ++ self.new.feed.left) }
         ensures end { IfOk result (λ n. n ≡ 0 → 0 < length buf.new → self.new.feed.left ≡ []) }
         ensures err { OnErr result (self.new.feed ≡ self.old.feed) }
         ensures buffer { OnErr result (buf.new ≡ buf.old) }
@@ -172,9 +174,11 @@ impl<R: Read> Source for StdSource<R> {
 
     fn read(&mut self, buf: &mut [u8]) -> Result<usize, Failed>
         // The bytes are the reader's, where it tells them.
-        ensures bytes { ReadConsumes (R.remaining self.old.inner) (R.remaining self.new.inner) result buf.new }
+        ensures bytes { ReadConsumes
+            (R.remaining self.old.inner) (R.remaining self.new.inner) result buf.new }
         ensures within { IfOk result (λ n. n ≤ length buf.new) }
-        ensures count { self.new.faults ≡ (if is_err result then count_up self.old.faults else self.old.faults) }
+        ensures count { self.new.faults
+            ≡ (if is_err result then count_up self.old.faults else self.old.faults) }
         ensures faults { self.old.faults ≤ self.new.faults }
     {
         match self.reader.read(buf) {

@@ -33,7 +33,8 @@ impl Tape {
         &self.bytes.as_slice()[self.at..]
     }
 
-    /// Puts the next bytes in the front of the buffer, as many as are left and fit, at most `piece`.
+    /// Puts the next bytes in the front of the buffer, as many as are left and fit, at most
+    /// `piece`.
     pub(crate) fn give(&mut self, piece: usize, buf: &mut [u8]) -> usize
         ensures count { result ≡ min piece (min (length buf.old) (length self.old)) }
         ensures given { buf.new ≡ take result self.old ++ drop result buf.old }

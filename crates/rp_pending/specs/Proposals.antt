@@ -30,7 +30,8 @@ first_time (Some first) round = Some first
 
 -- a flush or a refresh proposes it under a lease index, at a tick and in a round of the node
 abbrev pub proposed : ℕ → ℕ → ℕ → Proposal → Proposal
-proposed max now round p = record p { max = max; stage = stages.Proposed; since = now; round = first_time p.round round }
+proposed max now round p =
+    record p { max = max; stage = stages.Proposed; since = now; round = first_time p.round round }
 
 -- it waits for a lease index again
 abbrev pub waiting_again : Proposal → Proposal

@@ -24,7 +24,9 @@ goes_back lai p = is_proposed p.stage && nat_le p.max lai
 
 -- it may have been lost, and is proposed again: at a refresh of all at once, else after five ticks
 abbrev pub goes_again : ℕ → ℕ → Bool → Proposal → Bool
-goes_again lai now all p = is_proposed p.stage && nat_lt lai p.max && (all || nat_le 5 (now - p.since))
+goes_again lai now all p =
+    is_proposed p.stage && nat_lt lai p.max
+    && (all || nat_le 5 (now - p.since))
 
 -- before the first item whose key is not below its own
 abbrev pub put_by : {X : Type 0} → (X → ℕ) → X → List X → List X

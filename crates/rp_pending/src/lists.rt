@@ -95,7 +95,8 @@ impl Pending {
         }
     }
 
-    /// The proposal with this id is proposed under a lease index. The round is kept where it has one.
+    /// The proposal with this id is proposed under a lease index. The round is kept where it has
+    /// one.
     pub fn propose(&mut self, id: CmdId, max: LeaseIndex, now: Tick, round: u64)
         requires { IsSome (proposal_of id self.old.list) }
         ensures list { self.new.list ≡ with_changed id (proposed max now round) self.old.list }
@@ -113,7 +114,8 @@ impl Pending {
         change(&mut self.slots, id, Change::WaitAgain);
     }
 
-    /// The least round at which a pending proposal was flushed first, `None` where none was flushed.
+    /// The least round at which a pending proposal was flushed first, `None` where none was
+    /// flushed.
     pub fn first_round(&self) -> Option<u64>
         ensures { result ≡ first_round self.now.list }
     {
@@ -135,9 +137,9 @@ impl Pending {
     }
 
     /// What a refresh is to do at a tick, under this lease applied index (CockroachDB's refresh of
-    /// pending commands). Of the Proposed ones, those whose maximum is at or below the index go back
-    /// to wait. Of the others all, or else those that were proposed five ticks ago or more, are
-    /// proposed again. Both lists are by ascending maximum, equal ones in order of admission.
+    /// pending commands). Of the Proposed ones, those whose maximum is at or below the index go
+    /// back to wait. Of the others all, or else those that were proposed five ticks ago or more,
+    /// are proposed again. Both lists are by ascending maximum, equal ones in order of admission.
     pub fn to_refresh(&self, lai: LeaseIndex, now: Tick, all: bool) -> Result<Refresh, NoMemory>
         ensures { IfOk result (λ r. r ≡ to_refresh lai now all self.now.list) }
     {

@@ -186,7 +186,8 @@ fn again_in(slot: &Option<Proposal>, lai: LeaseIndex, now: Tick, all: bool) -> O
 }
 
 fn back_dues(slots: &Slots, lai: LeaseIndex) -> Result<Vec<Due>, AllocError>
-    ensures { IfOk result (λ v. v.items ≡ filter_map (back_due lai) (proposals_in slots.now.entries)) }
+    ensures { IfOk result
+        (λ v. v.items ≡ filter_map (back_due lai) (proposals_in slots.now.entries)) }
 {
     let alloc = *slots.allocator();
     slots
@@ -196,7 +197,8 @@ fn back_dues(slots: &Slots, lai: LeaseIndex) -> Result<Vec<Due>, AllocError>
 }
 
 fn again_dues(slots: &Slots, lai: LeaseIndex, now: Tick, all: bool) -> Result<Vec<Due>, AllocError>
-    ensures { IfOk result (λ v. v.items ≡ filter_map (again_due lai now all) (proposals_in slots.now.entries)) }
+    ensures { IfOk result
+        (λ v. v.items ≡ filter_map (again_due lai now all) (proposals_in slots.now.entries)) }
 {
     let alloc = *slots.allocator();
     slots

@@ -28,7 +28,8 @@ fn change_in(slot: &mut Option<Proposal>, change: Change)
 
 /// Changes the proposal with this id.
 pub(crate) fn change(slots: &mut Slots, id: CmdId, change: Change)
-    ensures entries { (slot : Option Proposal) → slot_of id slots.old.entries ≡ Some slot → slots.new.entries ≡ with_slot id slots.old.entries (option_map (changed change) slot) }
+    ensures entries { (slot : Option Proposal) → slot_of id slots.old.entries ≡ Some slot
+        → slots.new.entries ≡ with_slot id slots.old.entries (option_map (changed change) slot) }
     ensures spare { spare slots.old ≤ spare slots.new }
 {
     if let Some(slot) = slots.get_mut(&id) {

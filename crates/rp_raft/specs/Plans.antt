@@ -1,5 +1,5 @@
 -- What a plan is: a change of the head, an edit of the log, and messages that are made already.
-use Rattle.std.specs.Prelude.{◌≡◌, ℕ, ◌+◌, ◌^◌, ◌<◌, ◌≤◌, true, false, None, List, [], ◌∷◌, ◌++◌, length, take}
+use Rattle.std.specs.Prelude.{◌≡◌, ℕ, ◌+◌, ◌^◌, ◌<◌, ◌≤◌, true, false, Option, None, List, [], ◌∷◌, ◌++◌, length, take}
 use Rattle.rp_raftlog.specs.declared.entries.Entry.{Entry}
 use Rattle.rp_raftlog.specs.LogState.{LogState, log_at, last_index, matches, appended, accepted, cut}
 use Rattle.rp_raftstep.specs.declared.heads.Due.{Due}
@@ -9,6 +9,7 @@ use Rattle.rp_raftstep.specs.declared.messages.Message.{Message}
 use Rattle.rp_raftstep.specs.declared.events.RaftEvent.{RaftEvent}
 use Rattle.rp_raftstep.specs.declared.events.RaftEvent.TheVariants.{Tick, Receive, Propose, Cut}
 use Rattle.rp_raftstep.specs.RaftState.{RaftState, is_leader}
+use Rattle.rp_raftstep.specs.Conditions.{CanAppend}
 use Rattle.rp_raftstep.specs.Step.{Draft, Done, tick, received, propose, step}
 use Rattle.rp_raft.specs.declared.plans.LogEdit.{LogEdit}
 use Rattle.rp_raft.specs.declared.plans.LogEdit.TheVariants.{Stays, Appends, Accepts, Cuts, Resets}
@@ -76,6 +77,10 @@ behind_of (Resets index term) = []
 abbrev pub with_head : RaftState → Head → RaftState
 with_head st head = record { head = head; log = st.log }
 
+-- entries, if there are any, can stand behind the log
+abbrev pub CanHold : LogState → List Entry → Type 0
+CanHold log added = 0 < length added → last_index log + length added < 2 ^ 64
+
 -- a leader's state with these entries behind its log
 abbrev pub ahead : Head → LogState → List Entry → RaftState
 ahead head log added = record { head = head; log = appended log added }
@@ -115,11 +120,18 @@ drafted_by st p = record {
   taken = p.draft.taken;
 }
 
+-- the head that the planned event leaves, and what it takes in
+abbrev pub head_after : {S : Type 0} → RaftPlan S → Head
+head_after p = p.after
+
+abbrev pub taken_in : {S : Type 0} → RaftPlan S → Option (ℕ × S)
+taken_in p = p.draft.taken
+
 -- what the plan does
 abbrev pub done_by : {S : Type 0} → RaftState → RaftPlan S → Done S
 done_by st p = record {
-  state = leads_to p.after st.log p.draft.edit;
-  out = record { messages = p.draft.messages; taken = p.draft.taken };
+  state = leads_to (head_after p) st.log p.draft.edit;
+  out = record { messages = p.draft.messages; taken = taken_in p };
 }
 
 -- the plan may be committed in this state, with this room
@@ -132,20 +144,19 @@ pub record PlanFits {S : Type 0} (st : RaftState) (spare : ℕ) (p : RaftPlan S)
   pub replies : p.replies ≤ length p.draft.messages
 
 -- made in this state, the plan drafts that and does this
-pub record Makes {S : Type 0} (st : RaftState) (spare : ℕ) (p : RaftPlan S) (draft : Draft S) (done : Done S) : Type 0 where
+pub record Makes {S : Type 0} (st : RaftState) (p : RaftPlan S) (draft : Draft S) (done : Done S) : Type 0 where
   pub drafts : drafted_by st p ≡ draft
   pub does : done_by st p ≡ done
-  pub fits : PlanFits st spare p
   pub whole : IsNoCut p.draft.edit
 
--- the plan of a Cut: it does this
-pub record MakesCut {S : Type 0} (st : RaftState) (spare : ℕ) (p : RaftPlan S) (done : Done S) : Type 0 where
-  pub does : done_by st p ≡ done
-  pub fits : PlanFits st spare p
-
 -- made in this state, the plan is one of this event
-abbrev pub Plans : {S : Type 0} → ℕ → S → RaftState → ℕ → RaftEvent S → RaftPlan S → Type 0
-Plans applied snapshot st spare Tick p = Makes st spare p (tick st) (step applied snapshot st Tick)
-Plans applied snapshot st spare (Receive from message) p = Makes st spare p (received st from message) (step applied snapshot st (Receive from message))
-Plans applied snapshot st spare (Propose payloads) p = Makes st spare p (propose st payloads) (step applied snapshot st (Propose payloads))
-Plans applied snapshot st spare (Cut to) p = MakesCut st spare p (step applied snapshot st (Cut to))
+abbrev pub Plans : {S : Type 0} → ℕ → S → RaftState → RaftEvent S → RaftPlan S → Type 0
+Plans applied snapshot st Tick p = Makes st p (tick st) (step applied snapshot st Tick)
+Plans applied snapshot st (Receive from message) p = Makes st p (received st from message) (step applied snapshot st (Receive from message))
+Plans applied snapshot st (Propose payloads) p = Makes st p (propose st payloads) (step applied snapshot st (Propose payloads))
+Plans applied snapshot st (Cut to) p = done_by st p ≡ step applied snapshot st (Cut to)
+
+-- what the plan of any event but a Cut asks for to be extended by these payloads
+pub record CanExtend {S : Type 0} (st : RaftState) (p : RaftPlan S) (payloads : List (List ℕ)) : Type 0 where
+  pub whole : IsNoCut p.draft.edit
+  pub room : CanAppend (drafted_by st p).state payloads

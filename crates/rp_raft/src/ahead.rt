@@ -1,6 +1,7 @@
 //! The log that a leader's event leaves: entries behind the present one, which stays as it is.
 
 ghost use Rattle.std.specs.Prelude.{◌≡◌, ◌+◌, ◌-◌, ◌<◌, ◌≤◌, ◌^◌, ◌++◌, length, take, drop, IfOk, OnOk};
+ghost use Rattle.rp_raft.specs.Plans.{CanHold};
 ghost use Rattle.rp_raftlog.specs.LogState.{appended, last_index, suffix, term_at};
 
 use rp_base::{NoMemory, Seq};
@@ -9,7 +10,7 @@ use rp_raftlog::{Entries, Entry, Log};
 /// The last index with these entries behind.
 #[tactic(auto, using(crate::proofs::Behind::last_ahead))]
 pub(crate) fn last_in(log: &Log, added: &[Entry]) -> u64
-    requires { last_index log.now.log + length added.now < 2 ^ 64 }
+    requires { CanHold log.now.log added.now }
     ensures { result ≡ last_index (appended log.now.log added.now) }
 {
     log.last().0 + added.len() as u64
@@ -42,9 +43,7 @@ fn push_copies(entries: &mut Entries, more: &[Entry]) -> Result<(), NoMemory>
     ensures { OnOk result (entries.new ≡ entries.old ++ more.now) }
 {
     for entry in more {
-        let payload = entry.payload.copy()?;
-        let term = entry.term;
-        entries.push(Entry { term, payload })?;
+        entries.push(entry.copy()?)?;
     }
     Ok(())
 }
@@ -57,10 +56,10 @@ pub(crate) fn suffix_in(
     most: usize,
 ) -> Result<Entries, NoMemory>
     requires behind { log.now.log.base ≤ from - 1 }
-    requires last { last_index log.now.log + 1 < 2 ^ 64 }
+    requires base { log.now.log.base + 1 < 2 ^ 64 }
     ensures { IfOk result (λ entries. entries ≡ suffix (appended log.now.log added.now) from most) }
 {
-    let end = log.last().0 + 1;
+    let end = log.last().0.saturating_add(1);
     let mut entries = log.suffix(from.max(1).min(end), most)?;
     let skipped = from.saturating_sub(end) as usize;
     let left = most - entries.len();

@@ -4,7 +4,7 @@ ghost use Rattle.std.specs.Prelude.{◌≡◌, ◌+◌, ◌<◌, ◌≤◌, ◌^
 ghost use Rattle.rp_raftlog.specs.LogState.{last_index};
 ghost use Rattle.rp_raftstep.specs.RaftState.{is_majority, with_node};
 ghost use Rattle.rp_raftstep.specs.Step.{advanced, committable, is_committable, matched_by};
-ghost use Rattle.rp_raft.specs.Plans.{ahead};
+ghost use Rattle.rp_raft.specs.Plans.{CanHold, ahead};
 
 use crate::ahead::{last_in, term_in};
 use crate::heads::{is_majority, place};
@@ -47,7 +47,7 @@ fn is_committable(head: &Head, log: &Log, added: &[Entry], matched: &[u64; 5], i
 /// The commit index, moved on to the greatest index of the present term that a majority has.
 fn committed(head: &Head, log: &Log, added: &[Entry]) -> u64
     requires nodes { head.now.nodes ≤ 5 }
-    requires last { last_index log.now.log + length added.now < 2 ^ 64 }
+    requires hold { CanHold log.now.log added.now }
     ensures { result ≡ max head.now.commit (committable (ahead head.now log.now.log added.now)) }
 {
     let mut index = last_in(log, added);
@@ -64,8 +64,9 @@ fn committed(head: &Head, log: &Log, added: &[Entry]) -> u64
 /// At the end of an event a leader moves its commit index on.
 pub(crate) fn advanced(head: Head, log: &Log, added: &[Entry]) -> Head
     requires nodes { head.nodes ≤ 5 }
-    requires last { last_index log.now.log + length added.now < 2 ^ 64 }
-    ensures { ahead result log.now.log added.now ≡ advanced (ahead head log.now.log added.now) }
+    requires hold { CanHold log.now.log added.now }
+    ensures same { result ≡ record head { commit = result.commit } }
+    ensures state { ahead result log.now.log added.now ≡ advanced (ahead head log.now.log added.now) }
 {
     if head.role != Role::Leader {
         return head;

@@ -13,6 +13,7 @@ mod plans;
 mod proposals;
 mod rafts;
 mod sends;
+mod steps;
 
 pub use plans::RaftPlan;
 pub use rafts::Raft;

@@ -1,7 +1,11 @@
 //! What an event will do: a change of the head, an edit of the log, and messages made already.
 
+ghost use Rattle.std.specs.Prelude.{◌≡◌, option_copied, take};
+ghost use Rattle.std.specs.Option.{option_map};
+ghost use Rattle.rp_raft.specs.Plans.{behind_of, head_after, room_of, taken_in};
+
 use rp_base::{NodeId, Seq};
-use rp_raftlog::Entries;
+use rp_raftlog::{Entries, Entry};
 use rp_raftstep::{Due, Head, Message};
 
 /// Messages, each with its receiver.
@@ -52,4 +56,61 @@ pub struct RaftPlan<S> {
     pub(crate) after: Head,
     /// How many of the messages are replies.
     pub(crate) replies: usize,
+}
+
+/// How many entries the edit brings.
+pub(crate) fn room_of(edit: &LogEdit) -> usize
+    ensures { result ≡ room_of edit.now }
+{
+    match edit {
+        LogEdit::Appends { entries } => entries.len(),
+        LogEdit::Accepts { entries, .. } => entries.len(),
+        _ => 0,
+    }
+}
+
+/// The entries that the edit puts behind the log's own.
+pub(crate) fn behind_of(edit: &LogEdit) -> &[Entry]
+    ensures { result.now ≡ behind_of edit.now }
+{
+    match edit {
+        LogEdit::Appends { entries } => entries.as_slice(),
+        _ => &[],
+    }
+}
+
+/// The draft of a plan: without the messages that were made last.
+pub(crate) fn draft_back<S: Drop>(plan: RaftPlan<S>) -> RaftDraft<S>
+    ensures { result ≡ record plan.draft { messages = take plan.replies plan.draft.messages } }
+{
+    let RaftPlan {
+        mut draft,
+        replies,
+        ..
+    } = plan;
+    draft.messages.truncate(replies);
+    draft
+}
+
+impl<S> RaftPlan<S> {
+    /// The term that the event leaves.
+    pub fn term(&self) -> u64
+        ensures { result ≡ (head_after self.now).term }
+    {
+        self.after.term
+    }
+
+    /// The leader that the event leaves, if one is known.
+    pub fn leader(&self) -> Option<NodeId>
+        ensures { result ≡ (head_after self.now).leader }
+    {
+        self.after.leader
+    }
+
+    /// The snapshot that the event takes in.
+    pub fn taken(&self) -> Option<&S>
+        ensures { option_copied result ≡ option_map (λ taken. taken.1) (taken_in self.now) }
+    {
+        self.draft.taken.as_ref().map(|taken| &taken.1)
+    }
 }

@@ -60,13 +60,9 @@ fn edit_behind(edit: LogEdit, more: Entries) -> Result<LogEdit, NoMemory>
 {
     match edit {
         LogEdit::Stays => Ok(LogEdit::Appends { entries: more }),
-        LogEdit::Appends { entries } => {
-            let mut joined = entries.into_vec();
-            let mut more = more.into_vec();
-            joined.append(&mut more)?;
-            Ok(LogEdit::Appends {
-                entries: Seq::from_vec(joined),
-            })
+        LogEdit::Appends { mut entries } => {
+            entries.append(more)?;
+            Ok(LogEdit::Appends { entries })
         }
         edit => Ok(edit),
     }

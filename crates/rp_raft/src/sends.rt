@@ -44,11 +44,11 @@ impl<S: Drop> Raft<S> {
         snap: &M,
         peer: NodeId,
     ) -> Result<Message<S>, NoMemory>
-        requires { last_index self.now.raft.log + 1 < 2 ^ 64 }
         ensures { IfOk result (λ m. m ≡ to_peer (M.index snap.now) (M.snapshot snap.now)
             (ahead head.now self.now.raft.log added.now) peer) }
     {
         let term = head.term;
+        let _ = &self.alloc;
         let next = head.next[place(peer)];
         let prev_index = next.saturating_sub(1);
         if prev_index < self.log.base().0 {
@@ -83,7 +83,6 @@ impl<S: Drop> Raft<S> {
         added: &[Entry],
         snap: &M,
     ) -> Result<(), NoMemory>
-        requires { last_index self.now.raft.log + 1 < 2 ^ 64 }
         ensures { OnOk result (messages.new ≡ messages.old
             ++ sends_among (M.index snap.now) (M.snapshot snap.now)
             (ahead head.now self.now.raft.log added.now) peers.now) }

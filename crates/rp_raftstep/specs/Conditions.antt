@@ -38,8 +38,3 @@ Allows st Tick = CanRise st
 Allows st (Receive from message) = CanRise st × MessageFits message
 Allows st (Propose payloads) = CanRise st × CanAppend st payloads
 Allows st (Cut to) = CanRise st × (st.log.base ≤ to) × (to ≤ last_index st.log)
-
--- a Propose of these payloads may follow as a part of an event that leaves this state
-pub record AllowsMore (st : RaftState) (payloads : List (List ℕ)) : Type 0 where
-  pub last : last_index st.log + 1 < 2 ^ 64
-  pub room : CanAppend st payloads

@@ -169,7 +169,8 @@ module _ (w : World) (r : IsReached w) (node : ℕ) (live : w.alive node ≡ tru
     go (inl e) = e
     go (inr b) = back (made_before w (Restart node) live y b)
 
-  -- what was admitted before the restart is not under the sequence of what this node admits after it
+  -- what was admitted before the restart is not under the sequence of what this node admits after
+  -- it
   pub restart_parts : (x y : CmdId) → IsBorn (w.attempt x).stage → (w.attempt y).stage ≡ Unborn → IsBorn (later.attempt y).stage
       → (later.attempt y).node ≡ node → (w.attempt x).seq ≡ (later.attempt y).seq → ⊥
   restart_parts x y bx new by at same = omega (arith, below, above, same) where

@@ -1,4 +1,5 @@
--- What events leave of an attempt: once admitted it stays what it was, and once ended it stays as it is.
+-- What events leave of an attempt: once admitted it stays what it was, and once ended it stays as
+-- it is.
 use Rattle.std.proofs.Common.{◌≡◌, ℕ, Bool, true, false, cond, ◌==◌, nat_le, ◌⊎◌, inl, inr, List, [], ◌∷◌, refl, sym, ap, subst, ◌∙◌}
 use Rattle.rp_base.specs.declared.ids.CmdId.{CmdId}
 use Rattle.rp_request.specs.declared.commands.Payload.{Payload}

@@ -30,8 +30,8 @@ pub record Made (a : Attempt) (k : ℕ) (c : Command) : Type 0 where
   pub of : IsOf a c
   pub behind : a.from ≤ k
 
--- one attempt, where the list has so many entries, its node has applied so many of them, is alive or not, and has
--- this barrier
+-- one attempt, where the list has so many entries, its node has applied so many of them, is alive
+-- or not, and has this barrier
 pub record Good (b : AppliedState) (f : ℕ → Payload) (n p : ℕ) (alive : Bool) (bar : ℕ) (id : CmdId) (a : Attempt) : Type 0 where
   pub fresh : a.stage ≡ Unborn → a.maxima ≡ []
   pub behind : IsBorn a.stage → a.from ≤ p

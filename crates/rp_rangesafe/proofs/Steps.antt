@@ -1,5 +1,5 @@
--- What one entry does to an applied state, as far as the numbers go. Beside the laws on tables and descriptions this is
--- all that the other proofs know of the check and the step.
+-- What one entry does to an applied state, as far as the numbers go. Beside the laws on tables and
+-- descriptions this is all that the other proofs know of the check and the step.
 use Rattle.std.proofs.Common.{◌≡◌, ℕ, ◌<◌, ◌≤◌, Bool, true, false, cond, ◌==◌, eqb, nat_le, nat_lt, ◌⊎◌, inl, inr, Option, Some, None, Err, refl, sym, ap, subst, ◌∙◌, arith}
 use Rattle.rp_base.specs.declared.ranges.Desc.{Desc}
 use Rattle.rp_base.specs.declared.ranges.SplitFault.TheVariants.{NotInside}

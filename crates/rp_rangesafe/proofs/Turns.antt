@@ -1,5 +1,5 @@
--- One attempt while its node applies an entry or takes in a snapshot, while it is handed out, while the list grows, and as
--- it is admitted.
+-- One attempt while its node applies an entry or takes in a snapshot, while it is handed out, while
+-- the list grows, and as it is admitted.
 use Rattle.std.proofs.Common.{◌≡◌, ℕ, suc, ◌<◌, ◌≤◌, Bool, true, false, cond, ◌==◌, nat_le, ◌⊎◌, inl, inr, [], refl, sym, ap, subst, ◌∙◌, arith}
 use Rattle.std.proofs.lemmas.Bool.{cases_order, cases_lt}
 use Rattle.std.proofs.lemmas.Bool.Decides.{nat_tests}

@@ -1,6 +1,6 @@
--- Between its evaluation and its place nothing is taken that an attempt's keys touch: what it read there it would read here.
--- Of requests this uses that an effect reads and changes only what the request covers, that each request covers a key and
--- that a split covers every key.
+-- Between its evaluation and its place nothing is taken that an attempt's keys touch: what it read
+-- there it would read here. Of requests this uses that an effect reads and changes only what the
+-- request covers, that each request covers a key and that a split covers every key.
 use Rattle.std.proofs.Common.{◌≡◌, ℕ, zero, suc, ◌<◌, ◌≤◌, Bool, IsTrue, IfOk, ◌⊎◌, inl, inr, length, Option, Some, None, Result, refl, sym, ap, subst, ◌∙◌, arith}
 use Rattle.std.proofs.lemmas.Bool.{cases_lt}
 use Rattle.std.specs.FinMap.{retain_keys}

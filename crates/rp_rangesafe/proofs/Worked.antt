@@ -33,10 +33,10 @@ one = record { client = 1; seq = 1; attempt = 1 }
 abbrev pub two : CmdId
 two = record { client = 1; seq = 2; attempt = 1 }
 
-abbrev two_again : CmdId
+abbrev pub two_again : CmdId
 two_again = record { client = 1; seq = 2; attempt = 2 }
 
-abbrev three : CmdId
+abbrev pub three : CmdId
 three = record { client = 2; seq = 1; attempt = 1 }
 
 abbrev pub put_body : Body

@@ -42,7 +42,8 @@ pub record Done (b : AppliedState) (f : ℕ → Payload) (a : Attempt) (i : ℕ)
   pub closed : IsClosed a.stage
   pub blocked : (m : ℕ) → IsAmong a.maxima m → IsBlocked (state b f i) a.seq m
 
--- of two attempts of one node under one sequence the keys are apart, or one was done when the other was admitted
+-- of two attempts of one node under one sequence the keys are apart, or one was done when the other
+-- was admitted
 pub record Pair (b : AppliedState) (f : ℕ → Payload) (x y : Attempt) : Type 0 where
   pub apart : IsBorn x.stage → IsBorn y.stage → x.node ≡ y.node → x.seq ≡ y.seq
       → Apart (covers x.body.request) (covers y.body.request) ⊎ (Done b f x y.from ⊎ Done b f y x.from)

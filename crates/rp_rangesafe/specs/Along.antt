@@ -1,4 +1,5 @@
--- A range along its list of entries. The list is a function of the index, so that it may be one that is still to come.
+-- A range along its list of entries. The list is a function of the index, so that it may be one
+-- that is still to come.
 use Rattle.std.specs.Prelude.{◌≡◌, ℕ, zero, suc, List, slice_index_or}
 use Rattle.rp_request.specs.declared.commands.Payload.{Payload}
 use Rattle.rp_request.specs.declared.commands.Payload.TheVariants.{Nothing, Write}

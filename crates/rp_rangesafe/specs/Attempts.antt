@@ -32,8 +32,9 @@ pub data Stage : Type 0 where
   -- its node restarted while it was proposed
   Restarted : (own : ℕ) → Stage
 
--- an attempt: the node that admitted it, at which index of the list it was evaluated there, under which
--- lease sequence, what was evaluated, and each maximum that it was given so far, the last one first
+-- an attempt: the node that admitted it, at which index of the list it was evaluated there, under
+-- which lease sequence, what was evaluated, and each maximum that it was given so far, the last one
+-- first
 pub record Attempt : Type 0 where
   pub stage : Stage
   pub node : ℕ

@@ -37,7 +37,8 @@ HappensAt w (Snapshot node to) m = m ≡ node
 HappensAt w (Remove node) m = m ≡ node
 HappensAt w (Restart node) m = m ≡ node
 
--- from the one state on to the other no number fell, one lease sequence has one holder, and the range kept its number
+-- from the one state on to the other no number fell, one lease sequence has one holder, and the
+-- range kept its number
 pub record IsFurther (s t : AppliedState) : Type 0 where
   pub numbers : IsOnward s t
   pub level : s.desc.level ≤ t.desc.level
@@ -49,17 +50,19 @@ pub record IsPlace (w : World) (id : CmdId) (k : ℕ) (c : Command) : Type 0 whe
   pub takes : Takes w.start (entry w.log) k c
   pub named : c.id ≡ id
 
--- in these stages the attempt has no place that its node has applied; and each maximum that it ever had is open, or
--- blocked where its node stands
+-- in these stages the attempt has no place that its node has applied; and each maximum that it ever
+-- had is open, or blocked where its node stands
 pub record IsDeadByStage (w : World) (id : CmdId) : Type 0 where
-  pub untaken : IsUntaken (w.attempt id).stage → (k : ℕ) (c : Command) → k < w.index (w.attempt id).node → IsPlace w id k c → ⊥
+  pub untaken : IsUntaken (w.attempt id).stage → (k : ℕ) (c : Command)
+      → k < w.index (w.attempt id).node → IsPlace w id k c → ⊥
   pub blocked : (m : ℕ) → IsAmong (w.attempt id).maxima m
       → IsOpen (w.attempt id).stage m ⊎ IsBlocked (here w (w.attempt id).node) (w.attempt id).seq m
 
--- a maximum of the attempt is dead for good: whatever comes, no place has it but one that its node has applied
+-- a maximum of the attempt is dead for good: whatever comes, no place has it but one that its node
+-- has applied
 abbrev pub IsDeadForGood : World → CmdId → ℕ → Type 0
-IsDeadForGood w id m = (later : World) (k : ℕ) (c : Command) → IsLater w later → IsPlace later id k c → c.max ≡ m
-    → k < w.index (w.attempt id).node
+IsDeadForGood w id m = (later : World) (k : ℕ) (c : Command) → IsLater w later
+    → IsPlace later id k c → c.max ≡ m → k < w.index (w.attempt id).node
 
 -- the attempt has no place, whatever comes
 abbrev pub HasNever : World → CmdId → Type 0
@@ -85,9 +88,9 @@ shown s = record { table = s.table; desc = s.desc; lease = s.lease }
 abbrev pub items_to : World → ℕ → List Place
 items_to w i = applied (records_of w.start (take i w.log))
 
--- a place is lawful: its command is one of the attempt, which was admitted at an index at or below, under the same lease
--- sequence, whose holder admitted it; the description is that of the admission; and in the state there the request lies
--- in the bounds and is evaluated as it was
+-- a place is lawful: its command is one of the attempt, which was admitted at an index at or below,
+-- under the same lease sequence, whose holder admitted it; the description is that of the
+-- admission; and in the state there the request lies in the bounds and is evaluated as it was
 pub record IsLawfulPlace (w : World) (id : CmdId) (k : ℕ) (c : Command) : Type 0 where
   pub of : IsOf (w.attempt id) c
   pub behind : (w.attempt id).from ≤ k

@@ -1,4 +1,5 @@
--- The ranges together: commands with further attempts after a refusal, and right ranges that a split opens.
+-- The ranges together: commands with further attempts after a refusal, and right ranges that a
+-- split opens.
 use Rattle.std.specs.Prelude.{◌≡◌, ℕ, ◌-◌, ◌<◌, Bool, true, ◌==◌, if◌then◌else◌, ◌⊎◌, List, [], ◌∷◌, length, Option, None, Some, Result, Ok, Err}
 use Rattle.rp_base.specs.Ids.{same_id}
 use Rattle.rp_base.specs.Splits.{split_of}
@@ -36,7 +37,12 @@ pub record Ranges : Type 0 where
 
 -- the state that range 0 starts from
 abbrev pub first_applied : AppliedState
-first_applied = record { desc = first_state.desc; lease = first_state.lease; lai = 0; table = first_state.table }
+first_applied = record {
+  desc = first_state.desc;
+  lease = first_state.lease;
+  lai = 0;
+  table = first_state.table;
+}
 
 -- at first there is range 0, and no attempt was made
 abbrev pub at_first : Ranges
@@ -101,7 +107,12 @@ IsLawful w (Turn_away id) = MayBegin w id
 
 -- the right range of a split, as it starts in this state
 abbrev pub right_with : AppliedState → ℕ → Result (Desc × Desc) SplitFault → Option AppliedState
-right_with s key (Ok parts) = Some (record { desc = parts.1; lease = s.lease; lai = 0; table = from_on s.table key })
+right_with s key (Ok parts) = Some (record {
+  desc = parts.1;
+  lease = s.lease;
+  lai = 0;
+  table = from_on s.table key;
+})
 right_with s key (Err fault) = None
 
 -- the right range of a request: only a split has one
@@ -146,12 +157,15 @@ within w r e = record w { range = with_node w.range r (happens (w.range r) e) }
 
 -- the ranges after an event in one: an admission makes the attempt there
 abbrev pub after_event : Ranges → ℕ → Event → Ranges
-after_event w r (Admit id node body) = record (within w r (Admit id node body)) { owner = with_owner w.owner id (At r) }
+after_event w r (Admit id node body) = record (within w r (Admit id node body)) {
+  owner = with_owner w.owner id (At r);
+}
 after_event w r (Flush id max) = within w r (Flush id max)
 after_event w r (Return id) = within w r (Return id)
 after_event w r (Refuse id) = within w r (Refuse id)
 -- an entry is committed, and opens the right range of a split
-after_event w r (Commit p) = with_right (within w r (Commit p)) (right_of (state_at (w.range r) (length (w.range r).log)) p)
+after_event w r (Commit p) = with_right (within w r (Commit p))
+    (right_of (state_at (w.range r) (length (w.range r).log)) p)
 after_event w r (Apply node) = within w r (Apply node)
 after_event w r (Snapshot node to) = within w r (Snapshot node to)
 after_event w r (Remove node) = within w r (Remove node)
@@ -196,8 +210,10 @@ pub record IsTheOnePlace (w : Ranges) (range : ℕ) (id : CmdId) (reply : Reply)
   pub place : IsPlace (w.range range) id index command
   pub applied : index < (w.range range).index ((w.range range).attempt id).node
   pub answers : command.reply ≡ reply
-  pub only : (q k : ℕ) (x : CmdId) (c : Command) → x.client ≡ id.client → x.seq ≡ id.seq → IsPlace (w.range q) x k c → (q ≡ range) × (k ≡ index)
+  pub only : (q k : ℕ) (x : CmdId) (c : Command) → x.client ≡ id.client → x.seq ≡ id.seq
+      → IsPlace (w.range q) x k c → (q ≡ range) × (k ≡ index)
 
 -- the attempt has no place in any range, whatever comes
 abbrev pub HasNowhere : Ranges → CmdId → Type 0
-HasNowhere w id = (later : Ranges) (range k : ℕ) (c : Command) → AreLater w later → IsPlace (later.range range) id k c → ⊥
+HasNowhere w id = (later : Ranges) (range k : ℕ) (c : Command) → AreLater w later
+    → IsPlace (later.range range) id k c → ⊥

@@ -1,5 +1,5 @@
--- The machine of one range: one list of entries that only grows, nodes that stand at an index of it, and the
--- attempts. It knows no bytes, no Raft and no code (this project).
+-- The machine of one range: one list of entries that only grows, nodes that stand at an index of
+-- it, and the attempts. It knows no bytes, no Raft and no code (this project).
 use Rattle.std.specs.Prelude.{◌≡◌, ℕ, suc, ◌<◌, ◌≤◌, Bool, true, false, ◌==◌, nat_le, if◌then◌else◌, IsTrue, List, [], ◌∷◌, ◌++◌, length, Ok}
 use Rattle.rp_base.specs.declared.ids.CmdId.{CmdId}
 use Rattle.rp_request.specs.declared.commands.Payload.{Payload}
@@ -16,8 +16,9 @@ use Rattle.rp_request.specs.declared.verdicts.Verdict.TheVariants as verdicts
 use Rattle.rp_rangesafe.specs.Attempts.{Body, Stage, Unborn, Waiting, Proposed, Success, Refused, Overtaken, Removed, Restarted, Attempt, Attempts, IsPending, IsOf, staged, handed_out, with_attempt, at_node}
 use Rattle.rp_rangesafe.specs.Along.{entry, state}
 
--- a range: the state that it starts from, its list; of each node how many entries it has applied, whether it
--- still has its replica, and the lease sequence that it had at its last restart; and the attempts
+-- a range: the state that it starts from, its list; of each node how many entries it has applied,
+-- whether it still has its replica, and the lease sequence that it had at its last restart; and the
+-- attempts
 pub record World : Type 0 where
   pub start : AppliedState
   pub log : List Payload
@@ -74,23 +75,27 @@ pub data Event : Type 0 where
   Snapshot : (node to : ℕ) → Event
   -- a node's replica is removed
   Remove : (node : ℕ) → Event
-  -- a node restarts, and admits no more under the present lease sequence: its own ask of tick 0 gives it the next one
+  -- a node restarts, and admits no more under the present lease sequence: its own ask of tick 0
+  -- gives it the next one
   Restart : (node : ℕ) → Event
 
 -- on this state the request lies in the bounds, and was evaluated so
 pub record IsEvaluated (s : AppliedState) (body : Body) : Type 0 where
   pub bounded : IsTrue (in_bounds s.desc body.request)
-  pub evaluation : evaluated s.table s.desc body.request ≡ Ok (record { batch = body.batch; reply = body.reply })
+  pub evaluation : evaluated s.table s.desc body.request
+      ≡ Ok (record { batch = body.batch; reply = body.reply })
 
--- a node may admit: its replica is there and holds the lease, under a sequence that is past its barrier; the
--- request lies in the bounds, was evaluated on its applied state, and covers no key that a pending one covers
+-- a node may admit: its replica is there and holds the lease, under a sequence that is past its
+-- barrier; the request lies in the bounds, was evaluated on its applied state, and covers no key
+-- that a pending one covers
 pub record MayAdmit (w : World) (id : CmdId) (node : ℕ) (body : Body) : Type 0 where
   pub new : (w.attempt id).stage ≡ Unborn
   pub live : w.alive node ≡ true
   pub holds : (here w node).lease.holder ≡ node
   pub passed : w.barrier node < (here w node).lease.seq
   pub evaluates : IsEvaluated (here w node) body
-  pub latched : (q : CmdId) → IsPending (w.attempt q).stage → (w.attempt q).node ≡ node → Apart (covers body.request) (covers (w.attempt q).body.request)
+  pub latched : (q : CmdId) → IsPending (w.attempt q).stage → (w.attempt q).node ≡ node
+      → Apart (covers body.request) (covers (w.attempt q).body.request)
 
 -- the list may grow by Nothing, by any lease ask of a node, which has a number of at least 1, and
 -- by a command that was handed out, any number of times
@@ -160,7 +165,8 @@ told c v (Restarted own) = Restarted own
 -- the attempts after a node applied an entry in a state
 abbrev pub after_entry : ℕ → AppliedState → Payload → Attempts → Attempts
 after_entry node s Nothing attempts = attempts
-after_entry node s (Write c) attempts = with_attempt attempts c.id (at_node node (told c (verdict s (Write c))) attempts c.id)
+after_entry node s (Write c) attempts = with_attempt attempts c.id
+    (at_node node (told c (verdict s (Write c))) attempts c.id)
 after_entry node s (Lease ask) attempts = attempts
 
 -- a snapshot with this lease applied index
@@ -202,8 +208,12 @@ turned w id stage = record w { attempt = with_attempt w.attempt id (staged (w.at
 
 -- the range after an event
 abbrev pub happens : World → Event → World
-happens w (Admit id node body) = record w { attempt = with_attempt w.attempt id (admitted w node body) }
-happens w (Flush id max) = record w { attempt = with_attempt w.attempt id (handed_out (w.attempt id) max) }
+happens w (Admit id node body) = record w {
+  attempt = with_attempt w.attempt id (admitted w node body);
+}
+happens w (Flush id max) = record w {
+  attempt = with_attempt w.attempt id (handed_out (w.attempt id) max);
+}
 happens w (Return id) = turned w id Waiting
 happens w (Refuse id) = turned w id Refused
 happens w (Commit p) = record w { log = w.log ++ p ∷ [] }
@@ -215,7 +225,10 @@ happens w (Snapshot node to) = record w {
   index = with_node w.index node to;
   attempt = at_node node (overtaken (state_at w to).lai) w.attempt;
 }
-happens w (Remove node) = record w { alive = with_node w.alive node false; attempt = at_node node removed w.attempt }
+happens w (Remove node) = record w {
+  alive = with_node w.alive node false;
+  attempt = at_node node removed w.attempt;
+}
 happens w (Restart node) = record w {
   barrier = with_node w.barrier node (here w node).lease.seq;
   attempt = at_node node restarted w.attempt;

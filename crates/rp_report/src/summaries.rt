@@ -1,10 +1,11 @@
+//! The summary: ten counts of what a report shows.
 ghost use Rattle.std.specs.Prelude.{◌≡◌, ◌++◌, count_by, IfOk, OnOk, OnErr};
 ghost use Rattle.rp_report.specs.Summary.{commands_among, is_success, is_refused, is_ambiguous, is_pending, ending, is_place, is_pass, records_in, count_line, ending_lines, answer_counts, range_counts, summary};
 
 use crate::views::{RangeView, View};
 use crate::words::{push_number_line, push_wide};
 use rp_base::{NoMemory, Text, push_word};
-use rp_request::{ReplyLine, End, Outcome, Record};
+use rp_request::{End, Outcome, Record, ReplyLine};
 use std::alloc::Global;
 use std::collections::BTreeSet;
 
@@ -176,8 +177,8 @@ fn push_counts(out: &mut Text, view: &View) -> Result<(), NoMemory>
 /// Appends the summary, ten lines of a word and a number: how many different commands the replies
 /// name, how many attempts there are, a reply being one, and how many of them are ok, refused,
 /// ambiguous and pending (a command whose tries ended counts as refused, one that was never sent as
-/// pending); how many ranges there are, and how many entries in them took effect and were passed over;
-/// and how many messages were sent.
+/// pending); how many ranges there are, and how many entries in them took effect and were passed
+/// over; and how many messages were sent.
 pub fn write_summary(view: &View, out: &mut Text) -> Result<(), NoMemory>
     ensures ok { OnOk result (out.new ≡ out.old ++ summary view.now) }
     ensures err { OnErr result (out.new ≡ out.old) }

@@ -1,5 +1,5 @@
 -- Which keys a request covers.
-use Rattle.std.proofs.Common.{◌≡◌, ℕ, ◌+◌, ◌-◌, ◌^◌, ◌<◌, ◌≤◌, ◌⊎◌, ◌↔◌, inl, inr, Bool, true, false, cond, ◌&&◌, ◌||◌, ◌==◌, nat_lt, nat_le, IsTrue, IsFalse, None, Some, List, [], ◌∷◌, refl, sym, ap, subst, ◌∙◌, arith}
+use Rattle.std.proofs.Common.{◌≡◌, ℕ, ◌+◌, ◌-◌, ◌^◌, ◌<◌, ◌≤◌, Bool, true, false, cond, ◌&&◌, ◌||◌, ◌==◌, nat_lt, nat_le, IsTrue, IsFalse, Some, List, [], ◌∷◌, refl, sym, ap, ◌∙◌, arith}
 use Rattle.std.proofs.lemmas.Bool.Decides.{nat_tests}
 use Rattle.std.specs.List.{list_any}
 use Rattle.rp_base.specs.Keys.{end_of}
@@ -7,7 +7,7 @@ use Rattle.rp_base.specs.Spans.{one_key, whole, span_list, meets, any_meet}
 use Rattle.rp_base.specs.declared.spans.Span.{Span}
 use Rattle.rp_request.specs.declared.requests.Request.{Request}
 use Rattle.rp_request.specs.declared.requests.Request.TheVariants.{Put, Add, CPut, Del, Wipe, Move, Split}
-use Rattle.rp_request.specs.Covers.{alone, both, covers, is_split, spans_of, HasKeys, Apart}
+use Rattle.rp_request.specs.Covers.{alone, covers, is_split, spans_of, HasKeys, Apart}
 use Rattle.rp_base.specs.Tables.{is_between}
 
 same_key : (k : ℕ) → IsTrue (k == k)

@@ -19,7 +19,7 @@ use Rattle.rp_request.specs.declared.requests.Request.TheVariants.{Put, Add, CPu
 use Rattle.rp_request.specs.declared.outcomes.Refusal.{Refusal}
 use Rattle.rp_request.specs.declared.outcomes.Reply.TheVariants.{Now}
 use Rattle.rp_base.specs.Tables.{Table, greatest, value_at, holds_text, is_between, part, count_in, without, below}
-use Rattle.rp_request.specs.Effect.{Effect, effect, writes, wipe, pass_on, split}
+use Rattle.rp_request.specs.Effect.{Effect, effect, writes, pass_on, split}
 use Rattle.rp_request.proofs.Tables.{same_table, get_kept, get_removed}
 use Rattle.rp_request.specs.declared.evaluations.Evaluated.{Evaluated}
 use Rattle.rp_request.specs.Batches.{write_all, after_batch, removes, batch_of}

@@ -1,5 +1,5 @@
 -- An effect reads and changes only what its request covers.
-use Rattle.std.proofs.Common.{◌≡◌, ◌≢◌, ℕ, ◌+◌, ◌-◌, ◌<◌, ◌≤◌, Bool, true, false, cond, not, ◌&&◌, ◌||◌, ◌==◌, nat_lt, nat_le, IsTrue, IsFalse, IfOk, Option, Some, None, Result, Ok, Err, refl, sym, ap, subst, ◌∙◌, arith}
+use Rattle.std.proofs.Common.{◌≡◌, ℕ, ◌+◌, ◌-◌, Bool, true, false, cond, not, ◌==◌, nat_lt, IsTrue, IsFalse, IfOk, Option, Some, None, Result, Ok, Err, refl, sym, ap, subst, ◌∙◌, arith}
 use Rattle.std.proofs.lemmas.Bool.Decides.{nat_tests}
 use Rattle.std.specs.Ordering.{nat_cmp, eq_by_cmp}
 use Rattle.std.specs.FinMap.{get, insert, remove, retain_keys, len}
@@ -15,12 +15,12 @@ use Rattle.rp_base.specs.declared.values.Value.TheVariants.{Number}
 use Rattle.rp_request.specs.declared.requests.Request.{Request}
 use Rattle.rp_request.specs.declared.requests.Request.TheVariants.{Put, Add, CPut, Del, Wipe, Move, Split}
 use Rattle.rp_request.specs.declared.outcomes.Reply.{Reply}
-use Rattle.rp_request.specs.declared.outcomes.Reply.TheVariants.{Old, Now, Set, Count, Range}
+use Rattle.rp_request.specs.declared.outcomes.Reply.TheVariants.{Old, Now, Set, Count}
 use Rattle.rp_request.specs.declared.outcomes.Refusal.{Refusal}
 use Rattle.rp_request.specs.declared.outcomes.Refusal.TheVariants.{ConditionFailed, IsText, Overflow, Short, TooWide}
-use Rattle.rp_base.specs.Tables.{Table, greatest, value_at, holds_text, is_between, part, count_in, without, below}
+use Rattle.rp_base.specs.Tables.{Table, greatest, value_at, holds_text, is_between, part, count_in, without}
 use Rattle.rp_request.specs.Covers.{covers, is_split, Apart}
-use Rattle.rp_request.specs.Effect.{Effect, effect, seen, writes, add, put_if, wipe, pass_on, move, split}
+use Rattle.rp_request.specs.Effect.{Effect, effect, seen, writes, add, put_if, wipe, move, split}
 use Rattle.rp_request.proofs.KeyTests.{itself, covers_from, covers_to}
 use Rattle.rp_request.proofs.Tables.{same_table, get_kept, get_inserted, get_removed}
 

@@ -1,5 +1,5 @@
 -- What the check at application tells, and what tells the check.
-use Rattle.std.proofs.Common.{◌≡◌, ◌≢◌, ℕ, ◌≤◌, ◌<◌, ◌⊎◌, ◌↔◌, ◌+◌, Bool, true, false, eqb, nat_le, cond, Option, Some, None, arith, refl}
+use Rattle.std.proofs.Common.{◌≡◌, ◌≢◌, ℕ, ◌≤◌, ◌<◌, ◌↔◌, Bool, true, false, eqb, nat_le, cond, Option, Some, None, arith, refl}
 use Rattle.std.proofs.lemmas.Bool.Decides.{nat_tests}
 use Rattle.rp_base.specs.declared.leases.Lease.{Lease}
 use Rattle.rp_base.specs.declared.leases.LeaseAsk.{LeaseAsk}

@@ -1,7 +1,6 @@
 -- An evaluation reads only what its request covers.
-use Rattle.std.proofs.Common.{◌≡◌, ℕ, ◌+◌, ◌-◌, Bool, cond, ◌||◌, ◌==◌, IsTrue, None, unwrap_or, List, [], ◌∷◌, Result, Ok, Err, refl, sym, ap, ◌∙◌, arith}
-use Rattle.std.proofs.lemmas.Bool.Decides.{nat_tests}
-use Rattle.std.specs.FinMap.{get, retain_keys, keys}
+use Rattle.std.proofs.Common.{◌≡◌, ℕ, ◌+◌, ◌-◌, Bool, cond, ◌==◌, List, [], ◌∷◌, Result, Ok, Err, refl, sym, ap, ◌∙◌}
+use Rattle.std.specs.FinMap.{retain_keys, keys}
 use Rattle.rp_base.specs.declared.ranges.Desc.{Desc}
 use Rattle.rp_base.specs.declared.values.Value.TheVariants.{Number}
 use Rattle.rp_request.specs.declared.commands.Op.{Op}

@@ -11,3 +11,4 @@ pub mod Onward
 pub mod Places
 pub mod Records
 pub mod Starts
+pub mod Texts

@@ -1,9 +1,12 @@
 pub mod NextWord
-pub mod SpanEnds
 pub mod Counts
 pub mod WordCount
 pub mod ReadsLines
-pub mod Refusals
+pub mod Wrong
+pub mod FirstWrong
+pub mod Taking
 pub mod Rules
 pub mod NotBuilt
 pub mod Taken
+pub mod Along
+pub mod LongTexts

@@ -1,14 +1,14 @@
 -- The rules of a script refuse no line as not built.
-use Rattle.std.proofs.Common.{◌≡◌, ◌⊎◌, inl, inr, ℕ, ◌+◌, Bool, true, false, List, [], ◌∷◌, Option, Some, None, Result, Ok, Err, refl, ap, sym, subst}
+use Rattle.std.proofs.Common.{◌≡◌, ◌⊎◌, inl, inr, ℕ, zero, suc, ◌+◌, Bool, true, false, List, [], ◌∷◌, Option, Some, None, Result, Ok, Err, refl, ap, sym, subst}
 use Rattle.std.specs.Prelude.{IfErr, if◌then◌else◌}
 use Rattle.rp_script.specs.Words.{words_of}
 use Rattle.rp_script.specs.Keywords.{keyword_of}
+use Rattle.rp_script.specs.Wanted.{Wanted, Number, CommandNumber, KeyName, ValueWord, Expected, EndFrom, RequestName}
 use Rattle.rp_script.specs.Seen.{Seen, limit_of, bad_byte_of, begins_comment, placed, skipped, unless_bad, said, at_line, unless_limited, judged}
 use Rattle.rp_script.specs.Built.{unbuilt_in}
 use Rattle.rp_script.specs.Meaning.{◌>>=◌, unless_unbuilt, built_at, judged_in}
-use Rattle.rp_script.specs.Causes.{Refuses, reader_by, IsCause, IsRule, IsUnbuilt, not_built, NotBuiltExactly}
-use Rattle.rp_script.proofs.Refusals.{if_err}
-use Rattle.rp_script.proofs.Rules.{refusals_have_causes}
+use Rattle.rp_script.specs.Causes.{IsWrong, IsRefusedAt, IsRule, IsRefusal, IsOfRules, IsFaultOfRules, KindsOfRules, IsUnbuilt, not_built, NotBuiltExactly}
+use Rattle.rp_script.proofs.Rules.{refused_exactly}
 use Rattle.rp_script.specs.declared.built.Forms.{Forms}
 use Rattle.rp_script.specs.declared.faults.BadWord.{BadWord}
 use Rattle.rp_script.specs.declared.faults.Excess.{Excess}
@@ -19,29 +19,61 @@ use Rattle.rp_script.specs.declared.faults.ScriptFault.TheVariants.{Refused, Lim
 use Rattle.rp_script.specs.declared.keywords.Keyword.{Keyword}
 use Rattle.rp_script.specs.declared.lines.ScriptLine.{ScriptLine}
 
--- a kind of the script's own rules
-abbrev IsOfRules : LineKind → Type 0
-IsOfRules kinds.NotBuilt = ⊥
-IsOfRules kind = Unit {0}
-
 by_rule : (s : Seen) (k : Keyword) (kind : LineKind) → IsRule s k kind → IsOfRules kind
 by_rule s k kinds.NotBuilt h = h
+by_rule s k kinds.NotJson h = h
+by_rule s k kinds.NotReport h = h
 by_rule s k kind h = tt
 
-by_cause : (kind : LineKind) (words : List (List ℕ)) (n : ℕ) → IsCause kind words n → IsOfRules kind
-by_cause kinds.NotBuilt words n h = h
-by_cause kind words n h = tt
+by_wrong : (w : Wanted) (kind : LineKind) (word : List ℕ) → IsWrong w kind word → IsOfRules kind
+by_wrong (Number low high) kinds.NotBuilt word h = h
+by_wrong (Number low high) kinds.NotJson word h = h
+by_wrong (Number low high) kinds.NotReport word h = h
+by_wrong (Number low high) kind word h = tt
+by_wrong (CommandNumber count) kinds.NotBuilt word h = h
+by_wrong (CommandNumber count) kinds.NotJson word h = h
+by_wrong (CommandNumber count) kinds.NotReport word h = h
+by_wrong (CommandNumber count) kind word h = tt
+by_wrong KeyName kinds.NotBuilt word h = h
+by_wrong KeyName kinds.NotJson word h = h
+by_wrong KeyName kinds.NotReport word h = h
+by_wrong KeyName kind word h = tt
+by_wrong ValueWord kinds.NotBuilt word h = h
+by_wrong ValueWord kinds.NotJson word h = h
+by_wrong ValueWord kinds.NotReport word h = h
+by_wrong ValueWord kind word h = tt
+by_wrong Expected kinds.NotBuilt word h = h
+by_wrong Expected kinds.NotJson word h = h
+by_wrong Expected kinds.NotReport word h = h
+by_wrong Expected kind word h = tt
+by_wrong (EndFrom start) kinds.NotBuilt word h = h
+by_wrong (EndFrom start) kinds.NotJson word h = h
+by_wrong (EndFrom start) kinds.NotReport word h = h
+by_wrong (EndFrom start) kind word h = tt
+by_wrong RequestName kinds.NotBuilt word h = h
+by_wrong RequestName kinds.NotJson word h = h
+by_wrong RequestName kinds.NotReport word h = h
+by_wrong RequestName kind word h = tt
 
-either : (s : Seen) (k : Keyword) (words : List (List ℕ)) (e : BadWord)
-    → ((e.word ≡ 1) × IsRule s k e.kind) ⊎ Refuses 2 (reader_by s.nodes s.commands k) words e → IsOfRules e.kind
-either s k words e (inl h) = by_rule s k e.kind h.1
-either s k words e (inr h) = by_cause e.kind words h.before h.cause
+by_place : (wanted : List Wanted) (words : List (List ℕ)) (n : ℕ) (kind : LineKind) → IsRefusedAt wanted words n kind → IsOfRules kind
+by_place [] [] n kind h = absurd h
+by_place [] (word ∷ words) zero kind h = subst IsOfRules (sym h) tt
+by_place [] (word ∷ words) (suc n) kind h = absurd h
+by_place (w ∷ more) [] zero kind h = subst IsOfRules (sym h) tt
+by_place (w ∷ more) [] (suc n) kind h = absurd h
+by_place (w ∷ more) (word ∷ words) zero kind h = by_wrong w kind word h
+by_place (w ∷ more) (word ∷ words) (suc n) kind h = by_place more words n kind h.1
+
+by_refusal : (s : Seen) (k : Keyword) (words : List (List ℕ)) (e : BadWord) → IsRefusal s k words e → IsOfRules e.kind
+by_refusal s k words e (inl h) = by_rule s k e.kind h.1
+by_refusal s k words e (inr h) = by_place _ words h.1.0 e.kind h.1.2
 
 abbrev IsRuled : {A : Type 0} → Result A BadWord → Type 0
 IsRuled r = IfErr r (λ e. IsOfRules e.kind)
 
-placed_ruled : (s : Seen) (k : Keyword) (words : List (List ℕ)) → IsRuled (placed s k words)
-placed_ruled s k words = if_err _ _ (placed s k words) (λ e h. either s k words e h) (refusals_have_causes s k words)
+line_ruled : (s : Seen) (k : Keyword) (words : List (List ℕ)) (r : Result ScriptLine BadWord) → placed s k words ≡ r → IsRuled r
+line_ruled s k words (Ok line) is = tt
+line_ruled s k words (Err e) is = by_refusal s k words e ((refused_exactly s k words e).0 is)
 
 skipped_ruled : (bad : Option ℕ) → IsRuled (skipped bad)
 skipped_ruled None = tt
@@ -61,21 +93,16 @@ unfolding said
 said_ruled s [] = tt
 said_ruled s (first ∷ words) =
     if_ruled (begins_comment first) _ _ (skipped_ruled (bad_byte_of (first ∷ words)))
-    (unless_ruled (bad_byte_of (first ∷ words)) (placed s (keyword_of first) words) (placed_ruled s (keyword_of first) words))
-
--- a fault of the script's own rules
-abbrev IsFaultOfRules : ScriptFault → Type 0
-IsFaultOfRules (Refused line word kind) = IsOfRules kind
-IsFaultOfRules (Limit which count) = Unit {0}
+    (unless_ruled (bad_byte_of (first ∷ words)) (placed s (keyword_of first) words) (line_ruled s (keyword_of first) words _ refl))
 
 limited_ruled : (x : Option Excess) (k : ℕ) (r : Result (Option ScriptLine) BadWord) → IsRuled r → IfErr (unless_limited x (at_line k r)) IsFaultOfRules
 limited_ruled (Some x) k r h = tt
 limited_ruled None k (Ok line) h = tt
 limited_ruled None k (Err e) h = h
 
-judged_ruled : (s : Seen) (line : List ℕ) → IfErr (judged s line) IsFaultOfRules
+pub kinds_of_rules : KindsOfRules
 unfolding judged
-judged_ruled s line = limited_ruled (limit_of s line) (s.lines + 1) (said s (words_of line)) (said_ruled s (words_of line))
+kinds_of_rules s line = limited_ruled (limit_of s line) (s.lines + 1) (said s (words_of line)) (said_ruled s (words_of line))
 
 -- a line that the rules take
 abbrev refusal : ℕ → ℕ → Result (Option ScriptLine) ScriptFault
@@ -98,5 +125,7 @@ from_refusal forms k word (Err fault) ruled e =
     subst (λ (r : Result (Option ScriptLine) ScriptFault). IfErr r IsFaultOfRules) e ruled
 
 pub not_built_exactly : NotBuiltExactly
-not_built_exactly forms s line word =
-    (to_refusal forms (s.lines + 1) word (judged s line), from_refusal forms (s.lines + 1) word (judged s line) (judged_ruled s line))
+not_built_exactly forms s line word = (
+  from_refusal forms (s.lines + 1) word (judged s line) (kinds_of_rules s line),
+  to_refusal forms (s.lines + 1) word (judged s line),
+)

@@ -5,8 +5,8 @@ use Rattle.std.proofs.lemmas.Bool.Decides.{nat_tests}
 use Rattle.rp_base.specs.declared.Which.TheVariants.{Lines, LineBytes}
 use Rattle.rp_script.specs.Words.{begun_with, lines_of}
 use Rattle.rp_script.specs.Seen.{Seen, limit_of, judged, after, unended}
-use Rattle.rp_script.specs.Gives.{Gives}
-use Rattle.rp_script.specs.Meaning.{◌>>=◌, built_at, judged_in, AllAreBuilt, numbered, in_front, ended_at, meant, meaning}
+use Rattle.rp_base.specs.Gives.{Gives}
+use Rattle.rp_script.specs.Meaning.{◌>>=◌, built_at, judged_in, AllAreBuilt, numbered, in_front, ended_at, meant, meaning, script_fault}
 use Rattle.rp_script.specs.Reading.{Reading, unread, line_ended, fed, fed_all, closed_at, closed, finished, verdict, ReadsMeaning, ReadsPieces}
 use Rattle.rp_script.specs.declared.built.Forms.{Forms}
 use Rattle.rp_script.specs.declared.built.Forms.TheVariants.{All}
@@ -180,14 +180,15 @@ reads_pieces r (x ∷ xs) ys =
     same_bind (fed r x) _ _ (λ s. reads_pieces s xs ys) ∙ sym (bind_assoc (fed r x) (λ s. fed_all s xs) (λ s. fed_all s ys))
 
 -- a reading that stops before the end
-pub read_stopped : (forms : Forms) (race : Bool) (bytes : List ℕ) (stop : ScriptStop) → Gives {X = Reading} (λ r. r) (Err stop) (fed_all (unread forms race) bytes)
-    → Gives {X = List NumberedLine} (λ lines. lines) (Err stop) (meaning forms race bytes)
+pub read_stopped : (forms : Forms) (race : Bool) (bytes : List ℕ) (stop : ScriptStop)
+    → Gives {X = Reading} (λ r. r) script_fault (Err stop) (fed_all (unread forms race) bytes)
+    → Gives {X = List NumberedLine} (λ lines. lines) script_fault (Err stop) (meaning forms race bytes)
 read_stopped forms race bytes (stops.Judged fault) h = sym (reads_meaning forms race bytes) ∙ ap (λ v. v >>= λ s. finished s s.line) h
 read_stopped forms race bytes stops.NoMemory h = tt
 
 -- a reading that comes to the end
 pub read_whole : (forms : Forms) (race : Bool) (bytes : List ℕ) (r : Reading) (res : Result (List NumberedLine) ScriptStop) → fed_all (unread forms race) bytes ≡ Ok r
-    → Gives (λ lines. lines) res (finished r r.line) → Gives (λ lines. lines) res (meaning forms race bytes)
+    → Gives (λ lines. lines) script_fault res (finished r r.line) → Gives (λ lines. lines) script_fault res (meaning forms race bytes)
 read_whole forms race bytes r res leads gives =
-    let P : Result (List NumberedLine) ScriptFault → Type 0 = λ v. Gives (λ lines. lines) res v in
+    let P : Result (List NumberedLine) ScriptFault → Type 0 = λ v. Gives (λ lines. lines) script_fault res v in
     subst P (sym (ap (λ v. v >>= λ s. finished s s.line) leads) ∙ reads_meaning forms race bytes) gives

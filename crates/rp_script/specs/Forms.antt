@@ -1,6 +1,7 @@
 -- The words of each form of line, behind the first one.
 use Rattle.std.specs.Prelude.{ℕ, ◌^◌, ◌-◌, List, Ok}
-use Rattle.rp_script.specs.Readers.{Reader, bad, ◌>>=◌, whole, number_at, value_at, key_at, seq_at, sent}
+use Rattle.rp_base.specs.ClientCounts.{count_of}
+use Rattle.rp_script.specs.Readers.{Reader, bad, ◌>>=◌, whole, number_at, any_number_at, key_at, seq_at}
 use Rattle.rp_script.specs.Requests.{request}
 use Rattle.rp_script.specs.declared.faults.LineKind.TheVariants as kinds
 use Rattle.rp_script.specs.declared.keywords.Keyword.{Keyword}
@@ -48,21 +49,21 @@ again nodes commands = do
   node ← node_at 2 nodes
   range ← range_at 3
   client ← client_at 4
-  seq ← seq_at 5 (sent commands client)
+  seq ← seq_at 5 (count_of commands client)
   whole 6 (lines.Again node range client seq)
 
 -- `draw C S`
 unfoldable pub draw : List ℕ → Reader ScriptLine
 draw commands = do
   client ← client_at 2
-  seq ← seq_at 3 (sent commands client)
+  seq ← seq_at 3 (count_of commands client)
   whole 4 (lines.Draw client seq)
 
 -- `publish C S`
 unfoldable pub publish : List ℕ → Reader ScriptLine
 publish commands = do
   client ← client_at 2
-  seq ← seq_at 3 (sent commands client)
+  seq ← seq_at 3 (count_of commands client)
   whole 4 (lines.Publish client seq)
 
 -- `ask N R`
@@ -108,6 +109,12 @@ remove nodes = do
   range ← range_at 3
   whole 4 (lines.Remove node range)
 
+-- `restart N`
+unfoldable pub restart : ℕ → Reader ScriptLine
+restart nodes = do
+  node ← node_at 2 nodes
+  whole 3 (lines.Restart node)
+
 -- `tick N K`
 unfoldable pub tick : ℕ → Reader ScriptLine
 tick nodes = do
@@ -134,7 +141,7 @@ peek nodes = do
 unfoldable pub loss : Reader ScriptLine
 loss = do
   percent ← number_at 2 0 50
-  salt ← value_at 3
+  salt ← any_number_at 3
   whole 4 (lines.Loss percent salt)
 
 -- `settle K`
@@ -161,6 +168,7 @@ form keywords.Flush nodes commands = flush nodes
 form keywords.Apply nodes commands = apply nodes
 form keywords.Cut nodes commands = cut nodes
 form keywords.Remove nodes commands = remove nodes
+form keywords.Restart nodes commands = restart nodes
 form keywords.Tick nodes commands = tick nodes
 form keywords.Deliver nodes commands = deliver nodes
 form keywords.Peek nodes commands = peek nodes

@@ -13,12 +13,13 @@ world_keyword_of word =
     else (if bytes_eq word (codes "apply") then keywords.Apply
     else (if bytes_eq word (codes "cut") then keywords.Cut
     else (if bytes_eq word (codes "remove") then keywords.Remove
+    else (if bytes_eq word (codes "restart") then keywords.Restart
     else (if bytes_eq word (codes "tick") then keywords.Tick
     else (if bytes_eq word (codes "deliver") then keywords.Deliver
     else (if bytes_eq word (codes "peek") then keywords.Peek
     else (if bytes_eq word (codes "loss") then keywords.Loss
     else (if bytes_eq word (codes "settle") then keywords.Settle
-    else keywords.Unknown))))))))
+    else keywords.Unknown)))))))))
 
 -- the words that begin a line
 unfoldable pub keyword_of : List ℕ → Keyword

@@ -8,5 +8,5 @@ pub mod Forms
 pub mod Seen
 pub mod Meaning
 pub mod Reading
-pub mod Gives
+pub mod Wanted
 pub mod Causes

@@ -9,6 +9,8 @@ use Rattle.rp_script.specs.declared.faults.LineKind.{LineKind}
 use Rattle.rp_script.specs.declared.faults.LineKind.TheVariants as kinds
 use Rattle.rp_script.specs.declared.faults.ScriptFault.{ScriptFault}
 use Rattle.rp_script.specs.declared.faults.ScriptFault.TheVariants as faults
+use Rattle.rp_script.specs.declared.faults.ScriptStop.{ScriptStop}
+use Rattle.rp_script.specs.declared.faults.ScriptStop.TheVariants as stops
 use Rattle.rp_script.specs.declared.lines.NumberedLine.{NumberedLine}
 use Rattle.rp_script.specs.declared.lines.ScriptLine.{ScriptLine}
 
@@ -54,6 +56,11 @@ meant forms s (line ∷ lines) = judged_in forms s line >>= λ said. in_front (n
 -- the meaning of a script, a race's or another, where these forms are built
 abbrev pub meaning : Forms → Bool → List ℕ → Result (List NumberedLine) ScriptFault
 meaning forms race bytes = meant forms (unseen race) (lines_of bytes)
+
+-- what stops the reading stands for a fault of the script, or for none at want of memory
+abbrev pub script_fault : ScriptStop → Option ScriptFault
+script_fault (stops.Judged fault) = Some fault
+script_fault stops.NoMemory = None
 
 -- where every form is built, a line says what the rules of the script alone make of it
 abbrev pub AllAreBuilt : Type 0

@@ -1,14 +1,17 @@
 -- How words are read from left to right, and how each kind of word is read.
-use Rattle.std.specs.Prelude.{◌≡◌, ℕ, ◌-◌, ◌^◌, ◌<◌, ◌&&◌, Bool, true, false, nat_le, nat_lt, List, [], ◌∷◌, Option, Some, None, Result, Ok, Err, codes, slice_index, if◌then◌else◌, refl}
-use Rattle.std.proofs.Common.{arith}
-use Rattle.std.proofs.lemmas.Bool.Decides.{nat_tests}
+use Rattle.std.specs.Prelude.{ℕ, ◌-◌, ◌^◌, ◌&&◌, ◌==◌, Bool, true, false, nat_le, List, [], ◌∷◌, Option, Some, None, Result, Ok, Err, codes, if◌then◌else◌}
 use Rattle.std.specs.Str.{bytes_eq}
 use Rattle.rp_base.specs.Numbers.{u64_of}
-use Rattle.rp_base.specs.Keys.{key_of, end_of}
+use Rattle.rp_base.specs.Keys.{key_of}
+use Rattle.rp_base.specs.ShortTexts.{text_of}
+use Rattle.rp_base.specs.Spans.{key_span_of}
 use Rattle.rp_base.specs.declared.NumberFault.{NumberFault}
 use Rattle.rp_base.specs.declared.NumberFault.TheVariants as numbers
 use Rattle.rp_base.specs.declared.BadKey.{BadKey}
+use Rattle.rp_base.specs.declared.BadText.{BadText}
 use Rattle.rp_base.specs.declared.KeySpan.{KeySpan}
+use Rattle.rp_base.specs.declared.Value.{Value}
+use Rattle.rp_base.specs.declared.Value.TheVariants as values
 use Rattle.rp_script.specs.declared.faults.LineKind.{LineKind}
 use Rattle.rp_script.specs.declared.faults.LineKind.TheVariants as kinds
 use Rattle.rp_script.specs.declared.faults.BadWord.{BadWord}
@@ -62,8 +65,8 @@ unfoldable pub number_at : ℕ → ℕ → ℕ → Reader ℕ
 number_at at low high = word_at at (number_in at low high)
 
 -- any number of 64 bits
-abbrev pub value_at : ℕ → Reader ℕ
-value_at at = number_at at 0 (2 ^ 64 - 1)
+abbrev pub any_number_at : ℕ → Reader ℕ
+any_number_at at = number_at at 0 (2 ^ 64 - 1)
 
 -- the number of one of so many commands: then it passes their count
 abbrev pub sent_of : ℕ → ℕ → Result ℕ BadWord → Result ℕ BadWord
@@ -72,10 +75,6 @@ sent_of at count (Err e) = Err e
 
 unfoldable pub seq_at : ℕ → ℕ → Reader ℕ
 seq_at at count = word_at at (λ word. sent_of at count (number_in at 1 (2 ^ 64 - 1) word))
-
--- how many commands of a client there are
-abbrev pub sent : List ℕ → ℕ → ℕ
-sent commands client = slice_index commands (client - 1)
 
 -- a key
 abbrev pub as_key : ℕ → Result ℕ BadKey → Result ℕ BadWord
@@ -88,30 +87,42 @@ key_in at word = as_key at (key_of word)
 unfoldable pub key_at : ℕ → Reader ℕ
 key_at at = word_at at (key_in at)
 
-abbrev pub given : Result ℕ BadWord → Result (Option ℕ) BadWord
+-- a value: behind an apostrophe the bytes of a text, else a number
+abbrev pub as_text : ℕ → Result (List ℕ) BadText → Result Value BadWord
+as_text at (Ok text) = Ok (values.Text text)
+as_text at (Err e) = bad at kinds.BadText
+
+abbrev pub as_number : Result ℕ BadWord → Result Value BadWord
+as_number (Ok n) = Ok (values.Number n)
+as_number (Err e) = Err e
+
+unfoldable pub value_in : ℕ → List ℕ → Result Value BadWord
+value_in at [] = as_number (number_in at 0 (2 ^ 64 - 1) [])
+value_in at (b ∷ bytes) = if b == 39 then as_text at (text_of bytes) else as_number (number_in at 0 (2 ^ 64 - 1) (b ∷ bytes))
+
+unfoldable pub value_at : ℕ → Reader Value
+value_at at = word_at at (value_in at)
+
+abbrev pub given : {A : Type 0} → Result A BadWord → Result (Option A) BadWord
 given (Ok x) = Ok (Some x)
 given (Err e) = Err e
 
--- an expected value: `none`, or a number
-unfoldable pub expect_at : ℕ → Reader (Option ℕ)
-expect_at at = word_at at (λ word. if bytes_eq word (codes "none") then Ok None else given (number_in at 0 (2 ^ 64 - 1) word))
+-- an expected value: `none`, or a value
+unfoldable pub expect_at : ℕ → Reader (Option Value)
+expect_at at = word_at at (λ word. if bytes_eq word (codes "none") then Ok None else given (value_in at word))
 
 -- an end: `~`, or a key
 unfoldable pub bound_in : ℕ → List ℕ → Result (Option ℕ) BadWord
 bound_in at word = if bytes_eq word (codes "~") then Ok None else given (key_in at word)
 
--- the start is below the end
-pub below : (start end : ℕ) → nat_lt start end ≡ true → start < end
-below start end test = grind (arith, nat_tests)
-
-abbrev pub span_of : (at start : ℕ) (end : Option ℕ) (v : Bool) → nat_lt start (end_of end) ≡ v → Result KeySpan BadWord
-span_of at start end true test = Ok (record { start = start; end = end; ordered = below start (end_of end) test })
-span_of at start end false test = bad at kinds.BadSpan
+-- the end of a span from this start on: then the start is not below it
+abbrev pub as_span : ℕ → Option KeySpan → Result KeySpan BadWord
+as_span at (Some span) = Ok span
+as_span at None = bad at kinds.BadSpan
 
 abbrev pub spanned : ℕ → ℕ → Result (Option ℕ) BadWord → Result KeySpan BadWord
-spanned at start (Ok end) = span_of at start end (nat_lt start (end_of end)) refl
+spanned at start (Ok end) = as_span at (key_span_of start end)
 spanned at start (Err e) = Err e
 
--- the end of a span from this start on: then the start is not below it
 unfoldable pub span_at : ℕ → ℕ → Reader KeySpan
 span_at at start = word_at at (λ word. spanned at start (bound_in at word))

@@ -3,7 +3,7 @@ use Rattle.std.specs.Prelude.{[], ◌∷◌}
 use Rattle.rp_request.specs.declared.Request.{Request}
 use Rattle.rp_request.specs.declared.Request.TheVariants as forms
 use Rattle.rp_script.specs.Keywords.{request_word_of}
-use Rattle.rp_script.specs.Readers.{Reader, bad, ◌>>=◌, whole, value_at, key_at, expect_at, span_at}
+use Rattle.rp_script.specs.Readers.{Reader, bad, ◌>>=◌, whole, any_number_at, value_at, key_at, expect_at, span_at}
 use Rattle.rp_script.specs.declared.faults.LineKind.TheVariants as kinds
 use Rattle.rp_script.specs.declared.keywords.RequestWord.{RequestWord}
 use Rattle.rp_script.specs.declared.keywords.RequestWord.TheVariants as words
@@ -19,7 +19,7 @@ put = do
 unfoldable pub add : Reader Request
 add = do
   key ← key_at 6
-  by ← value_at 7
+  by ← any_number_at 7
   whole 8 (forms.Add key by)
 
 -- `cput K E V`
@@ -48,7 +48,7 @@ unfoldable pub moving : Reader Request
 moving = do
   from ← key_at 6
   to ← key_at 7
-  by ← value_at 8
+  by ← any_number_at 8
   whole 9 (forms.Move from to by)
 
 -- `split K`

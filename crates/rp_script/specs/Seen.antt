@@ -2,6 +2,7 @@
 use Rattle.std.specs.Prelude.{ℕ, ◌+◌, ◌-◌, ◌&&◌, ◌==◌, not, nat_lt, nat_le, Bool, true, false, List, [], ◌∷◌, length, replicate, Option, Some, None, Result, Ok, Err, slice_index, slice_set, codes, if◌then◌else◌}
 use Rattle.std.specs.List.{list_any, position_from}
 use Rattle.std.specs.Str.{bytes_eq}
+use Rattle.rp_base.specs.ClientCounts.{no_counts, one_more_of}
 use Rattle.rp_base.specs.declared.Which.{Which}
 use Rattle.rp_base.specs.declared.Which.TheVariants.{Lines, LineBytes, Commands}
 use Rattle.rp_script.specs.Words.{words_of}
@@ -33,7 +34,7 @@ pub record Seen : Type 0 where
 
 -- before the first line
 abbrev pub unseen : Bool → Seen
-unseen race = record { race = race; lines = 0; sends = 0; nodes = None; ended = false; commands = replicate 64 0 }
+unseen race = record { race = race; lines = 0; sends = 0; nodes = None; ended = false; commands = no_counts }
 
 -- the first word is `send`
 abbrev pub begins_send : List (List ℕ) → Bool
@@ -133,10 +134,6 @@ of_line (Err fault) = Err (line_fault fault)
 abbrev pub answer_of : Seen → List ℕ → Result (Option ScriptLine) LineFault
 answer_of s line = of_line (judged s line)
 
--- a client has one command more
-abbrev pub counted : List ℕ → ℕ → List ℕ
-counted commands client = slice_set commands (client - 1) (slice_index commands (client - 1) + 1)
-
 abbrev pub one_more : Seen → Seen
 one_more s = record s { lines = s.lines + 1 }
 
@@ -145,8 +142,8 @@ abbrev pub after : Seen → Option ScriptLine → Seen
 after s None = one_more s
 after s (Some (lines.Cluster nodes)) = record (one_more s) { nodes = Some nodes }
 after s (Some (lines.Send node range client request)) =
-    record s { lines = s.lines + 1; sends = s.sends + 1; commands = counted s.commands client }
-after s (Some (lines.Admit node range client request)) = record s { lines = s.lines + 1; commands = counted s.commands client }
+    record s { lines = s.lines + 1; sends = s.sends + 1; commands = one_more_of s.commands client }
+after s (Some (lines.Admit node range client request)) = record s { lines = s.lines + 1; commands = one_more_of s.commands client }
 after s (Some lines.End) = record (one_more s) { ended = true }
 after s (Some _) = one_more s
 

@@ -4,7 +4,7 @@ ghost use Rattle.rp_script.specs.Seen.{line_fault};
 ghost use Rattle.rp_script.specs.declared.faults.ScriptStop.TheVariants.{Judged as judged_stop, NoMemory as no_memory};
 
 use rp_base::Which;
-use std::alloc::AllocFailed;
+use std::alloc::{AllocError, AllocFailed};
 use thiserror::Error;
 
 /// Why a line of a script is refused (this project).
@@ -30,6 +30,8 @@ pub enum LineKind {
     OutOfRange,
     /// The word is no key.
     BadKey,
+    /// More than 64 bytes follow the apostrophe of a text.
+    BadText,
     /// The start of a wipe is not below its end.
     BadSpan,
     /// The client has not sent so many commands.
@@ -40,6 +42,10 @@ pub enum LineKind {
     BadByte,
     /// The form of the line is not built.
     NotBuilt,
+    /// A report is no JSON. No script is refused so.
+    NotJson,
+    /// A report's JSON is not that of a report. No script is refused so.
+    NotReport,
 }
 
 /// What a line of a script is refused for.
@@ -94,6 +100,14 @@ impl<T: Drop> From<AllocFailed<T>> for ScriptStop {
     ghost from_gives = { λ _ e. e ≡ no_memory };
 
     fn from(_refused: AllocFailed<T>) -> ScriptStop {
+        ScriptStop::NoMemory
+    }
+}
+
+impl From<AllocError> for ScriptStop {
+    ghost from_gives = { λ _ e. e ≡ no_memory };
+
+    fn from(_refused: AllocError) -> ScriptStop {
         ScriptStop::NoMemory
     }
 }

@@ -1,19 +1,20 @@
-ghost use Rattle.std.specs.Prelude.{◌≡◌, ◌≤◌, length, IfOk};
-ghost use Rattle.rp_script.specs.Bounds.{IsBounded};
-ghost use Rattle.rp_script.specs.Forms.{cluster, send, admit, again, draw, publish, ask, transfer, flush, apply, cut, remove, tick, deliver, peek, loss, settle, ending, form};
+ghost use Rattle.std.specs.Prelude.{◌≡◌, ◌≤◌};
+ghost use Rattle.rp_script.specs.Forms.{cluster, send, admit, again, draw, publish, ask, transfer, flush, apply, cut, remove, restart, tick, deliver, peek, loss, settle, ending, form};
 
 use crate::faults::{BadWord, LineKind, bad_word};
 use crate::keywords::Keyword;
 use crate::lines::ScriptLine;
-use crate::readers::{client_at, end_at, key_at, node_at, number_at, range_at, seq_at, value_at};
+use crate::readers::{
+    any_number_at, client_at, end_at, key_at, node_at, number_at, range_at, seq_at,
+};
 use crate::requests::request;
 use crate::words::Words;
+use rp_base::ClientCounts;
 
 /// `cluster N`
 #[tactic(auto, unfolding(crate::specs::Forms::cluster))]
 pub fn cluster(words: &mut Words) -> Result<ScriptLine, BadWord>
-    ensures line { result ≡ cluster words.old }
-    ensures bounded { IfOk result IsBounded }
+    ensures { result ≡ cluster words.old }
 {
     let nodes = number_at(words, 2, 1, 5)?;
     end_at(words, 3)?;
@@ -24,8 +25,7 @@ pub fn cluster(words: &mut Words) -> Result<ScriptLine, BadWord>
 #[tactic(auto, unfolding(crate::specs::Forms::send))]
 fn send(words: &mut Words, nodes: u8) -> Result<ScriptLine, BadWord>
     requires { nodes ≤ 5 }
-    ensures line { result ≡ send nodes words.old }
-    ensures bounded { IfOk result IsBounded }
+    ensures { result ≡ send nodes words.old }
 {
     let node = node_at(words, 2, nodes)?;
     let range = range_at(words, 3)?;
@@ -43,8 +43,7 @@ fn send(words: &mut Words, nodes: u8) -> Result<ScriptLine, BadWord>
 #[tactic(auto, unfolding(crate::specs::Forms::admit))]
 fn admit(words: &mut Words, nodes: u8) -> Result<ScriptLine, BadWord>
     requires { nodes ≤ 5 }
-    ensures line { result ≡ admit nodes words.old }
-    ensures bounded { IfOk result IsBounded }
+    ensures { result ≡ admit nodes words.old }
 {
     let node = node_at(words, 2, nodes)?;
     let range = range_at(words, 3)?;
@@ -60,11 +59,9 @@ fn admit(words: &mut Words, nodes: u8) -> Result<ScriptLine, BadWord>
 
 /// `again N R C S`
 #[tactic(auto, unfolding(crate::specs::Forms::again))]
-fn again(words: &mut Words, nodes: u8, commands: &[u32]) -> Result<ScriptLine, BadWord>
-    requires nodes { nodes ≤ 5 }
-    requires all { length commands.now ≡ 64 }
-    ensures line { result ≡ again nodes commands.now words.old }
-    ensures bounded { IfOk result IsBounded }
+fn again(words: &mut Words, nodes: u8, commands: &ClientCounts) -> Result<ScriptLine, BadWord>
+    requires { nodes ≤ 5 }
+    ensures { result ≡ again nodes commands.now words.old }
 {
     let node = node_at(words, 2, nodes)?;
     let range = range_at(words, 3)?;
@@ -81,10 +78,8 @@ fn again(words: &mut Words, nodes: u8, commands: &[u32]) -> Result<ScriptLine, B
 
 /// `draw C S`
 #[tactic(auto, unfolding(crate::specs::Forms::draw))]
-fn draw(words: &mut Words, commands: &[u32]) -> Result<ScriptLine, BadWord>
-    requires { length commands.now ≡ 64 }
-    ensures line { result ≡ draw commands.now words.old }
-    ensures bounded { IfOk result IsBounded }
+fn draw(words: &mut Words, commands: &ClientCounts) -> Result<ScriptLine, BadWord>
+    ensures { result ≡ draw commands.now words.old }
 {
     let client = client_at(words, 2)?;
     let seq = seq_at(words, 3, commands, client)?;
@@ -94,10 +89,8 @@ fn draw(words: &mut Words, commands: &[u32]) -> Result<ScriptLine, BadWord>
 
 /// `publish C S`
 #[tactic(auto, unfolding(crate::specs::Forms::publish))]
-fn publish(words: &mut Words, commands: &[u32]) -> Result<ScriptLine, BadWord>
-    requires { length commands.now ≡ 64 }
-    ensures line { result ≡ publish commands.now words.old }
-    ensures bounded { IfOk result IsBounded }
+fn publish(words: &mut Words, commands: &ClientCounts) -> Result<ScriptLine, BadWord>
+    ensures { result ≡ publish commands.now words.old }
 {
     let client = client_at(words, 2)?;
     let seq = seq_at(words, 3, commands, client)?;
@@ -109,8 +102,7 @@ fn publish(words: &mut Words, commands: &[u32]) -> Result<ScriptLine, BadWord>
 #[tactic(auto, unfolding(crate::specs::Forms::ask))]
 fn ask(words: &mut Words, nodes: u8) -> Result<ScriptLine, BadWord>
     requires { nodes ≤ 5 }
-    ensures line { result ≡ ask nodes words.old }
-    ensures bounded { IfOk result IsBounded }
+    ensures { result ≡ ask nodes words.old }
 {
     let node = node_at(words, 2, nodes)?;
     let range = range_at(words, 3)?;
@@ -122,8 +114,7 @@ fn ask(words: &mut Words, nodes: u8) -> Result<ScriptLine, BadWord>
 #[tactic(auto, unfolding(crate::specs::Forms::transfer))]
 fn transfer(words: &mut Words, nodes: u8) -> Result<ScriptLine, BadWord>
     requires { nodes ≤ 5 }
-    ensures line { result ≡ transfer nodes words.old }
-    ensures bounded { IfOk result IsBounded }
+    ensures { result ≡ transfer nodes words.old }
 {
     let node = node_at(words, 2, nodes)?;
     let range = range_at(words, 3)?;
@@ -136,8 +127,7 @@ fn transfer(words: &mut Words, nodes: u8) -> Result<ScriptLine, BadWord>
 #[tactic(auto, unfolding(crate::specs::Forms::flush))]
 fn flush(words: &mut Words, nodes: u8) -> Result<ScriptLine, BadWord>
     requires { nodes ≤ 5 }
-    ensures line { result ≡ flush nodes words.old }
-    ensures bounded { IfOk result IsBounded }
+    ensures { result ≡ flush nodes words.old }
 {
     let node = node_at(words, 2, nodes)?;
     let range = range_at(words, 3)?;
@@ -149,8 +139,7 @@ fn flush(words: &mut Words, nodes: u8) -> Result<ScriptLine, BadWord>
 #[tactic(auto, unfolding(crate::specs::Forms::apply))]
 fn apply(words: &mut Words, nodes: u8) -> Result<ScriptLine, BadWord>
     requires { nodes ≤ 5 }
-    ensures line { result ≡ apply nodes words.old }
-    ensures bounded { IfOk result IsBounded }
+    ensures { result ≡ apply nodes words.old }
 {
     let node = node_at(words, 2, nodes)?;
     let range = range_at(words, 3)?;
@@ -162,8 +151,7 @@ fn apply(words: &mut Words, nodes: u8) -> Result<ScriptLine, BadWord>
 #[tactic(auto, unfolding(crate::specs::Forms::cut))]
 fn cut(words: &mut Words, nodes: u8) -> Result<ScriptLine, BadWord>
     requires { nodes ≤ 5 }
-    ensures line { result ≡ cut nodes words.old }
-    ensures bounded { IfOk result IsBounded }
+    ensures { result ≡ cut nodes words.old }
 {
     let node = node_at(words, 2, nodes)?;
     let range = range_at(words, 3)?;
@@ -175,8 +163,7 @@ fn cut(words: &mut Words, nodes: u8) -> Result<ScriptLine, BadWord>
 #[tactic(auto, unfolding(crate::specs::Forms::remove))]
 fn remove(words: &mut Words, nodes: u8) -> Result<ScriptLine, BadWord>
     requires { nodes ≤ 5 }
-    ensures line { result ≡ remove nodes words.old }
-    ensures bounded { IfOk result IsBounded }
+    ensures { result ≡ remove nodes words.old }
 {
     let node = node_at(words, 2, nodes)?;
     let range = range_at(words, 3)?;
@@ -184,12 +171,22 @@ fn remove(words: &mut Words, nodes: u8) -> Result<ScriptLine, BadWord>
     Ok(ScriptLine::Remove { node, range })
 }
 
+/// `restart N`
+#[tactic(auto, unfolding(crate::specs::Forms::restart))]
+fn restart(words: &mut Words, nodes: u8) -> Result<ScriptLine, BadWord>
+    requires { nodes ≤ 5 }
+    ensures { result ≡ restart nodes words.old }
+{
+    let node = node_at(words, 2, nodes)?;
+    end_at(words, 3)?;
+    Ok(ScriptLine::Restart { node })
+}
+
 /// `tick N K`
 #[tactic(auto, unfolding(crate::specs::Forms::tick))]
 fn tick(words: &mut Words, nodes: u8) -> Result<ScriptLine, BadWord>
     requires { nodes ≤ 5 }
-    ensures line { result ≡ tick nodes words.old }
-    ensures bounded { IfOk result IsBounded }
+    ensures { result ≡ tick nodes words.old }
 {
     let node = node_at(words, 2, nodes)?;
     let count = number_at(words, 3, 1, 10_000)?;
@@ -201,8 +198,7 @@ fn tick(words: &mut Words, nodes: u8) -> Result<ScriptLine, BadWord>
 #[tactic(auto, unfolding(crate::specs::Forms::deliver))]
 fn deliver(words: &mut Words, nodes: u8) -> Result<ScriptLine, BadWord>
     requires { nodes ≤ 5 }
-    ensures line { result ≡ deliver nodes words.old }
-    ensures bounded { IfOk result IsBounded }
+    ensures { result ≡ deliver nodes words.old }
 {
     let node = node_at(words, 2, nodes)?;
     let number = number_at(words, 3, 1, u64::MAX)?;
@@ -214,8 +210,7 @@ fn deliver(words: &mut Words, nodes: u8) -> Result<ScriptLine, BadWord>
 #[tactic(auto, unfolding(crate::specs::Forms::peek))]
 fn peek(words: &mut Words, nodes: u8) -> Result<ScriptLine, BadWord>
     requires { nodes ≤ 5 }
-    ensures line { result ≡ peek nodes words.old }
-    ensures bounded { IfOk result IsBounded }
+    ensures { result ≡ peek nodes words.old }
 {
     let node = node_at(words, 2, nodes)?;
     let range = range_at(words, 3)?;
@@ -227,11 +222,10 @@ fn peek(words: &mut Words, nodes: u8) -> Result<ScriptLine, BadWord>
 /// `loss P S`
 #[tactic(auto, unfolding(crate::specs::Forms::loss))]
 fn loss(words: &mut Words) -> Result<ScriptLine, BadWord>
-    ensures line { result ≡ loss words.old }
-    ensures bounded { IfOk result IsBounded }
+    ensures { result ≡ loss words.old }
 {
     let percent = number_at(words, 2, 0, 50)?;
-    let salt = value_at(words, 3)?;
+    let salt = any_number_at(words, 3)?;
     end_at(words, 4)?;
     Ok(ScriptLine::Loss {
         percent: percent as u8,
@@ -242,8 +236,7 @@ fn loss(words: &mut Words) -> Result<ScriptLine, BadWord>
 /// `settle K`
 #[tactic(auto, unfolding(crate::specs::Forms::settle))]
 fn settle(words: &mut Words) -> Result<ScriptLine, BadWord>
-    ensures line { result ≡ settle words.old }
-    ensures bounded { IfOk result IsBounded }
+    ensures { result ≡ settle words.old }
 {
     let rounds = number_at(words, 2, 1, 10_000)?;
     end_at(words, 3)?;
@@ -252,8 +245,7 @@ fn settle(words: &mut Words) -> Result<ScriptLine, BadWord>
 
 /// `end`
 fn end(words: &mut Words) -> Result<ScriptLine, BadWord>
-    ensures line { result ≡ ending words.old }
-    ensures bounded { IfOk result IsBounded }
+    ensures { result ≡ ending words.old }
 {
     end_at(words, 2)?;
     Ok(ScriptLine::End)
@@ -266,12 +258,10 @@ pub fn form(
     keyword: Keyword,
     words: &mut Words,
     nodes: u8,
-    commands: &[u32],
+    commands: &ClientCounts,
 ) -> Result<ScriptLine, BadWord>
-    requires nodes { nodes ≤ 5 }
-    requires all { length commands.now ≡ 64 }
-    ensures line { result ≡ form keyword nodes commands.now words.old }
-    ensures bounded { IfOk result IsBounded }
+    requires { nodes ≤ 5 }
+    ensures { result ≡ form keyword nodes commands.now words.old }
 {
     match keyword {
         Keyword::Cluster => cluster(words),
@@ -286,6 +276,7 @@ pub fn form(
         Keyword::Apply => apply(words, nodes),
         Keyword::Cut => cut(words, nodes),
         Keyword::Remove => remove(words, nodes),
+        Keyword::Restart => restart(words, nodes),
         Keyword::Tick => tick(words, nodes),
         Keyword::Deliver => deliver(words, nodes),
         Keyword::Peek => peek(words, nodes),

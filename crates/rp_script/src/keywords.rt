@@ -16,6 +16,7 @@ pub enum Keyword {
     Apply,
     Cut,
     Remove,
+    Restart,
     Tick,
     Deliver,
     Peek,
@@ -79,6 +80,8 @@ fn world_keyword_of(word: &[u8]) -> Keyword
         Keyword::Cut
     } else if word == b"remove".as_slice() {
         Keyword::Remove
+    } else if word == b"restart".as_slice() {
+        Keyword::Restart
     } else if word == b"tick".as_slice() {
         Keyword::Tick
     } else if word == b"deliver".as_slice() {

@@ -2,9 +2,10 @@
 
 ghost use Rattle.rp_script.specs.Meaning.{AllAreBuilt};
 ghost use Rattle.rp_script.specs.Reading.{ReadsMeaning, ReadsPieces};
-ghost use Rattle.rp_script.specs.Causes.{RulesRefuse, RefusalsHaveCauses, NotBuiltExactly};
+ghost use Rattle.rp_script.specs.Causes.{RefusedExactly, LinesRefusedExactly, RequestsRefusedExactly, LongTextsAlone, KindsOfRules, NotBuiltExactly};
 
-/// To read a script byte after byte, as the reader does, gives its meaning, which is said line by line.
+/// To read a script byte after byte, as the reader does, gives its meaning, which is said line by
+/// line.
 #[tactic(auto, using(crate::proofs::ReadsLines::reads_meaning))]
 pub fn reads_meaning()
     ensures { ReadsMeaning }
@@ -22,21 +23,38 @@ pub fn all_are_built()
     ensures { AllAreBuilt }
 {}
 
-/// A line is refused at its first word where a rule on it says so.
-#[tactic(auto, using(crate::proofs::Rules::rules_refuse))]
-pub fn rules_refuse()
-    ensures { RulesRefuse }
+/// A line that begins so is refused at its first word by a rule, or else at a later word that is
+/// wrong by its place, where all words in front of it are right; and so alone.
+#[tactic(auto, using(crate::proofs::Rules::refused_exactly))]
+pub fn refused_exactly()
+    ensures { RefusedExactly }
 {}
 
-/// A line is refused so alone: at its first word by a rule, or at a later word with its cause, where the
-/// words in front of it are right. The bounds of each number are those of the line's form.
-#[tactic(auto, using(crate::proofs::Rules::refusals_have_causes))]
-pub fn refusals_have_causes()
-    ensures { RefusalsHaveCauses }
+/// The words of a request alone are refused just so.
+pub fn requests_refused_exactly()
+    ensures { RequestsRefusedExactly }
 {}
 
-/// A line is refused as not built where the rules of the script take it and its form is not built, and
-/// nowhere else: where every form is built, no line is refused so.
+/// A bad byte refuses its line before all else, at its word, or at word 0 of a comment.
+#[tactic(auto, using(crate::proofs::Rules::lines_refused_exactly))]
+pub fn lines_refused_exactly()
+    ensures { LinesRefusedExactly }
+{}
+
+/// In a line without a bad byte a text is refused where more than 64 bytes follow the apostrophe, and
+/// nowhere else.
+pub fn long_texts_alone()
+    ensures { LongTextsAlone }
+{}
+
+/// No rule of a script refuses a line as not built, nor by a kind that speaks of a report.
+#[tactic(auto, using(crate::proofs::NotBuilt::kinds_of_rules))]
+pub fn kinds_of_rules()
+    ensures { KindsOfRules }
+{}
+
+/// A line is refused as not built where the rules of the script take it and its form is not built,
+/// and nowhere else: where every form is built, no line is refused so.
 pub fn not_built_exactly()
     ensures { NotBuiltExactly }
 {}

@@ -18,7 +18,8 @@ mod tests;
 mod words;
 
 pub use built::Forms;
-pub use faults::{LineFault, LineKind, ScriptFault, ScriptStop};
+pub use faults::{BadWord, LineFault, LineKind, ScriptFault, ScriptStop};
 pub use lines::{NumberedLine, ScriptLine};
+pub use requests::read_request;
 pub use scripts::Script;
 pub use sources::{ScriptReader, read_lines};

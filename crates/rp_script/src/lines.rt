@@ -1,8 +1,8 @@
 use rp_base::{Key, NodeId, RangeId};
 use rp_request::Request;
 
-/// A line of a script (this project). Clients are 1 to 64, numbers of commands count from 1 for each
-/// client.
+/// A line of a script (this project). Clients are 1 to 64, numbers of commands count from 1 for
+/// each client.
 #[derive(Clone, Copy, Debug, PartialEq, Eq)]
 pub enum ScriptLine {
     /// So many nodes, 1 to 5.
@@ -70,6 +70,10 @@ pub enum ScriptLine {
     Remove {
         node: NodeId,
         range: RangeId,
+    },
+    /// The node starts again from what it keeps.
+    Restart {
+        node: NodeId,
     },
     /// So many ticks, 1 to 10,000.
     Tick {

@@ -1,9 +1,13 @@
-ghost use Rattle.std.specs.Prelude.{◌≡◌, ◌≤◌, ◌<◌, ◌^◌, ◌-◌, true, false, length, IfOk, OnOk, MatchResult};
-ghost use Rattle.rp_script.specs.Readers.{bad_word, behind, is_whole, number_in, number_at, seq_at, sent, key_in, key_at, expect_at, bound_in, span_at};
+ghost use Rattle.std.specs.Prelude.{◌≡◌, ◌≤◌, ◌<◌, ◌^◌, ◌-◌, true, false, IfOk, OnOk, MatchResult};
+ghost use Rattle.rp_base.specs.ClientCounts.{count_of};
+ghost use Rattle.rp_base.specs.ShortTexts.{text_of};
+ghost use Rattle.rp_script.specs.Readers.{bad_word, behind, is_whole, number_in, number_at, any_number_at, seq_at, as_text, value_in, value_at, key_in, key_at, expect_at, bound_in, span_at};
 
 use crate::faults::{BadWord, LineKind, bad_word};
 use crate::words::Words;
-use rp_base::{Key, KeySpan, NodeId, NumberFault, RangeId, read_u64};
+use rp_base::{
+    ClientCounts, Key, KeySpan, NodeId, NumberFault, RangeId, ShortText, Value, read_u64,
+};
 
 /// Reads a number from `low` to `high`, which is word `at` of its line.
 #[tactic(auto, unfolding(crate::specs::Readers::number_in))]
@@ -30,6 +34,27 @@ fn key_in(word: &[u8], at: u32) -> Result<Key, BadWord>
     }
 }
 
+/// Reads the bytes of a text, behind the apostrophe of word `at` of its line.
+fn text_in(text: &[u8], at: u32) -> Result<Value, BadWord>
+    ensures { result ≡ as_text at (text_of text.now) }
+{
+    match ShortText::read(text) {
+        Ok(text) => Ok(Value::Text(text)),
+        Err(_) => Err(bad_word(at, LineKind::BadText)),
+    }
+}
+
+/// Reads a value, which is word `at` of its line: behind an apostrophe a text, else a number.
+#[tactic(auto, unfolding(crate::specs::Readers::value_in))]
+fn value_in(word: &[u8], at: u32) -> Result<Value, BadWord>
+    ensures { result ≡ value_in at word.now }
+{
+    match word {
+        [b'\'', text @ ..] => text_in(text, at),
+        _ => Ok(Value::Number(number_in(word, at, 0, u64::MAX)?)),
+    }
+}
+
 /// Reads the end of a span, a key or `~` for the end of the key space.
 #[tactic(auto, unfolding(crate::specs::Readers::bound_in))]
 fn bound_in(word: &[u8], at: u32) -> Result<Option<Key>, BadWord>
@@ -43,7 +68,8 @@ fn bound_in(word: &[u8], at: u32) -> Result<Option<Key>, BadWord>
 
 /// Nothing follows the last word, which stands before word `at`.
 pub fn end_at(words: &mut Words, at: u32) -> Result<(), BadWord>
-    ensures { MatchResult result (λ _. is_whole words.old ≡ true) (λ e. (is_whole words.old ≡ false) × (e ≡ bad_word at LineKind.ExtraWord)) }
+    ensures whole { MatchResult result (λ _. is_whole words.old ≡ true)
+        (λ e. (is_whole words.old ≡ false) × (e ≡ bad_word at LineKind.ExtraWord)) }
 {
     match words.next() {
         None => Ok(()),
@@ -66,8 +92,8 @@ pub fn number_at(words: &mut Words, at: u32, low: u64, high: u64) -> Result<u64,
 }
 
 /// Reads word `at`, a number of 64 bits.
-pub fn value_at(words: &mut Words, at: u32) -> Result<u64, BadWord>
-    ensures value { result ≡ number_at at 0 (2 ^ 64 - 1) words.old }
+pub fn any_number_at(words: &mut Words, at: u32) -> Result<u64, BadWord>
+    ensures value { result ≡ any_number_at at words.old }
     ensures rest { OnOk result (words.new ≡ behind words.old) }
 {
     number_at(words, at, 0, u64::MAX)
@@ -120,14 +146,18 @@ fn number_of_sent_at(words: &mut Words, at: u32, count: u32) -> Result<u32, BadW
 }
 
 /// Reads word `at`, the number of a command of the client, given how many each client has.
-pub fn seq_at(words: &mut Words, at: u32, commands: &[u32], client: u16) -> Result<u32, BadWord>
-    requires all { length commands.now ≡ 64 }
+pub fn seq_at(
+    words: &mut Words,
+    at: u32,
+    commands: &ClientCounts,
+    client: u16,
+) -> Result<u32, BadWord>
     requires from { 1 ≤ client }
     requires to { client ≤ 64 }
-    ensures value { result ≡ seq_at at (sent commands.now client) words.old }
+    ensures value { result ≡ seq_at at (count_of commands.now client) words.old }
     ensures rest { OnOk result (words.new ≡ behind words.old) }
 {
-    number_of_sent_at(words, at, commands[usize::from(client) - 1])
+    number_of_sent_at(words, at, commands.get(client))
 }
 
 /// Reads word `at`, a key.
@@ -142,9 +172,21 @@ pub fn key_at(words: &mut Words, at: u32) -> Result<Key, BadWord>
     }
 }
 
-/// Reads word `at`, an expected value: `none`, or a number of 64 bits.
+/// Reads word `at`, a value.
+#[tactic(auto, unfolding(crate::specs::Readers::value_at))]
+pub fn value_at(words: &mut Words, at: u32) -> Result<Value, BadWord>
+    ensures value { result ≡ value_at at words.old }
+    ensures rest { OnOk result (words.new ≡ behind words.old) }
+{
+    match words.next() {
+        None => Err(bad_word(at, LineKind::MissingWord)),
+        Some(word) => value_in(word, at),
+    }
+}
+
+/// Reads word `at`, an expected value: `none`, or a value.
 #[tactic(auto, unfolding(crate::specs::Readers::expect_at))]
-pub fn expect_at(words: &mut Words, at: u32) -> Result<Option<u64>, BadWord>
+pub fn expect_at(words: &mut Words, at: u32) -> Result<Option<Value>, BadWord>
     ensures value { result ≡ expect_at at words.old }
     ensures rest { OnOk result (words.new ≡ behind words.old) }
 {
@@ -154,7 +196,7 @@ pub fn expect_at(words: &mut Words, at: u32) -> Result<Option<u64>, BadWord>
     if word == b"none".as_slice() {
         return Ok(None);
     }
-    Ok(Some(number_in(word, at, 0, u64::MAX)?))
+    Ok(Some(value_in(word, at)?))
 }
 
 /// Reads word `at`, the end of the span that begins at this key.

@@ -1,9 +1,11 @@
-ghost use Rattle.std.specs.Prelude.{◌≡◌};
+ghost use Rattle.std.specs.Prelude.{◌≡◌, IfOk};
 ghost use Rattle.rp_script.specs.Requests.{put, add, cput, del, wipe, moving, split, request_of, request};
+ghost use Rattle.rp_script.specs.Words.{words_of};
+ghost use Rattle.rp_request.specs.Fits.{FitsRequest};
 
 use crate::faults::{BadWord, LineKind, bad_word};
 use crate::keywords::{RequestWord, request_word_of};
-use crate::readers::{end_at, expect_at, key_at, span_at, value_at};
+use crate::readers::{any_number_at, end_at, expect_at, key_at, span_at, value_at};
 use crate::words::Words;
 use rp_request::Request;
 
@@ -24,7 +26,7 @@ fn add(words: &mut Words) -> Result<Request, BadWord>
     ensures { result ≡ add words.old }
 {
     let key = key_at(words, 6)?;
-    let by = value_at(words, 7)?;
+    let by = any_number_at(words, 7)?;
     end_at(words, 8)?;
     Ok(Request::Add { key, by })
 }
@@ -69,7 +71,7 @@ fn moving(words: &mut Words) -> Result<Request, BadWord>
 {
     let from = key_at(words, 6)?;
     let to = key_at(words, 7)?;
-    let by = value_at(words, 8)?;
+    let by = any_number_at(words, 8)?;
     end_at(words, 9)?;
     Ok(Request::Move { from, to, by })
 }
@@ -110,4 +112,14 @@ pub fn request(words: &mut Words) -> Result<Request, BadWord>
         None => Err(bad_word(5, LineKind::MissingWord)),
         Some(word) => request_of(request_word_of(word), words),
     }
+}
+
+/// Reads the words of a request alone, as they stand in a line. The word of a refusal is counted as
+/// there: the first word of a request is word 5.
+#[tactic(auto, using(crate::proofs::Rules::request_fits))]
+pub fn read_request(text: &[u8]) -> Result<Request, BadWord>
+    ensures request { result ≡ request (words_of text.now) }
+    ensures fits { IfOk result FitsRequest }
+{
+    request(&mut Words::new(text))
 }

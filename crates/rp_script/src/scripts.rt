@@ -1,14 +1,14 @@
 ghost use Rattle.std.specs.Prelude.{◌≡◌, ◌<◌, ◌≤◌, ◌+◌, ◌-◌, ◌==◌, [], length, IsTrue, None, Some, IfOk, IfSome, MatchResult, slice_index};
 ghost use Rattle.rp_script.specs.Words.{words_of};
-ghost use Rattle.rp_script.specs.Bounds.{IsBounded};
-ghost use Rattle.rp_script.specs.Seen.{Seen, unseen, begins_send, limit_of, has_bad_byte, bad_byte_of, begins_comment, placed, said, judged, answer_of, counted, after, left, unended};
+ghost use Rattle.rp_script.specs.Bounds.{IsBounded, Follows};
+ghost use Rattle.rp_script.specs.Seen.{Seen, unseen, begins_send, limit_of, has_bad_byte, bad_byte_of, begins_comment, placed, said, judged, answer_of, after, left, unended};
 
 use crate::faults::{BadWord, Excess, LineFault, LineKind, ScriptFault, bad_word, line_fault};
 use crate::forms::{cluster, form};
 use crate::keywords::{Keyword, is_barred_in_race, keyword_of};
 use crate::lines::ScriptLine;
 use crate::words::Words;
-use rp_base::Which;
+use rp_base::{ClientCounts, Which};
 use std::marker::Model;
 
 /// The lines of a script, taken one after another. Contracts see what must be known of the lines
@@ -21,7 +21,7 @@ pub struct Script {
     sends: u32,
     nodes: Option<u8>,
     ended: bool,
-    commands: [u32; 64],
+    commands: ClientCounts,
 }
 
 impl Model for Script {
@@ -39,7 +39,10 @@ impl Model for Script {
       commands = s.commands;
     } };
 
-    ghost invariant = { λ s. (s.lines ≤ 65536) × (s.sends ≤ s.lines) × (length s.commands ≡ 64) × IfSome s.nodes (λ n. n ≤ 5) × ((k : ℕ) → slice_index s.commands k ≤ s.lines) };
+    ghost invariant = { λ s. (s.lines ≤ 65536)
+        × (s.sends ≤ s.lines)
+        × IfSome s.nodes (λ n. n ≤ 5)
+        × ((k : ℕ) → slice_index s.commands k ≤ s.lines) };
 }
 
 /// Whether the first word of a line is `send`.
@@ -83,17 +86,6 @@ fn bad_byte_of(line: &[u8]) -> Option<u32>
     None
 }
 
-/// Counts one command more of the client.
-fn count(commands: &mut [u32], client: u16)
-    requires all { length commands.old ≡ 64 }
-    requires from { 1 ≤ client }
-    requires to { client ≤ 64 }
-    requires few { slice_index commands.old (client - 1) < 65536 }
-    ensures { commands.new ≡ counted commands.old client }
-{
-    commands[usize::from(client) - 1] += 1;
-}
-
 impl Script {
     /// No line was taken yet. A race takes fewer forms of line.
     pub fn new(race: bool) -> Script
@@ -105,7 +97,7 @@ impl Script {
             sends: 0,
             nodes: None,
             ended: false,
-            commands: [0; 64],
+            commands: ClientCounts::new(),
         }
     }
 
@@ -139,8 +131,7 @@ impl Script {
     /// Reads the words behind the first one, where a line that begins so may come.
     #[tactic(auto, unfolding(crate::specs::Seen::placed))]
     fn placed(&self, keyword: Keyword, words: &mut Words) -> Result<ScriptLine, BadWord>
-        ensures line { result ≡ placed self.now keyword words.old }
-        ensures bounded { IfOk result IsBounded }
+        ensures { result ≡ placed self.now keyword words.old }
     {
         match (self.nodes, keyword) {
             (None, Keyword::Cluster) => cluster(words),
@@ -158,8 +149,7 @@ impl Script {
     #[tactic(auto, unfolding(crate::specs::Seen::said))]
     fn said(&self, line: &[u8]) -> Result<Option<ScriptLine>, BadWord>
         requires { length line.now ≤ 256 }
-        ensures line { result ≡ said self.now (words_of line.now) }
-        ensures bounded { IfOk result (λ o. IfSome o IsBounded) }
+        ensures { result ≡ said self.now (words_of line.now) }
     {
         let bad = bad_byte_of(line);
         let mut words = Words::new(line);
@@ -184,10 +174,9 @@ impl Script {
 
     /// What the next line says; the script stays as it is.
     #[tactic(auto, unfolding(crate::specs::Seen::judged))]
-    pub(crate) fn judge(&self, line: &[u8]) -> Result<Option<ScriptLine>, ScriptFault>
+    fn judge_words(&self, line: &[u8]) -> Result<Option<ScriptLine>, ScriptFault>
         ensures line { result ≡ judged self.now line.now }
         ensures room { IfOk result (λ _. self.now.lines < 65536) }
-        ensures bounded { IfOk result (λ o. IfSome o IsBounded) }
     {
         if let Some(Excess { which, count }) = self.limit_of(line) {
             return Err(ScriptFault::Limit { which, count });
@@ -202,6 +191,17 @@ impl Script {
         }
     }
 
+    /// The same, and that it may follow the lines that were taken.
+    #[tactic(auto, using(crate::proofs::Along::judged_follows, crate::proofs::Along::judged_bounded))]
+    pub(crate) fn judge(&self, line: &[u8]) -> Result<Option<ScriptLine>, ScriptFault>
+        ensures line { result ≡ judged self.now line.now }
+        ensures room { IfOk result (λ _. self.now.lines < 65536) }
+        ensures follows { IfOk result (λ o. IfSome o (Follows self.now)) }
+        ensures bounded { IfOk result (λ o. IfSome o IsBounded) }
+    {
+        self.judge_words(line)
+    }
+
     /// Keeps what must be known of a line that was taken.
     pub(crate) fn keep(&mut self, line: &Option<ScriptLine>)
         requires room { self.old.lines < 65536 }
@@ -212,22 +212,24 @@ impl Script {
         match *line {
             Some(ScriptLine::Cluster { nodes }) => self.nodes = Some(nodes),
             Some(ScriptLine::Send { client, .. }) => {
-                count(&mut self.commands, client);
+                self.commands.add_one(client);
                 self.sends += 1;
             }
-            Some(ScriptLine::Admit { client, .. }) => count(&mut self.commands, client),
+            Some(ScriptLine::Admit { client, .. }) => {
+                self.commands.add_one(client);
+            }
             Some(ScriptLine::End) => self.ended = true,
             _ => {}
         }
         self.lines += 1;
     }
 
-    /// Takes the next line, without its newline; None for a line without words or a comment. It takes
-    /// no memory. A refusal leaves the script as it was.
+    /// Takes the next line, without its newline; None for a line without words or a comment. It
+    /// takes no memory. A refusal leaves the script as it was.
     pub fn take(&mut self, line: &[u8]) -> Result<Option<ScriptLine>, LineFault>
         ensures answer { result ≡ answer_of self.old line.now }
         ensures kept { self.new ≡ left self.old result }
-        ensures bounded { IfOk result (λ o. IfSome o IsBounded) }
+        ensures follows { IfOk result (λ o. IfSome o (Follows self.old)) }
     {
         match self.judge(line) {
             Ok(taken) => {
@@ -240,7 +242,8 @@ impl Script {
 
     /// Whether the source may end here: a line `cluster` and a line `end` were taken.
     pub fn finish(&self) -> Result<(), LineKind>
-        ensures { MatchResult result (λ _. unended self.now ≡ None) (λ kind. unended self.now ≡ Some kind) }
+        ensures { MatchResult result (λ _. unended self.now ≡ None)
+            (λ kind. unended self.now ≡ Some kind) }
     {
         match self.nodes {
             None => Err(LineKind::NoCluster),

@@ -1,10 +1,10 @@
-ghost use Rattle.std.specs.Prelude.{◌≡◌, ◌+◌, ◌≤◌, ◌<◌, length, IfOk, IfSome, OnOk};
-ghost use Rattle.rp_script.specs.Gives.{Gives};
-ghost use Rattle.rp_script.specs.Bounds.{IsBounded, IsTaken};
+ghost use Rattle.std.specs.Prelude.{◌≡◌, ◌+◌, ◌≤◌, ◌<◌, length, IfOk, IfSome, OnOk, OnErr, IfErr, ◌++◌};
+ghost use Rattle.rp_base.specs.Gives.{Gives};
+ghost use Rattle.rp_script.specs.Bounds.{IsBounded, Follows, IsTaken, IsScript};
 ghost use Rattle.rp_script.specs.Built.{unbuilt_in};
 ghost use Rattle.std.specs.List.{AllByRecursion};
-ghost use Rattle.rp_script.specs.Meaning.{judged_in, meaning};
-ghost use Rattle.rp_script.specs.Reading.{unread, line_ended, fed, fed_all, closed, finished, weight};
+ghost use Rattle.rp_script.specs.Meaning.{judged_in, numbered, meaning, script_fault};
+ghost use Rattle.rp_script.specs.Reading.{unread, line_taken, line_ended, fed, fed_all, closed, finished, weight};
 
 use crate::built::Forms;
 use crate::faults::{LineKind, ScriptFault, ScriptStop};
@@ -28,17 +28,23 @@ pub struct ScriptReader {
 impl Model for ScriptReader {
     ghost use Rattle.std.specs.Prelude.{◌+◌, ◌*◌, ◌≤◌, length};
     ghost use Rattle.std.specs.List.{AllByRecursion};
-    ghost use Rattle.rp_script.specs.Bounds.{IsTaken};
+    ghost use Rattle.rp_script.specs.Bounds.{IsTaken, IsAlong};
     ghost use Rattle.rp_script.specs.Reading.{Reading};
 
     ghost Value = { Reading };
 
-    ghost view = { λ r. record { forms = r.forms; seen = r.script; line = r.line.items; taken = r.taken.items } };
+    ghost view = { λ r. record {
+      forms = r.forms;
+      seen = r.script;
+      line = r.line.items;
+      taken = r.taken.items;
+    } };
 
     ghost invariant = { λ r. (length r.line.items ≤ 256)
         × (r.script.lines * 257 + length r.line.items ≤ 16842752)
         × (length r.taken.items ≤ r.script.lines)
-        × AllByRecursion (IsTaken r.forms) r.taken.items };
+        × AllByRecursion (IsTaken r.forms) r.taken.items
+        × IsAlong r.script r.taken.items };
 }
 
 /// A limit is passed by this count.
@@ -63,9 +69,29 @@ fn cut_off(line: u32, kind: LineKind) -> ScriptStop
     }
 }
 
+/// Appends the line, if there is one, under its number.
+fn push_line(
+    taken: &mut Vec<NumberedLine>,
+    number: u32,
+    said: &Option<ScriptLine>,
+) -> Result<(), ScriptStop>
+    ensures more { OnOk result (taken.new.items ≡ taken.old.items ++ numbered number said.now) }
+    ensures same { OnErr result (taken.new.items ≡ taken.old.items) }
+    ensures memory { IfErr result (λ stop. stop ≡ ScriptStop.NoMemory) }
+{
+    if let Some(line) = said {
+        let record = NumberedLine {
+            number,
+            line: *line,
+        };
+        taken.extend_from_slice(std::slice::from_ref(&record))?;
+    }
+    Ok(())
+}
+
 impl ScriptReader {
-    /// Nothing was read. A race takes fewer forms of line, and a line of a form that is not built is
-    /// refused. It takes no memory.
+    /// Nothing was read. A race takes fewer forms of line, and a line of a form that is not built
+    /// is refused. It takes no memory.
     pub fn new(alloc: Global, race: bool, forms: Forms) -> ScriptReader
         ensures { result ≡ unread forms race }
     {
@@ -77,10 +103,11 @@ impl ScriptReader {
         }
     }
 
-    /// What the line that has begun says. Its own limit or refusal comes before that its form is not
-    /// built.
+    /// What the line that has begun says. Its own limit or refusal comes before that its form is
+    /// not built.
     fn judge(&self) -> Result<Option<ScriptLine>, ScriptFault>
         ensures line { result ≡ judged_in self.now.forms self.now.seen self.now.line }
+        ensures follows { IfOk result (λ o. IfSome o (Follows self.now.seen)) }
         ensures bounded { IfOk result (λ o. IfSome o IsBounded) }
         ensures built { IfOk result (λ o. IfSome o (λ l. unbuilt_in self.now.forms l ≡ None)) }
     {
@@ -98,28 +125,39 @@ impl ScriptReader {
         }
     }
 
+    /// Keeps what the line that has begun says, and that it ended.
+    fn take_line(&mut self, said: &Option<ScriptLine>) -> Result<(), ScriptStop>
+        requires room { self.old.seen.lines < 65536 }
+        requires follows { IfSome said.now (Follows self.old.seen) }
+        requires bounded { IfSome said.now IsBounded }
+        requires built { IfSome said.now (λ l. unbuilt_in self.old.forms l ≡ None) }
+        ensures ends { OnOk result (self.new ≡ line_taken self.old said.now) }
+        ensures memory { IfErr result (λ stop. stop ≡ ScriptStop.NoMemory) }
+        ensures forms { self.new.forms ≡ self.old.forms }
+        ensures most { weight self.new ≤ 16842752 }
+    {
+        let number = self.script.lines() + 1;
+        push_line(&mut self.taken, number, said)?;
+        self.script.keep(said);
+        self.line.clear();
+        Ok(())
+    }
+
     /// Ends the line that has begun.
-    #[tactic(auto, using(crate::proofs::Taken::taken_more))]
     fn end_line(&mut self) -> Result<(), ScriptStop>
         requires { self.old.seen.lines < 65536 }
-        ensures gives { Gives (λ _. self.new) result (line_ended self.old) }
+        ensures gives { Gives (λ _. self.new) script_fault result (line_ended self.old) }
         ensures further { OnOk result (weight self.old + 1 ≤ weight self.new) }
         ensures forms { self.new.forms ≡ self.old.forms }
         ensures ends { weight self.new ≤ 16842752 }
     {
-        let number = self.script.lines() + 1;
         let said = self.judge()?;
-        self.script.keep(&said);
-        self.line.clear();
-        if let Some(line) = said {
-            self.taken.push(NumberedLine { number, line })?;
-        }
-        Ok(())
+        self.take_line(&said)
     }
 
     /// Takes one byte.
     fn feed_byte(&mut self, byte: u8) -> Result<(), ScriptStop>
-        ensures gives { Gives (λ _. self.new) result (fed self.old byte) }
+        ensures gives { Gives (λ _. self.new) script_fault result (fed self.old byte) }
         ensures further { OnOk result (weight self.old + 1 ≤ weight self.new) }
         ensures forms { self.new.forms ≡ self.old.forms }
         ensures ends { weight self.new ≤ 16842752 }
@@ -139,7 +177,7 @@ impl ScriptReader {
 
     /// Takes the bytes of a piece, one after another.
     fn feed_all(&mut self, piece: &[u8]) -> Result<(), ScriptStop>
-        ensures gives { Gives (λ _. self.new) result (fed_all self.old piece.now) }
+        ensures gives { Gives (λ _. self.new) script_fault result (fed_all self.old piece.now) }
         ensures further { OnOk result (weight self.old + length piece.now ≤ weight self.new) }
         ensures forms { self.new.forms ≡ self.old.forms }
         ensures ends { weight self.new ≤ 16842752 }
@@ -154,7 +192,7 @@ impl ScriptReader {
     /// Takes a piece of the source, which may end anywhere. The first limit or refusal ends the
     /// reading, and what follows it is not looked at.
     pub fn feed(mut self, piece: &[u8]) -> Result<ScriptReader, ScriptStop>
-        ensures gives { Gives (λ reader. reader) result (fed_all self piece.now) }
+        ensures gives { Gives (λ reader. reader) script_fault result (fed_all self piece.now) }
         ensures further { IfOk result (λ reader. weight self + length piece.now ≤ weight reader) }
         ensures forms { IfOk result (λ reader. reader.forms ≡ self.forms) }
         ensures ends { IfOk result (λ reader. weight reader ≤ 16842752) }
@@ -163,11 +201,13 @@ impl ScriptReader {
         Ok(self)
     }
 
-    /// Ends the source: a line that has begun ends with it. It gives the lines that are not skipped.
+    /// Ends the source: a line that has begun ends with it. It gives the lines that are not
+    /// skipped.
     pub fn finish(mut self) -> Result<Seq<NumberedLine>, ScriptStop>
-        ensures gives { Gives (λ lines. lines) result (finished self self.line) }
+        ensures gives { Gives (λ lines. lines) script_fault result (finished self self.line) }
         ensures few { IfOk result (λ lines. length lines ≤ 65536) }
         ensures taken { IfOk result (λ lines. AllByRecursion (IsTaken self.forms) lines) }
+        ensures script { IfOk result IsScript }
     {
         if !self.line.is_empty() {
             self.end_line()?;
@@ -177,9 +217,10 @@ impl ScriptReader {
 
     /// The lines of a source that ends behind an ended line.
     fn close(self) -> Result<Seq<NumberedLine>, ScriptStop>
-        ensures gives { Gives (λ lines. lines) result (closed self) }
+        ensures gives { Gives (λ lines. lines) script_fault result (closed self) }
         ensures few { IfOk result (λ lines. length lines ≤ 65536) }
         ensures taken { IfOk result (λ lines. AllByRecursion (IsTaken self.forms) lines) }
+        ensures script { IfOk result IsScript }
     {
         let ScriptReader {
             forms: _,
@@ -194,17 +235,18 @@ impl ScriptReader {
     }
 }
 
-/// Reads a script that is at hand whole, where these forms of line are built: its lines that are not
-/// skipped, or what ends it.
+/// Reads a script that is at hand whole, where these forms of line are built: its lines that are
+/// not skipped, or what ends it.
 pub fn read_lines(
     alloc: Global,
     forms: Forms,
     race: bool,
     source: &[u8],
 ) -> Result<Seq<NumberedLine>, ScriptStop>
-    ensures meaning { Gives (λ lines. lines) result (meaning forms race source.now) }
+    ensures meaning { Gives (λ lines. lines) script_fault result (meaning forms race source.now) }
     ensures few { IfOk result (λ lines. length lines ≤ 65536) }
     ensures taken { IfOk result (λ lines. AllByRecursion (IsTaken forms) lines) }
+    ensures script { IfOk result IsScript }
 {
     let reader = match ScriptReader::new(alloc, race, forms).feed(source) {
         Ok(reader) => reader,

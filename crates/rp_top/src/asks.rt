@@ -1,3 +1,4 @@
+//! What the words of the program ask for.
 ghost use Rattle.std.specs.Prelude.{◌≡◌, map, string_bytes};
 ghost use Rattle.rp_top.specs.Answers.{form_named, form_in, form_asked};
 

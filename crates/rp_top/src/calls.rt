@@ -1,3 +1,4 @@
+//! The top calls: read, play, write.
 ghost use Rattle.std.specs.Prelude.{◌≡◌, ◌≢◌, ℕ, ◌≤◌, ◌⊎◌, List, length, map, string_bytes, IfOk, OnOk, Ok, Err, None, Some};
 ghost use Rattle.rp_outside.specs.Devices.{Rose, IsAtEnd, IsAll};
 ghost use Rattle.rp_report.specs.Shown.{IsShownView};

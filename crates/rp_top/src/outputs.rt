@@ -1,3 +1,4 @@
+//! The lines that are written in place of a report.
 ghost use Rattle.std.specs.Prelude.{◌≡◌, ℕ, ◌++◌, ◌⊎◌, List, [], OnOk};
 ghost use Rattle.rp_outside.specs.Devices.{Rose, Adds, AddsFront};
 ghost use Rattle.rp_top.specs.Answers.{kind_text, which_text, fault_line};

@@ -1,3 +1,4 @@
+//! The play of a script that was read whole.
 ghost use Rattle.std.specs.Prelude.{◌≡◌, ◌≤◌, length, IfOk, OnOk};
 ghost use Rattle.std.specs.List.{AllByRecursion};
 ghost use Rattle.rp_report.specs.Shown.{IsShownView};

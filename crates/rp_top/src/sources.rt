@@ -1,3 +1,4 @@
+//! The reading of a script from a source.
 ghost use Rattle.std.specs.Prelude.{◌≡◌, ◌≢◌, ℕ, ◌+◌, ◌≤◌, List, Err, length, IfOk, OnOk};
 ghost use Rattle.rp_outside.specs.Devices.{Rose, IsAtEnd, IsAll};
 ghost use Rattle.std.specs.List.{AllByRecursion};

@@ -1,3 +1,4 @@
+//! How a call ends, and the exit status.
 ghost use Rattle.std.specs.Prelude.{◌≡◌};
 ghost use Rattle.rp_top.specs.Status.{code_of};
 

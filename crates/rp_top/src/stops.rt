@@ -1,3 +1,4 @@
+//! What ends the reading before its end.
 ghost use Rattle.std.specs.Prelude.{◌≡◌};
 ghost use Rattle.rp_top.specs.Gives.{stop_of};
 ghost use Rattle.rp_top.specs.declared.stops.Stop.TheVariants.{NoMemory as no_memory};

@@ -1,3 +1,4 @@
+//! Worked scripts through the top calls, faults of source and sink.
 ghost use Rattle.std.specs.Prelude.{◌≤◌};
 
 use crate::{Form, Status, run_call, top_call};

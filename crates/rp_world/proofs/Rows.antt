@@ -5,11 +5,12 @@ use Rattle.std.specs.FinMap.{entries, len, len-entries}
 use Rattle.std.proofs.lemmas.List.{take_more, map-append}
 use Rattle.std.proofs.lemmas.Option.{get_or_from_slice_get}
 use Rattle.rp_base.specs.Tables.{Table}
+use Rattle.rp_base.specs.declared.values.Value.{Value}
 use Rattle.rp_report.specs.declared.views.Row.{Row}
 use Rattle.rp_world.specs.Views.{row_of}
 
 -- one row more
-pub rows_more : (t : Table) (rows : List Row) (i : ℕ) (e : ℕ × ℕ) → rows ≡ map row_of (take i (entries t)) → i < len t → slice_get (entries t) i ≡ Some e
+pub rows_more : (t : Table) (rows : List Row) (i : ℕ) (e : ℕ × Value) → rows ≡ map row_of (take i (entries t)) → i < len t → slice_get (entries t) i ≡ Some e
     → rows ++ row_of e ∷ [] ≡ map row_of (take (i + 1) (entries t))
 rows_more t rows i e so_far here is =
     let within : i < length (entries t) = subst (λ (n : ℕ). i < n) (len-entries t) here in

@@ -1,6 +1,7 @@
 -- What lines of a script have to tell (this project's notes).
 use Rattle.std.specs.Prelude.{ℕ, List, ◌++◌, Option, codes}
-use Rattle.rp_report.specs.Words.{spaced, spaced_key, value_text}
+use Rattle.rp_base.specs.declared.values.Value.{Value}
+use Rattle.rp_report.specs.Words.{spaced, spaced_key, value_or_none}
 
 -- as many items wait as may wait
 abbrev pub full_text : List ℕ
@@ -15,5 +16,5 @@ abbrev pub nothing_text : List ℕ
 nothing_text = codes "nothing"
 
 -- the applied value of a key, and the applied index
-abbrev pub peek_text : ℕ → Option ℕ → ℕ → List ℕ
-peek_text key value applied = codes "peek" ++ spaced_key key ++ codes " " ++ value_text value ++ codes " applied" ++ spaced applied
+abbrev pub peek_text : ℕ → Option Value → ℕ → List ℕ
+peek_text key value applied = codes "peek" ++ spaced_key key ++ codes " " ++ value_or_none value ++ codes " applied" ++ spaced applied

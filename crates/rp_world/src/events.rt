@@ -1,3 +1,4 @@
+//! What an event of the replica leaves in the node.
 ghost use Rattle.std.specs.Prelude.{◌≡◌, ◌≤◌, [], length, OnOk, OnErr, IfOk};
 ghost use Rattle.rp_replica.specs.Replicas.{leaves};
 ghost use Rattle.rp_replica.specs.Events.{event, collected};

@@ -1,8 +1,10 @@
+//! The texts of notes.
 ghost use Rattle.std.specs.Prelude.{◌≡◌, ◌++◌, codes, OnOk, IfOk};
-ghost use Rattle.rp_report.specs.Words.{spaced, spaced_key, value_text};
+ghost use Rattle.rp_report.specs.Words.{spaced, spaced_key, value_or_none};
 ghost use Rattle.rp_world.specs.Notes.{peek_text};
 
-use rp_base::{Key, NoMemory, Text, push_key, push_number, push_word};
+use rp_base::{Key, NoMemory, Text, Value, push_word};
+use rp_report::{push_spaced, push_spaced_key, push_value_or_none};
 use std::alloc::Global;
 
 /// A text that holds these words.
@@ -14,31 +16,20 @@ pub fn text_of(alloc: Global, words: &str) -> Result<Text, NoMemory>
     Ok(text)
 }
 
-/// A value, or that there is none.
-fn push_value(out: &mut Text, value: Option<u64>) -> Result<(), NoMemory>
-    ensures { OnOk result (out.new ≡ out.old ++ value_text value) }
-{
-    match value {
-        Some(value) => push_number(out, value),
-        None => push_word(out, "none"),
-    }
-}
-
 /// The word `peek`, and a key behind a space.
 fn push_peek(out: &mut Text, key: Key) -> Result<(), NoMemory>
     ensures { OnOk result (out.new ≡ out.old ++ (codes "peek" ++ spaced_key key)) }
 {
     push_word(out, "peek")?;
-    push_word(out, " ")?;
-    push_key(out, key)
+    push_spaced_key(out, key)
 }
 
 /// A value behind a space.
-fn push_spaced_value(out: &mut Text, value: Option<u64>) -> Result<(), NoMemory>
-    ensures { OnOk result (out.new ≡ out.old ++ (codes " " ++ value_text value)) }
+fn push_spaced_value(out: &mut Text, value: Option<Value>) -> Result<(), NoMemory>
+    ensures { OnOk result (out.new ≡ out.old ++ (codes " " ++ value_or_none value)) }
 {
     push_word(out, " ")?;
-    push_value(out, value)
+    push_value_or_none(out, &value)
 }
 
 /// The word `applied`, and an index behind a space.
@@ -46,15 +37,14 @@ fn push_applied(out: &mut Text, index: u64) -> Result<(), NoMemory>
     ensures { OnOk result (out.new ≡ out.old ++ (codes " applied" ++ spaced index)) }
 {
     push_word(out, " applied")?;
-    push_word(out, " ")?;
-    push_number(out, index)
+    push_spaced(out, index)
 }
 
 /// What a peek tells: the key, its applied value, and the applied index.
 pub fn peek_text(
     alloc: Global,
     key: Key,
-    value: Option<u64>,
+    value: Option<Value>,
     applied: u64,
 ) -> Result<Text, NoMemory>
     ensures { IfOk result (λ text. text ≡ peek_text key value applied) }

@@ -1,3 +1,4 @@
+//! What each line does to the node.
 ghost use Rattle.std.specs.Prelude.{◌≡◌, ◌+◌, ◌-◌, ◌<◌, ◌^◌, None, IfOk, OnOk, slice_index};
 ghost use Rattle.rp_pending.specs.Proposals.{proposal_of};
 ghost use Rattle.rp_replica.specs.Allows.{MayFlush, MayApply};

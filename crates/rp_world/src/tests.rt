@@ -1,3 +1,4 @@
+//! Lines as they are played, and what the node shows.
 use crate::play_lines;
 use rp_base::Key;
 use rp_report::{ReplicaView, Row, View};

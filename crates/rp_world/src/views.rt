@@ -1,3 +1,4 @@
+//! What the node shows at the end.
 ghost use Rattle.std.specs.Prelude.{◌≡◌, ◌-◌, ◌<◌, ◌^◌, map, IfOk};
 ghost use Rattle.std.specs.FinMap.{entries};
 ghost use Rattle.rp_world.specs.Views.{answer_of, range_view, replica_view, row_of, view_of};

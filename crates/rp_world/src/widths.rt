@@ -1,3 +1,4 @@
+//! The widths of the numbers in a line.
 ghost use Rattle.std.specs.Prelude.{◌<◌, ◌^◌};
 ghost use Rattle.std.specs.List.{AllByRecursion};
 ghost use Rattle.rp_base.specs.Keys.{IsKey};

@@ -1,3 +1,4 @@
+//! The node: its replica, what waits, what was sent, outcomes and notes.
 ghost use Rattle.std.specs.Prelude.{◌≡◌, ◌≤◌, ◌==◌, OnOk, IfOk};
 ghost use Rattle.rp_world.specs.Worlds.{started, with_outcome, with_note, took};
 ghost use Rattle.rp_world.specs.Playing.{happens, has_replica, collected};

@@ -6,6 +6,6 @@ use Rattle.rp_codec.proofs.writing.push_ops.Given as goal
 
 abbrev pub invariant-loop-op : goal.invariant-loop-op
 invariant-loop-op l = record {
-  bytes : l.out.items ≡ l.fn.out.items ++ flat_map op_bytes (take l.op-index l.ops);
+  bytes : l.out.items ≡ l.fn.out.items ++ flat_map (op_bytes l.texts) (take l.op-index l.ops);
   fits : AllByRecursion FitsOp (take l.op-index l.ops);
 }

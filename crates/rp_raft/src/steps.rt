@@ -1,0 +1,175 @@
+//! An event in two phases: it is planned, with all memory that it takes, and committed.
+
+ghost use Rattle.std.specs.Prelude.{◌≡◌, ◌+◌, ◌<◌, ◌≤◌, ◌^◌, ◌++◌, IfOk, OnOk};
+ghost use Rattle.rp_raftlog.specs.LogState.{last_index};
+ghost use Rattle.rp_raftstep.specs.Conditions.{Allows, CanRise};
+ghost use Rattle.rp_raftstep.specs.Step.{advanced, cut_away, due_peers, sends_among, sent, step_then, then_proposed};
+ghost use Rattle.rp_raft.specs.Plans.{CanExtend, DraftFits, EditFits, Makes, PlanFits, Plans, ahead, behind_of, done_by, draft_of, drafted_by, edited, room_of};
+
+use crate::commits::advanced;
+use crate::drafts::quiet;
+use crate::plans::{LogEdit, RaftDraft, RaftPlan, behind_of, draft_back, room_of};
+use crate::rafts::Raft;
+use crate::sends::due_peers;
+use rp_base::NoMemory;
+use rp_raftlog::Log;
+use rp_raftstep::{Head, MakeSnap, Payloads, RaftEvent, RaftOut};
+
+/// Makes the edit, without memory.
+fn make_edit(log: &mut Log, edit: LogEdit)
+    requires fits { EditFits log.old.log edit }
+    requires room { room_of edit ≤ log.old.spare }
+    ensures { log.new.log ≡ edited log.old.log edit }
+{
+    match edit {
+        LogEdit::Stays => {}
+        LogEdit::Appends { entries } => log.append_all(entries),
+        LogEdit::Accepts {
+            prev_index,
+            prev_term,
+            entries,
+        } => {
+            let _ = log.accept(prev_index, prev_term, entries);
+        }
+        LogEdit::Cuts { to } => log.cut_front(to),
+        LogEdit::Resets { index, term } => log.reset(index, term),
+    }
+}
+
+impl<S: Drop> Raft<S> {
+    /// A Cut: the base becomes this index. It takes no memory.
+    fn plan_cut(&self, to: u64) -> RaftPlan<S>
+        requires rise { CanRise self.now.raft }
+        requires behind { self.now.raft.log.base ≤ to }
+        requires within { to ≤ last_index self.now.raft.log }
+        ensures does { done_by self.now.raft result ≡ cut_away self.now.raft to }
+        ensures fits { PlanFits self.now.raft 0 result }
+    {
+        RaftPlan {
+            draft: RaftDraft {
+                edit: LogEdit::Cuts { to },
+                ..quiet(self.alloc, self.head)
+            },
+            after: self.head,
+            replies: 0,
+        }
+    }
+
+    /// The head that the event leaves. The messages that are made last come behind the replies.
+    fn finish<M: MakeSnap<S>>(&self, draft: &mut RaftDraft<S>, snap: &M) -> Result<Head, NoMemory>
+        requires { DraftFits self.now.raft.log draft.old }
+        ensures same { IfOk result (λ after. after ≡ record draft.old.head { commit = after.commit }) }
+        ensures state { IfOk result (λ after. ahead after self.now.raft.log (behind_of draft.old.edit)
+            ≡ advanced (ahead draft.old.head self.now.raft.log (behind_of draft.old.edit))) }
+        ensures draft { IfOk result (λ after. draft.new ≡ record draft.old {
+          messages = draft.old.messages
+              ++ sends_among (M.index snap.now) (M.snapshot snap.now)
+              (ahead after self.now.raft.log (behind_of draft.old.edit))
+              (due_peers after draft.old.due);
+        }) }
+    {
+        let added = behind_of(&draft.edit);
+        let after = advanced(draft.head, &self.log, added);
+        let peers = due_peers(self.alloc, &after, draft.due)?;
+        self.push_sends(&mut draft.messages, peers.as_slice(), &after, added, snap)?;
+        Ok(after)
+    }
+
+    /// A draft with the messages that are made last, from the state that the event leaves.
+    fn fill<M: MakeSnap<S>>(
+        &self,
+        mut draft: RaftDraft<S>,
+        snap: &M,
+    ) -> Result<RaftPlan<S>, NoMemory>
+        requires { DraftFits self.now.raft.log draft }
+        ensures plan { IfOk result (λ p. Makes self.now.raft p (draft_of self.now.raft.log draft)
+            (sent (M.index snap.now) (M.snapshot snap.now) (draft_of self.now.raft.log draft))) }
+        ensures fits { IfOk result (λ p. PlanFits self.now.raft (room_of p.draft.edit) p) }
+    {
+        let replies = draft.messages.len();
+        let after = self.finish(&mut draft, snap)?;
+        Ok(RaftPlan {
+            draft,
+            after,
+            replies,
+        })
+    }
+
+    /// The plan of an event, but for the room in the log.
+    fn planned<M: MakeSnap<S>>(
+        &self,
+        event: RaftEvent<S>,
+        snap: &M,
+    ) -> Result<RaftPlan<S>, NoMemory>
+        requires { Allows self.now.raft event }
+        ensures plan { IfOk result (λ p. Plans (M.index snap.now) (M.snapshot snap.now)
+            self.now.raft event p) }
+        ensures fits { IfOk result (λ p. PlanFits self.now.raft (room_of p.draft.edit) p) }
+    {
+        match event {
+            RaftEvent::Tick => self.fill(self.plan_tick()?, snap),
+            RaftEvent::Receive { from, message } => {
+                self.fill(self.plan_message(from, message)?, snap)
+            }
+            RaftEvent::Propose { payloads } => self.fill(self.plan_propose(payloads)?, snap),
+            RaftEvent::Cut { to } => Ok(self.plan_cut(to)),
+        }
+    }
+
+    /// Plans an event, and makes all room that it takes. What contracts see, room aside, stays.
+    pub fn plan<M: MakeSnap<S>>(
+        &mut self,
+        event: RaftEvent<S>,
+        snap: &M,
+    ) -> Result<RaftPlan<S>, NoMemory>
+        requires { Allows self.old.raft event }
+        ensures raft { self.new.raft ≡ self.old.raft }
+        ensures room { self.old.spare ≤ self.new.spare }
+        ensures plan { IfOk result (λ p. Plans (M.index snap.now) (M.snapshot snap.now)
+            self.old.raft event p) }
+        ensures fits { IfOk result (λ p. PlanFits self.new.raft self.new.spare p) }
+    {
+        let plan = self.planned(event, snap)?;
+        self.log.make_room(room_of(&plan.draft.edit))?;
+        Ok(plan)
+    }
+
+    /// The plan of that event and of a Propose of these payloads, as one event.
+    pub fn extend<M: MakeSnap<S>>(
+        &mut self,
+        plan: RaftPlan<S>,
+        payloads: Payloads,
+        snap: &M,
+    ) -> Result<RaftPlan<S>, NoMemory>
+        requires fits { PlanFits self.old.raft self.old.spare plan }
+        requires more { CanExtend self.old.raft plan payloads }
+        ensures raft { self.new.raft ≡ self.old.raft }
+        ensures room { self.old.spare ≤ self.new.spare }
+        ensures plan { IfOk result (λ p. Makes self.old.raft p
+            (then_proposed (drafted_by self.old.raft plan) payloads)
+            (step_then (M.index snap.now) (M.snapshot snap.now) (drafted_by self.old.raft plan) payloads)) }
+        ensures fits { IfOk result (λ p. PlanFits self.new.raft self.new.spare p) }
+    {
+        let draft = self.behind(draft_back(plan), payloads)?;
+        let plan = self.fill(draft, snap)?;
+        self.log.make_room(room_of(&plan.draft.edit))?;
+        Ok(plan)
+    }
+
+    /// Does what was planned. It takes no memory.
+    pub fn commit(&mut self, plan: RaftPlan<S>) -> RaftOut<S>
+        requires { PlanFits self.old.raft self.old.spare plan }
+        ensures { record { state = self.new.raft; out = result } ≡ done_by self.old.raft plan }
+    {
+        let RaftPlan { draft, after, .. } = plan;
+        let RaftDraft {
+            edit,
+            messages,
+            taken,
+            ..
+        } = draft;
+        make_edit(&mut self.log, edit);
+        self.head = after;
+        RaftOut { messages, taken }
+    }
+}
