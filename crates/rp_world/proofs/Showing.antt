@@ -53,7 +53,7 @@ use Rattle.rp_replica.specs.declared.events.Ended.{Ended}
 use Rattle.rp_replica.specs.declared.events.ReplicaEvent.TheVariants as events
 use Rattle.rp_replica.specs.declared.plans.Turn.{Turn}
 use Rattle.rp_replica.specs.declared.plans.Turn.TheVariants as turns
-use Rattle.rp_replica.specs.Writes.{assigning}
+use Rattle.rp_replica.specs.Flushes.{assigning}
 use Rattle.rp_script.specs.declared.lines.ScriptLine.{ScriptLine}
 use Rattle.rp_script.specs.declared.lines.ScriptLine.TheVariants as lines
 use Rattle.rp_world.specs.Notes.{absent_text, full_text}
