@@ -1,5 +1,5 @@
 -- In a run all numbers have their widths, so each payload that a flush writes is read back.
-use Rattle.std.proofs.Common.{◌≡◌, ℕ, zero, suc, ◌+◌, ◌-◌, ◌<◌, ◌≤◌, ◌^◌, ◌==◌, max, Bool, true, false, cond, not, List, [], ◌∷◌, ◌++◌, length, map, Option, None, Some, Result, Ok, Err, slice_get, refl, sym, subst, ◌∙◌, arith}
+use Rattle.std.proofs.Common.{◌≡◌, ℕ, zero, suc, ◌+◌, ◌-◌, ◌<◌, ◌≤◌, ◌^◌, max, Bool, true, false, cond, not, List, [], ◌∷◌, length, map, Option, None, Some, Result, Ok, Err, slice_get, refl, sym, subst, ◌∙◌, arith}
 use Rattle.std.specs.Prelude.{filter_map}
 use Rattle.std.specs.List.{AllByRecursion, filter, cons_option}
 use Rattle.std.specs.Option.{option_map}
