@@ -41,8 +41,8 @@ pub fn lines_refused_exactly()
     ensures { LinesRefusedExactly }
 {}
 
-/// In a line without a bad byte a text is refused where more than 64 bytes follow the apostrophe, and
-/// nowhere else.
+/// In a line without a bad byte a text is refused where more than 64 bytes follow the apostrophe,
+/// and nowhere else.
 pub fn long_texts_alone()
     ensures { LongTextsAlone }
 {}
