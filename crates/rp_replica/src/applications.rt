@@ -142,7 +142,8 @@ impl Replica {
         requires applied { IsWithin (needed application.payload) self.old.room.applied }
         requires inbox { items_of application.turn ≤ self.old.room.inbox }
         ensures { leaves self.new.replica result.answer result.outcomes
-            ≡ leaves (turned (recorded self.old.replica application.payload) application.turn) answers.Done application.outcomes }
+            ≡ leaves (turned (recorded self.old.replica application.payload) application.turn)
+            answers.Done application.outcomes }
     {
         self.applied.commit_one(&application.payload);
         self.turn_so(application.turn);
