@@ -6,12 +6,10 @@ use Rattle.std.specs.Option.{option_or}
 use Rattle.std.specs.BTreeMap.{is_at}
 use Rattle.rp_base.specs.declared.ids.CmdId.{CmdId}
 use Rattle.rp_request.specs.declared.commands.Waiting.{Waiting}
+use Rattle.rp_base.proofs.Bools.{false_true}
 use Rattle.rp_base.proofs.IdLaws.{at_same, same_is}
 use Rattle.rp_base.specs.Ids.{same_id, cmd_cmp}
 use Rattle.rp_flush.specs.Assigns.{seq_of}
-
-pub elim_false : false ≡ true → ⊥
-elim_false h = cc
 
 -- one more that waits
 snoc_end : (w : Waiting) (id : CmdId) (b : Bool) → same_id w.id id ≡ b → seq_of (w ∷ []) id ≡ cond b (Some w.seq) None
@@ -33,7 +31,7 @@ or_none None = refl
 or_none (Some n) = refl
 
 or_known : (o p : Option ℕ) → is_some o ≡ true → option_or o p ≡ o
-or_known None p h = absurd (elim_false h)
+or_known None p h = absurd (false_true h)
 or_known (Some n) p h = refl
 
 -- one whose id waits already changes nothing
@@ -63,7 +61,7 @@ added ws i w id h is k =
 
 none_of : (o : Option ℕ) → is_some o ≡ false → o ≡ None
 none_of None h = refl
-none_of (Some n) h = absurd (elim_false (sym h))
+none_of (Some n) h = absurd (false_true (sym h))
 
 -- a map that answers as the front of the list does, where one more is known or was put in
 pub still_answers : (ws : List Waiting) (i : ℕ) (w : Waiting) (held : CmdId → Option ℕ) → i < length ws → w ≡ get_or ws i w
