@@ -1,3 +1,4 @@
+//! The writes of a batch, made on a table.
 ghost use Rattle.std.specs.Prelude.{◌≡◌, ◌+◌, ◌≤◌, length};
 ghost use Rattle.rp_request.specs.Batches.{write, write_all};
 

@@ -1,3 +1,4 @@
+//! What payloads change, and how.
 ghost use Rattle.std.specs.Prelude.{◌≡◌, ◌+◌, ◌-◌, ◌^◌, ◌<◌, ◌≤◌, length, IsOk, OnOk};
 ghost use Rattle.rp_base.specs.Splits.{split_of};
 ghost use Rattle.rp_base.specs.Tables.{below};

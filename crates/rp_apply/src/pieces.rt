@@ -1,3 +1,4 @@
+//! Records of indexes one after another.
 ghost use Rattle.std.specs.Prelude.{◌≡◌, ◌+◌};
 
 use rp_request::Record;

@@ -1,3 +1,4 @@
+//! The applied state of a replica, and the check of a payload.
 ghost use Rattle.std.specs.Prelude.{◌≡◌, ◌+◌, ◌-◌, ◌^◌, ◌<◌, ◌≤◌, length, IfOk, OnOk};
 ghost use Rattle.rp_request.specs.Applied.{verdict};
 ghost use Rattle.rp_request.specs.History.{started, applied, reset_to};

@@ -1,3 +1,4 @@
+//! A node's buffers, one for each range.
 ghost use Rattle.std.specs.Prelude.{◌≡◌, ℕ, ◌+◌, ◌≤◌, List, ◌++◌, length};
 ghost use Rattle.rp_base.specs.declared.items.Item.{Item};
 ghost use Rattle.rp_base.specs.Limits.{buffer_capacity};

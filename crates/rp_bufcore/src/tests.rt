@@ -1,3 +1,4 @@
+//! Draws, publications and collects.
 use crate::{BufferEnd, PlainBuf, PlainEnd};
 use rp_base::{BUFFER_CAPACITY, CmdId, Grown, Item, RangeId};
 use std::alloc::Global;

@@ -1,3 +1,4 @@
+//! Bytes that are read from a place on.
 ghost use Rattle.std.specs.Prelude.{◌≡◌, ◌==◌, length, IfOk, MatchResult};
 ghost use Rattle.rp_codec.specs.Cursors.{whole};
 ghost use Rattle.rp_codec.specs.Reading.{Reads, begins_with, bytes_at, byte_at};

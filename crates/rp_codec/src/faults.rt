@@ -1,3 +1,4 @@
+//! Why bytes are no payload.
 ghost use Rattle.std.specs.Prelude.{◌≡◌};
 ghost use Rattle.rp_codec.specs.declared.faults.DecodeFault.TheVariants as faults;
 

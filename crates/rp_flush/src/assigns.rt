@@ -1,3 +1,4 @@
+//! What becomes of an inbox at a flush.
 ghost use Rattle.std.specs.Prelude.{◌≡◌, ◌+◌, ◌<◌, ◌^◌, [], length, max, cond, None, IfOk, OnOk};
 ghost use Rattle.std.specs.BTreeMap.{get};
 ghost use Rattle.rp_base.specs.Ids.{cmd_cmp};

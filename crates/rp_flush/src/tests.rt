@@ -1,3 +1,4 @@
+//! Flushes of worked inboxes.
 use crate::{Assigned, WaitList, assign};
 use rp_base::{
     CmdId, Grown, Item, Items, Lease, LeaseAsk, LeaseIndex, LeaseSeq, NodeId, Seq, Tick,

@@ -1,3 +1,4 @@
+//! The lease sequences of the commands that wait.
 ghost use Rattle.std.specs.Prelude.{◌≡◌, IfOk};
 ghost use Rattle.std.specs.BTreeMap.{get};
 ghost use Rattle.rp_base.specs.Ids.{cmd_cmp};

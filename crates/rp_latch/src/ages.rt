@@ -1,3 +1,4 @@
+//! Holds in the order in which they came.
 ghost use Rattle.std.specs.Prelude.{◌≤◌, ◌<◌, length};
 ghost use Rattle.std.specs.List.{AllPairs, AllWithin};
 ghost use Rattle.rp_latch.specs.Indexes.{IsOlder};

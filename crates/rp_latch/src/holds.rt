@@ -1,3 +1,4 @@
+//! A hold, and what stands in the way of one.
 ghost use Rattle.std.specs.Prelude.{◌≡◌};
 ghost use Rattle.rp_base.specs.Spans.{meets_one};
 ghost use Rattle.rp_latch.specs.Holds.{met_in, held_by};

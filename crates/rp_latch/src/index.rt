@@ -1,3 +1,4 @@
+//! Held spans in the order of their starts.
 ghost use Rattle.std.specs.Prelude.{◌≡◌, ◌≤◌, ◌<◌, ◌+◌, cond, Bool, [], IsTrue, IsFalse, OnOk, length};
 ghost use Rattle.std.specs.List.{AllWithin, list_any, count_by};
 ghost use Rattle.rp_latch.specs.declared.index.Latch.{Latch};

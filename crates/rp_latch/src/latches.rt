@@ -1,3 +1,4 @@
+//! The latches of a range.
 ghost use Rattle.std.specs.Prelude.{◌≡◌, ◌≢◌, ◌≤◌, ◌<◌, ◌+◌, cond, [], ◌∷◌, ◌++◌, Bool, true, false, ℕ, Some, slice_get, IsTrue, IsFalse, OnOk, OnErr, length};
 ghost use Rattle.std.specs.List.{filter, list_any, count_by};
 ghost use Rattle.rp_latch.specs.declared.holds.Hold.{Hold};

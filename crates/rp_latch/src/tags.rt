@@ -1,3 +1,4 @@
+//! The numbers of holds, by attempt.
 ghost use Rattle.std.specs.Prelude.{◌≡◌, ◌≤◌, ◌<◌, ◌+◌, cond, Bool, [], IsTrue, IsFalse, OnOk, IfNone, IfSome, length};
 ghost use Rattle.std.specs.List.{AllWithin, list_any, count_by};
 ghost use Rattle.rp_latch.specs.declared.tags.Tag.{Tag};

@@ -1,3 +1,4 @@
+//! Where bytes come from and go to.
 ghost use Rattle.std.specs.Prelude.{◌≡◌, ℕ, ◌+◌, ◌<◌, ◌≤◌, List, length, take, Option, IfOk, OnOk, OnErr};
 ghost use Rattle.rp_outside.specs.Devices.{Rose, Comes, IsAtEnd, Adds, AddsFront};
 

@@ -1,3 +1,4 @@
+//! Which calls of a device fail.
 ghost use Rattle.std.specs.Prelude.{◌≡◌, ◌+◌, ◌≤◌, ◌==◌, false, true};
 ghost use Rattle.std.specs.List.{list_any};
 ghost use Rattle.rp_outside.specs.Forms.{fails_next, after_call};

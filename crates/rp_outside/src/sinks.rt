@@ -1,3 +1,4 @@
+//! Sinks in memory, and over the system.
 ghost use Rattle.std.specs.Prelude.{◌≡◌, ◌+◌, ◌<◌, ◌≤◌, ◌||◌, ◌++◌, Ok, Some, None, [], length, take, min, nat_lt, is_err, IfOk, OnOk, OnErr, option_map, if◌then◌else◌};
 ghost use Rattle.std.specs.Io.KnownBytes.{WriteAppends};
 ghost use Rattle.rp_outside.specs.Forms.{held_with, count_up, fails_next, after_call};

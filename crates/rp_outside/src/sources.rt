@@ -1,3 +1,4 @@
+//! Sources in memory, and over the system.
 ghost use Rattle.std.specs.Prelude.{◌≡◌, ◌<◌, ◌≤◌, ◌++◌, Some, None, [], length, take, is_err, IfOk, IsOkAnd, OnErr, if◌then◌else◌};
 ghost use Rattle.std.specs.Io.KnownBytes.{ReadConsumes};
 ghost use Rattle.rp_outside.specs.Forms.{Reads, count_up, fails_next, after_call};

@@ -1,3 +1,4 @@
+//! Bytes that are handed out from their front on.
 ghost use Rattle.std.specs.Prelude.{◌≡◌, ◌++◌, length, take, drop, min};
 
 use rp_base::Bytes;

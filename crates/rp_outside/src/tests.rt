@@ -1,3 +1,4 @@
+//! Calls of each form, with and without faults.
 ghost use Rattle.std.specs.Prelude.{◌≤◌, IfOk};
 
 use crate::{

@@ -1,3 +1,4 @@
+//! A proposal, and how far it has come.
 ghost use Rattle.std.specs.Prelude.{◌≡◌};
 
 use rp_base::{CmdId, LeaseIndex, LeaseSeq, Tick};

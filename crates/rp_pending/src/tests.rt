@@ -1,3 +1,4 @@
+//! Proposals that are added, flushed, refreshed and finished.
 use crate::{Pending, Proposal, Refresh, Stage};
 use rp_base::{CmdId, Key, LeaseIndex, LeaseSeq, Tick, Value};
 use rp_request::{Batch, Reply, Request, Waiting};

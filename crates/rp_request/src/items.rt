@@ -1,3 +1,4 @@
+//! What entries of a log did where they were applied.
 use crate::outcomes::Reply;
 use crate::requests::Request;
 use rp_base::{CmdId, Key, Lease, LeaseSeq, RangeId};

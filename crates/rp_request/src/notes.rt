@@ -1,3 +1,4 @@
+//! What a run has to tell: notes, and the ends of attempts.
 use crate::outcomes::End;
 use rp_base::{Seq, Text};
 

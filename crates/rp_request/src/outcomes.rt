@@ -1,3 +1,4 @@
+//! Replies, refusals, and how attempts end.
 use rp_base::{CmdId, Desc, Key, Lease, LeaseIndex, RangeId, Span, Value};
 
 /// The answer to a request that took effect.

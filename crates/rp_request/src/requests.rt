@@ -1,3 +1,4 @@
+//! Requests, and the spans of keys that they touch.
 ghost use Rattle.std.specs.Prelude.{◌≡◌};
 ghost use Rattle.rp_request.specs.Covers.{alone, both};
 

@@ -1,3 +1,4 @@
+//! What the check at application says.
 use rp_base::{LeaseIndex, LeaseSeq};
 
 /// What the check at application says of a committed payload.

@@ -1,3 +1,4 @@
+//! Which forms of line are built.
 ghost use Rattle.std.specs.Prelude.{◌≡◌};
 ghost use Rattle.rp_script.specs.Built.{unbuilt_in};
 

@@ -1,3 +1,4 @@
+//! Why a line or a script is refused.
 ghost use Rattle.std.specs.Prelude.{◌≡◌};
 ghost use Rattle.rp_script.specs.Readers.{bad_word};
 ghost use Rattle.rp_script.specs.Seen.{line_fault};

@@ -1,3 +1,4 @@
+//! The first words of lines and requests.
 ghost use Rattle.std.specs.Prelude.{◌≡◌};
 ghost use Rattle.rp_script.specs.Keywords.{keyword_of, world_keyword_of, is_barred_in_race, request_word_of};
 

@@ -1,3 +1,4 @@
+//! What a line of a script says.
 use rp_base::{Key, NodeId, RangeId};
 use rp_request::Request;
 

@@ -1,3 +1,4 @@
+//! Words that are read one after another.
 ghost use Rattle.std.specs.Prelude.{◌≡◌, ◌≤◌, ◌<◌, ◌^◌, ◌-◌, true, false, IfOk, OnOk, MatchResult};
 ghost use Rattle.rp_base.specs.ClientCounts.{count_of};
 ghost use Rattle.rp_base.specs.ShortTexts.{text_of};

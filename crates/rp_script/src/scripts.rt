@@ -1,3 +1,4 @@
+//! The lines of a script, taken one after another.
 ghost use Rattle.std.specs.Prelude.{◌≡◌, ◌<◌, ◌≤◌, ◌+◌, ◌-◌, ◌==◌, [], length, IsTrue, None, Some, IfOk, IfSome, MatchResult, slice_index};
 ghost use Rattle.rp_script.specs.Words.{words_of};
 ghost use Rattle.rp_script.specs.Bounds.{IsBounded, Follows};

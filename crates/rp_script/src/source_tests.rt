@@ -1,3 +1,4 @@
+//! Scripts that are read from bytes.
 use crate::{
     Forms, LineKind, NumberedLine, ScriptFault, ScriptLine, ScriptReader, ScriptStop, read_lines,
 };

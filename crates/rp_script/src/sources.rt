@@ -1,3 +1,4 @@
+//! A script that is read piece after piece.
 ghost use Rattle.std.specs.Prelude.{◌≡◌, ◌+◌, ◌≤◌, ◌<◌, length, IfOk, IfSome, OnOk, OnErr, IfErr, ◌++◌};
 ghost use Rattle.rp_base.specs.Gives.{Gives};
 ghost use Rattle.rp_script.specs.Bounds.{IsBounded, Follows, IsTaken, IsScript};

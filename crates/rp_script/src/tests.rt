@@ -1,3 +1,4 @@
+//! Lines that are taken and refused.
 use crate::{LineFault, LineKind, Script, ScriptLine};
 use rp_base::{Key, NodeId, RangeId, Value};
 use rp_request::Request;
