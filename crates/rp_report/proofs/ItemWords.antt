@@ -6,6 +6,7 @@ use Rattle.std.specs.Str.{bytes_eq}
 use Rattle.std.proofs.lemmas.List.{append_cancel_right}
 use Rattle.rp_base.specs.Keys.{key_text}
 use Rattle.rp_base.specs.declared.Lease.{Lease}
+use Rattle.rp_request.specs.Fits.{FitsRequest}
 use Rattle.rp_request.specs.declared.requests.Request.{Request}
 use Rattle.rp_request.specs.declared.requests.Request.TheVariants as requests
 use Rattle.rp_request.specs.declared.outcomes.Reply.{Reply}
@@ -17,10 +18,11 @@ use Rattle.rp_request.specs.declared.items.Record.{Record}
 use Rattle.rp_request.specs.declared.items.Record.TheVariants.{Took, Passed}
 use Rattle.rp_report.specs.Words.{newline}
 use Rattle.rp_report.specs.Items.{request_text, item_text, why_text, record_line}
-use Rattle.rp_report.specs.Told.{IsRequest, told_reply, IsItem, told_item, IsRecord, told_record}
-use Rattle.rp_report.proofs.WordLaws.{IsWord, AreWords, literal_word, spoken, are_some, spoken_append, words_append, same_words, number_word, key_word, dotted_word, number_same, key_same}
-use Rattle.rp_report.proofs.RequestWords.{request_words, request_spoken, request_are_words, one_request}
-use Rattle.rp_report.proofs.EndWords.{reply_words, reply_spoken, reply_are_some, reply_are_words, replies_by_words, command_word, attempts_by_words}
+use Rattle.rp_report.specs.Widths.{FitsPlace, FitsRecord}
+use Rattle.rp_report.specs.InTexts.{reply_in_text, item_in_text, record_in_text}
+use Rattle.rp_report.proofs.WordLaws.{IsWord, AreWords, literal_word, spoken, are_some, spoken_append, words_append, same_words, number_word, key_word, number_same, key_same}
+use Rattle.rp_report.proofs.RequestWords.{request_words, request_spoken, request_are_words, requests_by_words, first_of}
+use Rattle.rp_report.proofs.EndWords.{reply_words, reply_spoken, reply_are_some, reply_are_words, replies_by_words, command_word, attempts_by_words, id_word, wide_attempt}
 
 request_are_some : (q : Request) → are_some (request_words q) ≡ true
 request_are_some (requests.Put key value) = refl
@@ -30,10 +32,6 @@ request_are_some (requests.Del key) = refl
 request_are_some (requests.Wipe span) = refl
 request_are_some (requests.Move from to by) = refl
 request_are_some (requests.Split key) = refl
-
-abbrev first_of : List (List ℕ) → List ℕ
-first_of [] = []
-first_of (w ∷ ws) = w
 
 -- how many words a request has that begins with this one
 abbrev words_behind : List ℕ → ℕ
@@ -64,12 +62,12 @@ fronts (u ∷ us) (v ∷ vs) ws xs len same =
     let e = fronts us vs ws xs (omega arith) rest in
     (let f = e.0 in cc, e.1)
 
-requests_in_front : (p q : Request) (ws xs : List (List ℕ)) → IsRequest p → IsRequest q → request_words p ++ ws ≡ request_words q ++ xs → (p ≡ q) × (ws ≡ xs)
+requests_in_front : (p q : Request) (ws xs : List (List ℕ)) → FitsRequest p → FitsRequest q → request_words p ++ ws ≡ request_words q ++ xs → (p ≡ q) × (ws ≡ xs)
 requests_in_front p q ws xs hp hq same =
     let len : length (request_words p) ≡ length (request_words q) =
     request_length p ws ∙ ap (λ us. words_behind (first_of us)) same ∙ sym (request_length q xs) in
     let parts = fronts (request_words p) (request_words q) ws xs len same in
-    (one_request p q hp hq (request_spoken p ∙ ap spoken parts.0 ∙ sym (request_spoken q)), parts.1)
+    (requests_by_words p q hp hq parts.0, parts.1)
 
 -- the words behind a request
 abbrev under_words : ℕ → Reply → List (List ℕ)
@@ -129,13 +127,13 @@ item_are_some (places.Write id request seq reply) = refl
 item_are_some (places.Split id key right seq) = refl
 item_are_some (places.Lease lease) = refl
 
-pub item_are_words : (i : Place) → IsItem i → AreWords (item_words i)
+pub item_are_words : (i : Place) → FitsPlace i → AreWords (item_words i)
 item_are_words (places.Write id request seq reply) h = (
   literal_word (codes "write") refl,
   (
-    dotted_word id.client id.seq h.0.0 h.0.1,
+    id_word id h.0,
     (
-      number_word id.attempt h.0.2,
+      number_word id.attempt (wide_attempt id h.0),
       words_append (request_words request) (under_words seq reply) (request_are_words request h.1)
           (literal_word (codes "under") refl, (number_word seq h.2, (literal_word (codes "ok") refl, reply_are_words reply h.3))),
     ),
@@ -144,9 +142,9 @@ item_are_words (places.Write id request seq reply) h = (
 item_are_words (places.Split id key right seq) h = (
   literal_word (codes "split") refl,
   (
-    dotted_word id.client id.seq h.0.0 h.0.1,
+    id_word id h.0,
     (
-      number_word id.attempt h.0.2,
+      number_word id.attempt (wide_attempt id h.0),
       (
         key_word key h.1,
         (literal_word (codes "right") refl, (number_word right h.2, (literal_word (codes "under") refl, (number_word seq h.3, tt)))),
@@ -177,7 +175,7 @@ leases_by_fields a b holder seq expires =
     let made = λ (x : ℕ) (y : ℕ) (z : ℕ). let l : Lease = record { holder = x; seq = y; expires = z } in l in
     ap (λ (x : ℕ). made x a.seq a.expires) holder ∙ ap (λ (y : ℕ). made b.holder y a.expires) seq ∙ ap (λ (z : ℕ). made b.holder b.seq z) expires
 
-items_alike : (i j : Place) → IsItem i → IsItem j → item_kind i ≡ item_kind j → item_words i ≡ item_words j → told_item i ≡ told_item j
+items_alike : (i j : Place) → FitsPlace i → FitsPlace j → item_kind i ≡ item_kind j → item_words i ≡ item_words j → item_in_text i ≡ item_in_text j
 items_alike (places.Write a p s r) (places.Write b q t u) hi hj kind same =
     let id : a ≡ b = attempts_by_words a b hi.0 hj.0 (cc) (cc) in
     let rest : request_words p ++ under_words s r ≡ request_words q ++ under_words t u = cc in
@@ -185,7 +183,7 @@ items_alike (places.Write a p s r) (places.Write b q t u) hi hj kind same =
     let request : p ≡ q = parts.0 in
     let behind : under_words s r ≡ under_words t u = parts.1 in
     let seq : s ≡ t = number_same s t hi.2 hj.2 (cc) in
-    let reply : told_reply r ≡ told_reply u = replies_by_words r u hi.3 hj.3 (cc) in
+    let reply : reply_in_text r ≡ reply_in_text u = replies_by_words r u hi.3 hj.3 (cc) in
     cc
 items_alike (places.Split a k r s) (places.Split b l u t) hi hj kind same =
     let id : a ≡ b = attempts_by_words a b hi.0 hj.0 (cc) (cc) in
@@ -198,11 +196,11 @@ items_alike (places.Lease a) (places.Lease b) hi hj kind same =
     (leases_by_fields a b (number_same a.holder b.holder hi.0 hj.0 (cc)) (number_same a.seq b.seq hi.1 hj.1 (cc)) (number_same a.expires b.expires hi.2 hj.2 (cc)))
 items_alike i j hi hj kind same = absurd (omega arith)
 
-pub items_by_words : (i j : Place) → IsItem i → IsItem j → item_words i ≡ item_words j → told_item i ≡ told_item j
+pub items_by_words : (i j : Place) → FitsPlace i → FitsPlace j → item_words i ≡ item_words j → item_in_text i ≡ item_in_text j
 items_by_words i j hi hj same = items_alike i j hi hj (sym (item_kind_known i) ∙ ap (λ ws. kind_of_word (first_of ws)) same ∙ item_kind_known j) same
 
 -- items with one text are told alike
-pub one_item : (i j : Place) → IsItem i → IsItem j → item_text i ≡ item_text j → told_item i ≡ told_item j
+pub one_item : (i j : Place) → FitsPlace i → FitsPlace j → item_text i ≡ item_text j → item_in_text i ≡ item_in_text j
 one_item i j hi hj same =
     items_by_words i j hi hj (same_words (item_words i) (item_words j) (item_are_words i hi) (item_are_words j hj) (sym (item_spoken i) ∙ same ∙ item_spoken j))
 
@@ -228,7 +226,7 @@ why_word OldLease = literal_word (codes "old-lease") refl
 why_word OldIndex = literal_word (codes "old-index") refl
 why_word LeaseMoved = literal_word (codes "lease-moved") refl
 
-pub record_are_words : (index : ℕ) (r : Record) → index < 2 ^ 64 → IsRecord r → AreWords (record_words index r)
+pub record_are_words : (index : ℕ) (r : Record) → index < 2 ^ 64 → FitsRecord r → AreWords (record_words index r)
 record_are_words index (Took item) fits h = (literal_word (codes "place") refl, (number_word index fits, item_are_words item h))
 record_are_words index (Passed why) fits h = (literal_word (codes "pass") refl, (number_word index fits, (why_word why, tt)))
 
@@ -248,8 +246,8 @@ why_read LeaseMoved = refl
 abbrev is_place_word : List ℕ → Bool
 is_place_word w = bytes_eq w (codes "place")
 
-records_by_words : (m n : ℕ) (r s : Record) → m < 2 ^ 64 → n < 2 ^ 64 → IsRecord r → IsRecord s → record_words m r ≡ record_words n s
-    → (m ≡ n) × (told_record r ≡ told_record s)
+records_by_words : (m n : ℕ) (r s : Record) → m < 2 ^ 64 → n < 2 ^ 64 → FitsRecord r → FitsRecord s → record_words m r ≡ record_words n s
+    → (m ≡ n) × (record_in_text r ≡ record_in_text s)
 records_by_words m n (Took i) (Took j) hm hn hr hs same =
     let words : item_words i ≡ item_words j = cc in
     (number_same m n hm hn (cc), ap Took (items_by_words i j hr hs words))
@@ -260,8 +258,8 @@ records_by_words m n (Passed v) (Passed w) hm hn hr hs same =
     (number_same m n hm hn (cc), ap Passed (sym (why_read v) ∙ ap why_of words ∙ why_read w))
 
 -- records with one line are told alike, and stand at one index
-pub one_record : (m n : ℕ) (r s : Record) → m < 2 ^ 64 → n < 2 ^ 64 → IsRecord r → IsRecord s → record_line m r ≡ record_line n s
-    → (m ≡ n) × (told_record r ≡ told_record s)
+pub one_record : (m n : ℕ) (r s : Record) → m < 2 ^ 64 → n < 2 ^ 64 → FitsRecord r → FitsRecord s → record_line m r ≡ record_line n s
+    → (m ≡ n) × (record_in_text r ≡ record_in_text s)
 one_record m n r s hm hn hr hs same =
     records_by_words m n r s hm hn hr hs
     (same_words (record_words m r) (record_words n s) (record_are_words m r hm hr) (record_are_words n s hn hs)

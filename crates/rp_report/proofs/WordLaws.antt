@@ -1,6 +1,6 @@
 -- The words of a text that is written word by word.
 use Rattle.std.proofs.Common.{◌≡◌, ℕ, ◌<◌, ◌==◌, Bool, true, false, not, ◌&&◌, inl, inr, subst, List, [], ◌∷◌, ◌++◌, length, refl, ap, sym, ◌∙◌, arith, append_assoc}
-use Rattle.std.specs.Prelude.{filter, ◌^◌}
+use Rattle.std.specs.Prelude.{filter, ◌^◌, if◌then◌else◌}
 use Rattle.std.specs.List.{prefix_len}
 use Rattle.std.specs.Char.{is_ascii_digit}
 use Rattle.std.specs.Fmt.{decimal}
@@ -10,7 +10,25 @@ use Rattle.rp_base.specs.Numbers.{u64_of}
 use Rattle.rp_base.proofs.KeyBytes.{passes_whole}
 use Rattle.rp_base.proofs.KeyLaws.{key_text_good, key_text_len, read_as_spelled, bound_text_least, bound_text_greatest, bound_text_key}
 use Rattle.rp_base.proofs.NumberLaws.{read_as_written, Writes-from_ok}
-use Rattle.rp_script.specs.Words.{pieces, has_bytes, words_of}
+use Rattle.rp_base.specs.ShortTexts.{is_text_byte, IsText}
+use Rattle.rp_base.specs.Values.{IsValue, value_text}
+use Rattle.rp_base.specs.declared.values.Value.{Value}
+use Rattle.rp_base.specs.declared.values.Value.TheVariants.{Number, Text}
+
+abbrev pub begun_with : ℕ → List (List ℕ) → List (List ℕ)
+begun_with b [] = (b ∷ []) ∷ []
+begun_with b (text ∷ texts) = (b ∷ text) ∷ texts
+
+abbrev pub pieces : List ℕ → List (List ℕ)
+pieces [] = [] ∷ []
+pieces (b ∷ bytes) = if b == 32 then [] ∷ pieces bytes else begun_with b (pieces bytes)
+
+abbrev pub has_bytes : List ℕ → Bool
+has_bytes [] = false
+has_bytes (b ∷ bytes) = true
+
+abbrev pub words_of : List ℕ → List (List ℕ)
+words_of line = filter has_bytes (pieces line)
 
 -- a byte that is neither a space nor the end of a line
 abbrev pub is_letter : ℕ → Type 0
@@ -82,6 +100,14 @@ pub key_word : (n : ℕ) → IsKey n → IsWord (key_text n)
 key_word n key =
     let len = key_text_len n key in
     record { some = some_bytes (key_text n) (omega (arith, len.0)); letters = letters_whole is_key_byte key_letter (key_text n) (key_text_good n key) }
+
+text_letter : (b : ℕ) → is_text_byte b ≡ true → is_letter b
+text_letter b h = (grind (arith, nat_tests), grind (arith, nat_tests))
+
+-- a value is a word
+pub value_word : (v : Value) → IsValue v → IsWord (value_text v)
+value_word (Number n) h = number_word n h
+value_word (Text text) h = record { some = refl; letters = ((refl, refl), letters_whole is_text_byte text_letter text h.good) }
 
 letters_append : (v w : List ℕ) → AreLetters v → AreLetters w → AreLetters (v ++ w)
 letters_append [] w hv hw = hw

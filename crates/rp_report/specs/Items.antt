@@ -14,7 +14,7 @@ use Rattle.rp_request.specs.declared.items.Why.{Why}
 use Rattle.rp_request.specs.declared.items.Why.TheVariants.{Nothing, OldLease, OldIndex, LeaseMoved}
 use Rattle.rp_request.specs.declared.items.Record.{Record}
 use Rattle.rp_request.specs.declared.items.Record.TheVariants.{Took, Passed}
-use Rattle.rp_report.specs.Words.{newline, spaced, spaced_key, value_text, attempt_text, lease_text}
+use Rattle.rp_report.specs.Words.{newline, spaced, spaced_key, spaced_value, value_or_none, attempt_text, lease_text}
 
 -- where a span of keys ends
 abbrev pub span_end_text : Option ℕ → List ℕ
@@ -23,9 +23,10 @@ span_end_text (Some key) = spaced_key key
 
 -- a request, as a script spells it
 abbrev pub request_text : Request → List ℕ
-request_text (requests.Put key value) = codes "put " ++ key_text key ++ spaced value
+request_text (requests.Put key value) = codes "put " ++ key_text key ++ spaced_value value
 request_text (requests.Add key by) = codes "add " ++ key_text key ++ spaced by
-request_text (requests.CPut key expect value) = codes "cput " ++ key_text key ++ codes " " ++ value_text expect ++ spaced value
+request_text (requests.CPut key expect value) =
+    codes "cput " ++ key_text key ++ codes " " ++ value_or_none expect ++ spaced_value value
 request_text (requests.Del key) = codes "del " ++ key_text key
 request_text (requests.Wipe span) = codes "wipe " ++ key_text span.start ++ span_end_text span.end
 request_text (requests.Move from to by) = codes "move " ++ key_text from ++ spaced_key to ++ spaced by
@@ -33,7 +34,7 @@ request_text (requests.Split key) = codes "split " ++ key_text key
 
 -- a reply
 abbrev pub reply_text : Reply → List ℕ
-reply_text (Old value) = value_text value
+reply_text (Old value) = value_or_none value
 reply_text (Now value) = decimal value
 reply_text Set = codes "set"
 reply_text (Count count) = decimal count
@@ -46,9 +47,11 @@ did_text id request = attempt_text id ++ codes " " ++ request_text request
 -- an applied item
 abbrev pub item_text : Place → List ℕ
 item_text (places.Write id request seq reply) =
-    codes "write " ++ did_text id request ++ codes " under" ++ spaced seq ++ codes " ok " ++ reply_text reply
+    codes "write " ++ did_text id request ++ codes " under" ++ spaced seq
+    ++ codes " ok " ++ reply_text reply
 item_text (places.Split id key right seq) =
-    codes "split " ++ attempt_text id ++ spaced_key key ++ codes " right" ++ spaced right ++ codes " under" ++ spaced seq
+    codes "split " ++ attempt_text id ++ spaced_key key ++ codes " right" ++ spaced right
+    ++ codes " under" ++ spaced seq
 item_text (places.Lease lease) = codes "lease " ++ lease_text lease
 
 -- why an entry was passed over
@@ -60,5 +63,7 @@ why_text LeaseMoved = codes "lease-moved"
 
 -- the line of the record at an index
 abbrev pub record_line : ℕ → Record → List ℕ
-record_line index (Took item) = codes "place" ++ spaced index ++ codes " " ++ item_text item ++ newline
-record_line index (Passed why) = codes "pass" ++ spaced index ++ codes " " ++ why_text why ++ newline
+record_line index (Took item) =
+    codes "place" ++ spaced index ++ codes " " ++ item_text item ++ newline
+record_line index (Passed why) =
+    codes "pass" ++ spaced index ++ codes " " ++ why_text why ++ newline

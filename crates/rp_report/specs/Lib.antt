@@ -4,4 +4,5 @@ pub mod Outcomes
 pub mod Shown
 pub mod Report
 pub mod Summary
-pub mod Told
+pub mod Widths
+pub mod InTexts

@@ -1,8 +1,10 @@
-ghost use Rattle.std.specs.Prelude.{◌≡◌, ◌++◌, OnOk};
+//! The words of requests, replies, applied items and records.
+ghost use Rattle.std.specs.Prelude.{◌≡◌, ◌++◌, OnOk, OnErr};
 ghost use Rattle.rp_report.specs.Items.{span_end_text, request_text, reply_text, did_text, item_text, why_text, record_line};
 
 use crate::words::{
-    push_attempt, push_lease, push_spaced, push_spaced_key, push_spaced_wide, push_value,
+    push_attempt, push_lease, push_spaced, push_spaced_key, push_spaced_value, push_spaced_wide,
+    push_value_or_none,
 };
 use rp_base::{CmdId, Key, NoMemory, Text, push_key, push_number, push_word};
 use rp_request::{Place, Record, Reply, Request, Why};
@@ -18,14 +20,14 @@ fn push_span_end(out: &mut Text, end: Option<Key>) -> Result<(), NoMemory>
 }
 
 /// A request, as a script spells it.
-pub fn push_request(out: &mut Text, request: &Request) -> Result<(), NoMemory>
+fn spell_request(out: &mut Text, request: &Request) -> Result<(), NoMemory>
     ensures { OnOk result (out.new ≡ out.old ++ request_text request.now) }
 {
     match request {
         Request::Put { key, value } => {
             push_word(out, "put ")?;
             push_key(out, *key)?;
-            push_spaced(out, *value)
+            push_spaced_value(out, value)
         }
         Request::Add { key, by } => {
             push_word(out, "add ")?;
@@ -36,8 +38,8 @@ pub fn push_request(out: &mut Text, request: &Request) -> Result<(), NoMemory>
             push_word(out, "cput ")?;
             push_key(out, *key)?;
             push_word(out, " ")?;
-            push_value(out, *expect)?;
-            push_spaced(out, *value)
+            push_value_or_none(out, expect)?;
+            push_spaced_value(out, value)
         }
         Request::Del { key } => {
             push_word(out, "del ")?;
@@ -62,14 +64,14 @@ pub fn push_request(out: &mut Text, request: &Request) -> Result<(), NoMemory>
 }
 
 /// A reply.
-pub fn push_reply(out: &mut Text, reply: Reply) -> Result<(), NoMemory>
-    ensures { OnOk result (out.new ≡ out.old ++ reply_text reply) }
+pub fn spell_reply(out: &mut Text, reply: &Reply) -> Result<(), NoMemory>
+    ensures { OnOk result (out.new ≡ out.old ++ reply_text reply.now) }
 {
     match reply {
-        Reply::Old(value) => push_value(out, value),
-        Reply::Now(value) => push_number(out, value),
+        Reply::Old(value) => push_value_or_none(out, value),
+        Reply::Now(value) => push_number(out, *value),
         Reply::Set => push_word(out, "set"),
-        Reply::Count(count) => push_number(out, count),
+        Reply::Count(count) => push_number(out, *count),
         Reply::Range(right) => {
             push_word(out, "range")?;
             push_spaced(out, u64::from(right.get()))
@@ -83,7 +85,7 @@ fn push_did(out: &mut Text, id: CmdId, request: &Request) -> Result<(), NoMemory
 {
     push_attempt(out, id)?;
     push_word(out, " ")?;
-    push_request(out, request)
+    spell_request(out, request)
 }
 
 /// An applied item.
@@ -102,7 +104,7 @@ pub fn push_item(out: &mut Text, item: &Place) -> Result<(), NoMemory>
             push_word(out, " under")?;
             push_spaced(out, seq.get())?;
             push_word(out, " ok ")?;
-            push_reply(out, *reply)
+            spell_reply(out, reply)
         }
         Place::Split {
             id,
@@ -123,6 +125,26 @@ pub fn push_item(out: &mut Text, item: &Place) -> Result<(), NoMemory>
             push_lease(out, *lease)
         }
     }
+}
+
+/// Appends the request as a script spells it, or nothing.
+pub fn push_request(out: &mut Text, request: &Request) -> Result<(), NoMemory>
+    ensures ok { OnOk result (out.new ≡ out.old ++ request_text request.now) }
+    ensures err { OnErr result (out.new ≡ out.old) }
+{
+    let mut text = Text::new(out.alloc());
+    spell_request(&mut text, request)?;
+    out.append(text)
+}
+
+/// Appends the reply, or nothing.
+pub fn push_reply(out: &mut Text, reply: &Reply) -> Result<(), NoMemory>
+    ensures ok { OnOk result (out.new ≡ out.old ++ reply_text reply.now) }
+    ensures err { OnErr result (out.new ≡ out.old) }
+{
+    let mut text = Text::new(out.alloc());
+    spell_reply(&mut text, reply)?;
+    out.append(text)
 }
 
 /// Why an entry was passed over.

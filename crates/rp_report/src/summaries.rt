@@ -1,10 +1,11 @@
+//! The summary: ten counts of what a report shows.
 ghost use Rattle.std.specs.Prelude.{◌≡◌, ◌++◌, count_by, IfOk, OnOk, OnErr};
 ghost use Rattle.rp_report.specs.Summary.{commands_among, is_success, is_refused, is_ambiguous, is_pending, ending, is_place, is_pass, records_in, count_line, ending_lines, answer_counts, range_counts, summary};
 
 use crate::views::{RangeView, View};
 use crate::words::{push_number_line, push_wide};
 use rp_base::{NoMemory, Text, push_word};
-use rp_request::{ReplyLine, End, Outcome, Record};
+use rp_request::{End, Outcome, Record, ReplyLine};
 use std::alloc::Global;
 use std::collections::BTreeSet;
 

@@ -1,16 +1,18 @@
+//! The lines of a report, and the whole report.
 ghost use Rattle.std.specs.Prelude.{◌≡◌, ◌≤◌, ◌++◌, OnOk, OnErr, flat_map, All};
 ghost use Rattle.rp_report.specs.Items.{record_line};
 ghost use Rattle.rp_report.specs.Report.{note_line, answer_line, bounds_text, range_line, record_lines, row_line, live_text, state_text, replica_lines_of, replica_lines, range_lines, report};
 ghost use Rattle.rp_report.specs.Shown.{IsShownDesc, IsShownEnd, IsShownAnswer, IsShownRange, IsShownView};
 
 use crate::items::push_record;
-use crate::outcomes::push_end;
+use crate::outcomes::spell_end;
 use crate::views::{RangeView, ReplicaView, Row, View};
 use crate::words::{
     push_attempt, push_lease, push_number_line, push_number_word, push_spaced, push_spaced_bound,
+    push_spaced_value,
 };
 use rp_base::{CmdId, Desc, Lease, LeaseIndex, NoMemory, Text, push_key, push_word};
-use rp_request::{ReplyLine, Note, Record};
+use rp_request::{Note, Record, ReplyLine};
 
 fn push_note(out: &mut Text, note: &Note) -> Result<(), NoMemory>
     ensures { OnOk result (out.new ≡ out.old ++ note_line note.now) }
@@ -43,7 +45,7 @@ fn push_answer(out: &mut Text, reply: &ReplyLine) -> Result<(), NoMemory>
     };
     push_attempt(out, id)?;
     push_word(out, " ")?;
-    push_end(out, reply.end)?;
+    spell_end(out, &reply.end)?;
     push_word(out, "\n")
 }
 
@@ -68,7 +70,7 @@ fn push_bounds(out: &mut Text, desc: &Desc) -> Result<(), NoMemory>
     push_spaced_bound(out, desc.end)
 }
 
-fn push_range_line(out: &mut Text, desc: &Desc, lease: &Lease) -> Result<(), NoMemory>
+fn spell_range_line(out: &mut Text, desc: &Desc, lease: &Lease) -> Result<(), NoMemory>
     requires { IsShownDesc desc.now }
     ensures { OnOk result (out.new ≡ out.old ++ range_line desc.now lease.now) }
 {
@@ -91,12 +93,12 @@ fn push_records(out: &mut Text, first: u64, records: &[Record]) -> Result<(), No
     Ok(())
 }
 
-fn push_row(out: &mut Text, row: Row) -> Result<(), NoMemory>
-    ensures { OnOk result (out.new ≡ out.old ++ row_line row) }
+fn push_row(out: &mut Text, row: &Row) -> Result<(), NoMemory>
+    ensures { OnOk result (out.new ≡ out.old ++ row_line row.now) }
 {
     push_word(out, "row ")?;
     push_key(out, row.key)?;
-    push_spaced(out, row.value)?;
+    push_spaced_value(out, &row.value)?;
     push_word(out, "\n")
 }
 
@@ -104,7 +106,7 @@ fn push_rows(out: &mut Text, rows: &[Row]) -> Result<(), NoMemory>
     ensures { OnOk result (out.new ≡ out.old ++ flat_map row_line rows.now) }
 {
     for row in rows {
-        push_row(out, *row)?;
+        push_row(out, row)?;
     }
     Ok(())
 }
@@ -145,7 +147,7 @@ fn push_replica(out: &mut Text, node: u64, replica: &ReplicaView) -> Result<(), 
     push_state(out, replica)
 }
 
-fn push_replicas(out: &mut Text, replicas: &[ReplicaView]) -> Result<(), NoMemory>
+fn spell_replicas(out: &mut Text, replicas: &[ReplicaView]) -> Result<(), NoMemory>
     ensures { OnOk result (out.new ≡ out.old ++ replica_lines 1 replicas.now) }
 {
     let mut node = 1;
@@ -156,13 +158,35 @@ fn push_replicas(out: &mut Text, replicas: &[ReplicaView]) -> Result<(), NoMemor
     Ok(())
 }
 
+/// Appends the line of a range, or nothing: its number, its bounds, its level and its lease. Each bound
+/// is the least, the greatest, or a key.
+pub fn push_range_line(out: &mut Text, desc: &Desc, lease: &Lease) -> Result<(), NoMemory>
+    requires { IsShownDesc desc.now }
+    ensures ok { OnOk result (out.new ≡ out.old ++ range_line desc.now lease.now) }
+    ensures err { OnErr result (out.new ≡ out.old) }
+{
+    let mut text = Text::new(out.alloc());
+    spell_range_line(&mut text, desc, lease)?;
+    out.append(text)
+}
+
+/// Appends the lines of what the nodes have of a range, from node 1 on, or nothing.
+pub fn push_replica_lines(out: &mut Text, replicas: &[ReplicaView]) -> Result<(), NoMemory>
+    ensures ok { OnOk result (out.new ≡ out.old ++ replica_lines 1 replicas.now) }
+    ensures err { OnErr result (out.new ≡ out.old) }
+{
+    let mut text = Text::new(out.alloc());
+    spell_replicas(&mut text, replicas)?;
+    out.append(text)
+}
+
 fn push_range(out: &mut Text, range: &RangeView) -> Result<(), NoMemory>
     requires shown { IsShownDesc range.now.desc }
     ensures { OnOk result (out.new ≡ out.old ++ range_lines range.now) }
 {
-    push_range_line(out, &range.desc, &range.lease)?;
+    spell_range_line(out, &range.desc, &range.lease)?;
     push_records(out, range.first, range.records.as_slice())?;
-    push_replicas(out, range.replicas.as_slice())
+    spell_replicas(out, range.replicas.as_slice())
 }
 
 fn push_ranges(out: &mut Text, ranges: &[RangeView]) -> Result<(), NoMemory>

@@ -1,11 +1,12 @@
-use rp_base::{Desc, Key, Lease, LeaseIndex, Seq};
+//! What a run shows: a view of its nodes, notes, replies and ranges.
+use rp_base::{Desc, Key, Lease, LeaseIndex, Seq, Value};
 use rp_request::{Notes, Record, Replies};
 
 /// A key that has a value.
 #[derive(Clone, Copy, Debug, PartialEq, Eq)]
 pub struct Row {
     pub key: Key,
-    pub value: u64,
+    pub value: Value,
 }
 
 /// What a node has of a range.

@@ -1,16 +1,21 @@
-ghost use Rattle.std.specs.Prelude.{◌≡◌, ◌++◌, OnOk};
+//! Words that stand in many lines of a report.
+ghost use Rattle.std.specs.Prelude.{◌≡◌, ◌++◌, OnOk, OnErr};
 ghost use Rattle.std.specs.Fmt.{decimal};
 ghost use Rattle.rp_base.specs.Keys.{IsShown};
-ghost use Rattle.rp_report.specs.Words.{newline, spaced, spaced_key, spaced_bound, value_text, attempt_text, lease_text};
+ghost use Rattle.rp_report.specs.Words.{newline, spaced, spaced_key, spaced_bound, spaced_value, value_or_none, attempt_text, lease_text};
 
-use rp_base::{CmdId, Key, Lease, NoMemory, Text, push_bound, push_key, push_number, push_word};
+use rp_base::{
+    CmdId, Key, Lease, NoMemory, Text, Value, push_bound, push_key, push_number, push_value,
+    push_word,
+};
 
-/// A number behind a space.
+/// Appends a number behind a space.
 pub fn push_spaced(out: &mut Text, n: u64) -> Result<(), NoMemory>
-    ensures { OnOk result (out.new ≡ out.old ++ spaced n) }
+    ensures ok { OnOk result (out.new ≡ out.old ++ spaced n) }
+    ensures err { OnErr result (out.new ≡ out.old) }
 {
-    push_word(out, " ")?;
-    push_number(out, n)
+    let word = format!(in out.alloc(); " {}", n)?;
+    push_word(out, &word)
 }
 
 /// A number of up to 128 bits.
@@ -53,12 +58,15 @@ pub fn push_number_line(out: &mut Text, word: &str, n: u64) -> Result<(), NoMemo
     push_word(out, "\n")
 }
 
-/// A key behind a space.
+/// Appends a key behind a space.
 pub fn push_spaced_key(out: &mut Text, key: Key) -> Result<(), NoMemory>
-    ensures { OnOk result (out.new ≡ out.old ++ spaced_key key) }
+    ensures ok { OnOk result (out.new ≡ out.old ++ spaced_key key) }
+    ensures err { OnErr result (out.new ≡ out.old) }
 {
-    push_word(out, " ")?;
-    push_key(out, key)
+    let mut text = Text::new(out.alloc());
+    push_word(&mut text, " ")?;
+    push_key(&mut text, key)?;
+    out.append(text)
 }
 
 /// A bound behind a space.
@@ -70,12 +78,21 @@ pub fn push_spaced_bound(out: &mut Text, bound: u128) -> Result<(), NoMemory>
     push_bound(out, bound)
 }
 
-/// A value, or that there is none.
-pub fn push_value(out: &mut Text, value: Option<u64>) -> Result<(), NoMemory>
-    ensures { OnOk result (out.new ≡ out.old ++ value_text value) }
+/// A value behind a space.
+pub fn push_spaced_value(out: &mut Text, value: &Value) -> Result<(), NoMemory>
+    ensures { OnOk result (out.new ≡ out.old ++ spaced_value value.now) }
+{
+    push_word(out, " ")?;
+    push_value(out, value)
+}
+
+/// Appends a value, or the word `none`.
+pub fn push_value_or_none(out: &mut Text, value: &Option<Value>) -> Result<(), NoMemory>
+    ensures ok { OnOk result (out.new ≡ out.old ++ value_or_none value.now) }
+    ensures err { OnErr result (out.new ≡ out.old) }
 {
     match value {
-        Some(value) => push_number(out, value),
+        Some(value) => push_value(out, value),
         None => push_word(out, "none"),
     }
 }

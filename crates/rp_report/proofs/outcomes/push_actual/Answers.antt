@@ -2,4 +2,4 @@ use Rattle.rp_report.proofs.Joined.{joined}
 use Rattle.rp_report.proofs.outcomes.push_actual.Goals as goal
 
 pub returns : goal.returns
-returns c = joined _ _ _ _ _ _ c.in_ok-push_word.ensures.ok c.push_value.ensures
+returns c = joined _ _ _ _ _ _ c.in_ok-push_word.ensures.ok c.push_value_or_none.ensures.ok

@@ -1,6 +1,6 @@
 use Rattle.std.proofs.Common.{◌≡◌, ◌+◌, ◌++◌, drop}
 use Rattle.rp_report.specs.Report.{replica_lines}
-use Rattle.rp_report.proofs.texts.push_replicas.Given as goal
+use Rattle.rp_report.proofs.texts.spell_replicas.Given as goal
 
 -- what is written, with the lines that are left, is all of it
 abbrev pub invariant-loop-replica : goal.invariant-loop-replica
