@@ -7,6 +7,8 @@ use Rattle.rp_script.specs.Words.{words_of}
 use Rattle.rp_script.specs.Keywords.{keyword_of}
 use Rattle.rp_script.specs.Bounds.{IsFirst, Fits, FollowsIn, Follows, AllFollow, seen_after, IsAlong, IsScript, IsBounded, IsTaken}
 use Rattle.rp_script.specs.Seen.{Seen, unseen, after, limit_of, bad_byte_of, begins_comment, skipped, unless_bad, placed, said, at_line, unless_limited, judged, unended_by, unended}
+use Rattle.rp_script.specs.Meaning.{numbered}
+use Rattle.rp_script.proofs.ReadsLines.{append-nil}
 use Rattle.rp_script.proofs.Rules.{placed_follows}
 use Rattle.rp_script.proofs.Taken.{taken_more}
 use Rattle.rp_script.specs.declared.built.Forms.{Forms}
@@ -145,4 +147,22 @@ line_added forms s n line cleared ls more l h room lines none kept longer bounde
       omega (arith, long, lines, few),
       subst (λ (v : List NumberedLine). AllByRecursion (IsTaken forms) v) (sym longer) taken,
       along_kept s n ls more l h.4 follows kept longer,
+    )
+
+-- a line ended, whether or not it says something
+pub line_told : (forms : Forms) (s n : Seen) (line cleared : List ℕ) (ls more : List NumberedLine) (number : ℕ) (said : Option ScriptLine) → IsReading forms s line ls
+    → s.lines < 65536 → n.lines ≡ s.lines + 1 → cleared ≡ [] → n ≡ after s said → more ≡ ls ++ numbered number said → IfSome said IsBounded
+    → IfSome said (λ l. unbuilt_in forms l ≡ None) → IfSome said (Follows s) → IsReading forms n cleared more
+line_told forms s n line cleared ls more number (Some l) h room lines none kept longer bounded built follows =
+    line_added forms s n line cleared ls more (record { number = number; line = l }) h room lines none kept longer bounded built follows
+line_told forms s n line cleared ls more number None h room lines none kept longer bounded built follows =
+    let short : length cleared ≡ 0 = ap length none in
+    let same : more ≡ ls = longer ∙ append-nil ls in
+    let long : length more ≡ length ls = ap length same in
+    let few : length ls ≤ s.lines = h.2 in (
+      omega (arith, short),
+      omega (arith, short, lines, room),
+      omega (arith, long, lines, few),
+      subst (λ (v : List NumberedLine). AllByRecursion (IsTaken forms) v) (sym same) h.3,
+      subst (λ (v : Seen). IsAlong v more) (sym kept) (subst (λ (v : List NumberedLine). IsAlong (after s None) v) (sym same) (along_skipped s ls h.4)),
     )

@@ -1,5 +1,4 @@
 pub mod NextWord
-pub mod SpanEnds
 pub mod Counts
 pub mod WordCount
 pub mod ReadsLines

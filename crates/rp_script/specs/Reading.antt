@@ -8,6 +8,7 @@ use Rattle.rp_script.specs.declared.faults.LineKind.{LineKind}
 use Rattle.rp_script.specs.declared.faults.ScriptFault.{ScriptFault}
 use Rattle.rp_script.specs.declared.faults.ScriptFault.TheVariants.{Refused, Limit}
 use Rattle.rp_script.specs.declared.lines.NumberedLine.{NumberedLine}
+use Rattle.rp_script.specs.declared.lines.ScriptLine.{ScriptLine}
 
 -- what is kept while a script is read: the forms that are built, what must be known of the lines that ended, the bytes of the line that has begun,
 -- and what the lines said
@@ -21,10 +22,12 @@ pub record Reading : Type 0 where
 abbrev pub unread : Forms → Bool → Reading
 unread forms race = record { forms = forms; seen = unseen race; line = []; taken = [] }
 
--- the line that has begun ends here
+-- the line that has begun ends here, and says this
+abbrev pub line_taken : Reading → Option ScriptLine → Reading
+line_taken r said = record { forms = r.forms; seen = after r.seen said; line = []; taken = r.taken ++ numbered (r.seen.lines + 1) said }
+
 abbrev pub line_ended : Reading → Result Reading ScriptFault
-line_ended r = judged_in r.forms r.seen r.line
-    >>= λ said. Ok (record { forms = r.forms; seen = after r.seen said; line = []; taken = r.taken ++ numbered (r.seen.lines + 1) said })
+line_ended r = judged_in r.forms r.seen r.line >>= λ said. Ok (line_taken r said)
 
 -- one byte more: none follows the last line that may come, nor the last byte that a line may have
 abbrev pub fed : Reading → ℕ → Result Reading ScriptFault

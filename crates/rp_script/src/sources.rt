@@ -1,10 +1,10 @@
-ghost use Rattle.std.specs.Prelude.{◌≡◌, ◌+◌, ◌≤◌, ◌<◌, length, IfOk, IfSome, OnOk};
+ghost use Rattle.std.specs.Prelude.{◌≡◌, ◌+◌, ◌≤◌, ◌<◌, length, IfOk, IfSome, OnOk, OnErr, IfErr, ◌++◌};
 ghost use Rattle.rp_base.specs.Gives.{Gives};
 ghost use Rattle.rp_script.specs.Bounds.{IsBounded, Follows, IsTaken, IsScript};
 ghost use Rattle.rp_script.specs.Built.{unbuilt_in};
 ghost use Rattle.std.specs.List.{AllByRecursion};
-ghost use Rattle.rp_script.specs.Meaning.{judged_in, meaning, script_fault};
-ghost use Rattle.rp_script.specs.Reading.{unread, line_ended, fed, fed_all, closed, finished, weight};
+ghost use Rattle.rp_script.specs.Meaning.{judged_in, numbered, meaning, script_fault};
+ghost use Rattle.rp_script.specs.Reading.{unread, line_taken, line_ended, fed, fed_all, closed, finished, weight};
 
 use crate::built::Forms;
 use crate::faults::{LineKind, ScriptFault, ScriptStop};
@@ -69,6 +69,26 @@ fn cut_off(line: u32, kind: LineKind) -> ScriptStop
     }
 }
 
+/// Appends the line, if there is one, under its number.
+fn push_line(
+    taken: &mut Vec<NumberedLine>,
+    number: u32,
+    said: &Option<ScriptLine>,
+) -> Result<(), ScriptStop>
+    ensures more { OnOk result (taken.new.items ≡ taken.old.items ++ numbered number said.now) }
+    ensures same { OnErr result (taken.new.items ≡ taken.old.items) }
+    ensures memory { IfErr result (λ stop. stop ≡ ScriptStop.NoMemory) }
+{
+    if let Some(line) = said {
+        let record = NumberedLine {
+            number,
+            line: *line,
+        };
+        taken.extend_from_slice(std::slice::from_ref(&record))?;
+    }
+    Ok(())
+}
+
 impl ScriptReader {
     /// Nothing was read. A race takes fewer forms of line, and a line of a form that is not built
     /// is refused. It takes no memory.
@@ -105,8 +125,25 @@ impl ScriptReader {
         }
     }
 
+    /// Keeps what the line that has begun says, and that it ended.
+    fn take_line(&mut self, said: &Option<ScriptLine>) -> Result<(), ScriptStop>
+        requires room { self.old.seen.lines < 65536 }
+        requires follows { IfSome said.now (Follows self.old.seen) }
+        requires bounded { IfSome said.now IsBounded }
+        requires built { IfSome said.now (λ l. unbuilt_in self.old.forms l ≡ None) }
+        ensures ends { OnOk result (self.new ≡ line_taken self.old said.now) }
+        ensures memory { IfErr result (λ stop. stop ≡ ScriptStop.NoMemory) }
+        ensures forms { self.new.forms ≡ self.old.forms }
+        ensures most { weight self.new ≤ 16842752 }
+    {
+        let number = self.script.lines() + 1;
+        push_line(&mut self.taken, number, said)?;
+        self.script.keep(said);
+        self.line.clear();
+        Ok(())
+    }
+
     /// Ends the line that has begun.
-    #[tactic(auto, using(crate::proofs::Along::along_skipped))]
     fn end_line(&mut self) -> Result<(), ScriptStop>
         requires { self.old.seen.lines < 65536 }
         ensures gives { Gives (λ _. self.new) script_fault result (line_ended self.old) }
@@ -114,15 +151,8 @@ impl ScriptReader {
         ensures forms { self.new.forms ≡ self.old.forms }
         ensures ends { weight self.new ≤ 16842752 }
     {
-        let number = self.script.lines() + 1;
         let said = self.judge()?;
-        self.taken.reserve(1)?;
-        self.script.keep(&said);
-        self.line.clear();
-        if let Some(line) = said {
-            self.taken.push_reserved(NumberedLine { number, line });
-        }
-        Ok(())
+        self.take_line(&said)
     }
 
     /// Takes one byte.
