@@ -8,7 +8,7 @@ use Rattle.rp_request.specs.declared.Payload.{Payload}
 use Rattle.rp_codec.specs.Cursors.{Left, whole}
 use Rattle.rp_request.specs.Fits.{AreBytes, FitsPayload}
 use Rattle.rp_request.specs.Texts.{payload_has_text}
-use Rattle.rp_codec.specs.Reading.{bad, begins_with, ended, payload_at, all_in, canonical, payload_in, Gives}
+use Rattle.rp_codec.specs.Reading.{bad, begins_with, ended, payload_at, all_in, canonical, payload_in, Decoded}
 use Rattle.rp_codec.specs.Spelling.{payload_bytes, spelling}
 use Rattle.rp_codec.specs.declared.faults.BadField.{BadField}
 use Rattle.rp_codec.specs.declared.faults.DecodeFault.{DecodeFault}
@@ -33,6 +33,11 @@ unfolding spelling
 front_read p rest fits =
     let text = payload_bytes (payload_has_text p) p in
     let e : 0 + length text ≡ length text = omega arith in rw e at (payload_again p fits 0 rest)
+
+-- version 2 spells what holds a text, and nothing else
+pub version_says : (p : Payload) → begins_with 2 (spelling p) ≡ payload_has_text p
+unfolding spelling
+version_says p = rw append-nil at (begins_by (payload_has_text p) p [])
 
 -- what is spelled by its own version is let through
 own : (texts : Bool) (p : Payload) → payload_has_text p ≡ texts → canonical texts (Ok p) ≡ Ok p
@@ -113,6 +118,6 @@ no_front p q rest fits others same =
     (ap (λ (r : Payload × Left). r.1.bytes) is, ap (λ (r : Payload × Left). r.0) is)
 
 -- a result of `decode` that gives what is read
-pub given_spelled : (bytes : List ℕ) (r : Result Payload DecodeFault) → AreBytes bytes → Gives r (payload_in bytes) → IfOk r (λ p. (bytes ≡ spelling p) × FitsPayload p)
+pub given_spelled : (bytes : List ℕ) (r : Result Payload DecodeFault) → AreBytes bytes → Decoded r (payload_in bytes) → IfOk r (λ p. (bytes ≡ spelling p) × FitsPayload p)
 given_spelled bytes (Ok p) are given = spelled_as_read bytes p are given
 given_spelled bytes (Err e) are given = tt

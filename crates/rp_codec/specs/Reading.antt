@@ -2,6 +2,7 @@
 -- version 2 may have some.
 use Rattle.std.specs.Prelude.{◌≡◌, ℕ, zero, suc, ◌+◌, ◌==◌, ◌&&◌, not, Bool, true, false, nat_le, nat_lt, if◌then◌else◌, List, [], ◌∷◌, length, take, Option, None, Some, Result, Ok, Err}
 use Rattle.std.specs.Int.{Width, w16, w32, w64, byte_len, from_be_bytes}
+use Rattle.rp_base.specs.Gives.{Gives}
 use Rattle.rp_base.specs.Keys.{key_of}
 use Rattle.rp_base.specs.ShortTexts.{text_of}
 use Rattle.rp_base.specs.Spans.{key_span_of}
@@ -377,15 +378,15 @@ abbrev pub Reads : {A : Type 0} → Result A BadField → Left → Result (A × 
 Reads (Ok x) left read = read ≡ Ok (x, left)
 Reads (Err e) left read = read ≡ Err e
 
+-- the bad field that a fault names: none for want of memory
+abbrev pub field_of : DecodeFault → Option BadField
+field_of (faults.Bad place) = Some (record { place = place })
+field_of faults.NoMemory = None
+
 -- the same of a call that takes memory, which may be refused
-abbrev pub Fails : {A : Type 0} → DecodeFault → Result A BadField → Type 0
-Fails (faults.Bad place) read = read ≡ bad place
-Fails faults.NoMemory read = Unit {0}
-
 abbrev pub Decodes : {A : Type 0} → Result A DecodeFault → Left → Result (A × Left) BadField → Type 0
-Decodes (Ok x) left read = read ≡ Ok (x, left)
-Decodes (Err e) left read = Fails e read
+Decodes result left read = Gives (λ x. (x, left)) field_of result read
 
-abbrev pub Gives : {A : Type 0} → Result A DecodeFault → Result A BadField → Type 0
-Gives (Ok x) read = read ≡ Ok x
-Gives (Err e) read = Fails e read
+-- a call answered this payload or bad field, but for want of memory
+abbrev pub Decoded : Result Payload DecodeFault → Result Payload BadField → Type 0
+Decoded result read = Gives (λ p. p) field_of result read

@@ -1,8 +1,8 @@
 //! Laws of the definitions, for the proofs above. No program calls these functions.
-ghost use Rattle.std.specs.Prelude.{◌≡◌, ◌↔◌, ℕ, List, [], ◌∷◌, ◌++◌, length, take, drop, false, Ok};
+ghost use Rattle.std.specs.Prelude.{◌≡◌, ◌↔◌, ℕ, List, [], ◌∷◌, ◌++◌, length, take, drop, Ok};
 ghost use Rattle.rp_request.specs.declared.Payload.{Payload};
 ghost use Rattle.rp_request.specs.Fits.{AreBytes, FitsPayload};
-ghost use Rattle.rp_codec.specs.Reading.{bad, payload_in};
+ghost use Rattle.rp_codec.specs.Reading.{bad, begins_with, payload_in};
 ghost use Rattle.rp_codec.specs.Spelling.{spelling};
 ghost use Rattle.rp_codec.specs.Stops.{IsBadPlace};
 ghost use Rattle.rp_request.specs.Texts.{payload_has_text};
@@ -35,6 +35,12 @@ pub fn no_spelling_begins_another()
 #[tactic(auto, using(crate::proofs::SpellingLaws::read_past))]
 pub fn bytes_behind_a_payload_are_bad()
     ensures { (p : Payload) (b : ℕ) (more : List ℕ) → FitsPayload p → payload_in (spelling p ++ b ∷ more) ≡ bad (length (spelling p)) }
+{}
+
+/// A spelling begins with 2 exactly where a text is held.
+#[tactic(auto, using(crate::proofs::SpellingLaws::version_says))]
+pub fn version_2_is_for_texts_alone()
+    ensures { (p : Payload) → begins_with 2 (spelling p) ≡ payload_has_text p }
 {}
 
 /// Bytes are refused exactly where some place is bad, and that place is named.

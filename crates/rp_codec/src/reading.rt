@@ -2,7 +2,7 @@
 ghost use Rattle.std.specs.Prelude.{◌≡◌, ◌≤◌, IfOk, Ok};
 ghost use Rattle.rp_request.specs.declared.Payload.{Payload};
 ghost use Rattle.rp_request.specs.Fits.{FitsPayload};
-ghost use Rattle.rp_codec.specs.Reading.{Reads, Decodes, Gives, ops_at, batch_at, command_at, tag_at, payload_of, version_of, payload_at, all_in, payload_in};
+ghost use Rattle.rp_codec.specs.Reading.{Reads, Decodes, Decoded, ops_at, batch_at, command_at, tag_at, payload_of, version_of, payload_at, all_in, payload_in};
 ghost use Rattle.rp_codec.specs.Spelling.{spelling};
 
 use crate::commands::{ask, id, op, reply, request};
@@ -102,7 +102,7 @@ fn payload(alloc: Global, cursor: &mut Cursor) -> Result<Payload, DecodeFault>
 
 #[tactic(auto, unfolding(crate::specs::Reading::all_in))]
 fn all_of(alloc: Global, bytes: &[u8]) -> Result<Payload, DecodeFault>
-    ensures { Gives result (all_in bytes.now) }
+    ensures { Decoded result (all_in bytes.now) }
 {
     let mut cursor = Cursor::new(bytes);
     let payload = payload(alloc, &mut cursor)?;
@@ -114,7 +114,7 @@ fn all_of(alloc: Global, bytes: &[u8]) -> Result<Payload, DecodeFault>
 
 #[tactic(auto, unfolding(crate::specs::Reading::payload_in))]
 fn spelled(alloc: Global, bytes: &[u8]) -> Result<Payload, DecodeFault>
-    ensures { Gives result (payload_in bytes.now) }
+    ensures { Decoded result (payload_in bytes.now) }
 {
     let texts = Cursor::new(bytes).is_before(2);
     let payload = all_of(alloc, bytes)?;
@@ -128,11 +128,11 @@ fn spelled(alloc: Global, bytes: &[u8]) -> Result<Payload, DecodeFault>
 /// first field begins that is cut short or outside its form; for a payload with bytes behind it,
 /// that place is the payload's length, and for one of version 2 that holds no text, it is 0.
 pub fn decode(alloc: Global, bytes: &[u8]) -> Result<Payload, DecodeFault>
-    ensures read { Gives result (payload_in bytes.now) }
+    ensures read { Decoded result (payload_in bytes.now) }
     // What is read is so spelled.
     ensures spelled { IfOk result (λ p. (bytes.now ≡ spelling p) × FitsPayload p) }
     // What is so spelled is read.
-    ensures only { (p : Payload) → FitsPayload p → bytes.now ≡ spelling p → Gives result (Ok p) }
+    ensures only { (p : Payload) → FitsPayload p → bytes.now ≡ spelling p → Decoded result (Ok p) }
 {
     spelled(alloc, bytes)
 }

@@ -60,6 +60,7 @@ fn push_plain(out: &mut Vec<u8>, value: &Value) -> Result<(), NoMemory>
     match value {
         Value::Number(number) => push_number(out, *number),
         Value::Text(text) => {
+            // No byte of a text is written; its bytes are good ones all the same.
             let _good = text.as_bytes();
             Ok(())
         }

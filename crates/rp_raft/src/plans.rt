@@ -84,7 +84,9 @@ pub(crate) fn draft_back<S: Drop>(plan: RaftPlan<S>) -> RaftDraft<S>
     ensures { result ≡ record plan.draft { messages = take plan.replies plan.draft.messages } }
 {
     let RaftPlan {
-        mut draft, replies, ..
+        mut draft,
+        replies,
+        ..
     } = plan;
     draft.messages.truncate(replies);
     draft

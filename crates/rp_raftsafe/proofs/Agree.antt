@@ -1,17 +1,18 @@
 -- The laws of leaders, of logs and of what is sent.
-use Rattle.std.proofs.Common.{◌≡◌, ℕ, zero, suc, ◌+◌, ◌<◌, ◌≤◌, false, eqb, Option, Some, None, List, ◌++◌, length, take, refl, sym, ap, ◌∙◌, arith, eq-eqb, add-one}
+use Rattle.std.proofs.Common.{◌≡◌, ℕ, zero, suc, ◌+◌, ◌<◌, ◌≤◌, false, eqb, Option, Some, None, List, ◌++◌, length, take, refl, sym, ap, ◌∙◌, arith, eq-eqb, add-one, ⊎_elim}
+use Rattle.std.proofs.lemmas.Bool.{cases_lt}
 use Rattle.std.specs.Option.{option_map_or}
 use Rattle.std.proofs.lemmas.Option.{slice_get_within, get_or_from_slice_get}
 use Rattle.rp_raftlog.specs.declared.entries.Entry.{Entry}
 use Rattle.rp_raftlog.specs.LogState.{LogState, entry_at, term_at}
 use Rattle.rp_raftstep.specs.declared.messages.Message.{Message}
 use Rattle.rp_raftstep.specs.declared.messages.Message.TheVariants.{Append}
-use Rattle.rp_raftsafe.specs.World.{Range, World, site, world_after}
-use Rattle.rp_raftsafe.specs.Safety.{HasSent, Leads, OneLeader, SameUpTo, LogsMatch, CommitsAgree, AppendsFit, SentToOthers}
-use Rattle.rp_raftsafe.proofs.Logs.{no_entry, tm, term_in, Good, good_more, logs_match, same_get, same_tm, same_term_in}
+use Rattle.rp_raftsafe.specs.World.{Range, IsRange, Replica, World, Event, site, world_after}
+use Rattle.rp_raftsafe.specs.Safety.{IsLive, HasSent, Leads, OneLeader, SameUpTo, LogsMatch, IsComplete, LeaderComplete, CommitsAgree, AppendsFit, SentToOthers}
+use Rattle.rp_raftsafe.proofs.Logs.{longer_take, same_length, no_entry, tm, term_in, Good, good_more, logs_match, same_get, same_tm, same_term_in}
 use Rattle.rp_raftsafe.proofs.Machine.{Abs}
 use Rattle.rp_raftsafe.proofs.Safe.{Commits, commits_less, commits_within, commits_agree, commits_grow, committed_front}
-use Rattle.rp_raftsafe.proofs.Views.{Shows, HasTerm, entry_in, term_at_in, has_term_is}
+use Rattle.rp_raftsafe.proofs.Views.{Shows, shows_last, HasTerm, entry_in, term_at_in, has_term_is}
 use Rattle.rp_raftsafe.proofs.Accept.{tm_part}
 use Rattle.rp_raftsafe.proofs.Refine.{NodeOk, LeaderOk, PacketOk, AppendOk}
 use Rattle.rp_raftsafe.proofs.Pieces.{as_leader}
@@ -74,6 +75,61 @@ commits_agree_holds S g range early late p q r s lr ls index cr cs =
     same_up_to (b.then.log p) (b.now.log q) r.raft.log s.raft.log index first.1.log second.1.log
     (commits_within g.nodes b.now r.raft.head.term index (b.then.log p) cx) (commits_within g.nodes b.now s.raft.head.term index (b.now.log q) cy)
     (commits_agree g.nodes b.now b.after.inv r.raft.head.term s.raft.head.term index (b.then.log p) (b.now.log q) cx cy)
+
+-- a leader at the later time has what was committed in an earlier term
+complete_later : {S : Type 0} (g : Range S) (range : IsRange g) (early late : List Event) (p q : ℕ) (r s : Replica S) → IsLive (world_after g early) p r → IsLive (world_after g (early ++ late)) q s → IsComplete s r
+complete_later g range early late p q r s lr ls leads less index cr =
+    let b = both_ok g range early late in
+    let first = live_ok g b.then (world_after g early) b.before p r lr in
+    let second = live_ok g b.now (world_after g (early ++ late)) b.after q s ls in
+    let cx : Commits g.nodes b.now r.raft.head.term index (b.then.log p) = commits_grow g.nodes b.then b.now b.grows r.raft.head.term index (b.then.log p) (commits_less g.nodes b.then r.raft.head.term index r.raft.head.commit (b.then.log p) cr first.1.commit) in
+    let led : LeaderOk b.now q s.raft.head.term (b.now.log q) s.raft.head.next s.raft.head.matched =
+    as_leader b.now q s.raft.head.term (b.now.log q) s.raft.head.next s.raft.head.matched s.raft.head.votes s.raft.head.role leads second.1.role in
+    let own : b.now.log q ≡ b.now.llog s.raft.head.term = b.after.inv.lead_log q second.0 (ap b.now.lead second.1.term ∙ led.leads) ∙ ap b.now.llog second.1.term in
+    let same : take index (b.then.log p) ≡ take index (b.now.log q) = committed_front g.nodes b.now b.after.inv r.raft.head.term s.raft.head.term index (b.then.log p) (omega arith) (omega (arith, second.0, led.leads)) cx ∙ ap (take index) (sym own) in
+    let some : index ≤ length (b.then.log p) = commits_within g.nodes b.now r.raft.head.term index (b.then.log p) cx in
+    let within : index ≤ length (b.now.log q) = same_length index (b.then.log p) (b.now.log q) some same in
+    record {
+      within = omega (arith, within, shows_last (b.now.log q) s.raft.log second.1.log);
+      same = same_up_to (b.then.log p) (b.now.log q) r.raft.log s.raft.log index first.1.log second.1.log some within same;
+    }
+
+-- a leader at the earlier time has what is committed later in an earlier term: what it appended since is of its own term
+complete_before : {S : Type 0} (g : Range S) (range : IsRange g) (early late : List Event) (p q : ℕ) (r s : Replica S) → IsLive (world_after g early) p r → IsLive (world_after g (early ++ late)) q s → IsComplete r s
+complete_before g range early late p q r s lr ls leads less index cs =
+    let b = both_ok g range early late in
+    let first = live_ok g b.then (world_after g early) b.before p r lr in
+    let second = live_ok g b.now (world_after g (early ++ late)) b.after q s ls in
+    let cx : Commits g.nodes b.now s.raft.head.term index (b.now.log q) = commits_less g.nodes b.now s.raft.head.term index s.raft.head.commit (b.now.log q) cs second.1.commit in
+    let led : LeaderOk b.then p r.raft.head.term (b.then.log p) r.raft.head.next r.raft.head.matched =
+    as_leader b.then p r.raft.head.term (b.then.log p) r.raft.head.next r.raft.head.matched r.raft.head.votes r.raft.head.role leads first.1.role in
+    let own : b.then.log p ≡ b.then.llog r.raft.head.term = b.before.inv.lead_log p first.0 (ap b.then.lead first.1.term ∙ led.leads) ∙ ap b.then.llog first.1.term in
+    let then_leads : 0 < b.then.lead r.raft.head.term = omega (arith, first.0, led.leads) in
+    let front : take index (b.now.log q) ≡ take index (b.now.llog r.raft.head.term) = committed_front g.nodes b.now b.after.inv s.raft.head.term r.raft.head.term index (b.now.log q) (omega arith) (omega (arith, then_leads, b.grows.lead r.raft.head.term then_leads)) cx in
+    let some : index ≤ length (b.now.log q) = commits_within g.nodes b.now s.raft.head.term index (b.now.log q) cx in
+    let longer : index ≤ length (b.now.llog r.raft.head.term) = same_length index (b.now.log q) (b.now.llog r.raft.head.term) some front in
+    let within : index ≤ length (b.then.llog r.raft.head.term) =
+    ⊎_elim
+    (λ (short : length (b.then.llog r.raft.head.term) < index).
+    absurd (omega (
+      arith,
+      second.1.term,
+      b.after.inv.log_terms q (length (b.then.llog r.raft.head.term)),
+      same_tm (length (b.then.llog r.raft.head.term)) index (b.now.log q) (b.now.llog r.raft.head.term) short front,
+      b.grows.added r.raft.head.term (length (b.then.llog r.raft.head.term)) then_leads (omega arith) (omega arith),
+    )))
+    (λ (le : index ≤ length (b.then.llog r.raft.head.term)). le)
+    (cases_lt (length (b.then.llog r.raft.head.term)) index) in
+    let same : take index (b.now.log q) ≡ take index (b.then.log p) =
+    front ∙ longer_take (b.then.llog r.raft.head.term) (b.now.llog r.raft.head.term) index (b.grows.llog r.raft.head.term) within ∙ ap (take index) (sym own) in
+    let within' : index ≤ length (b.then.log p) = omega (arith, within, ap length own) in
+    record {
+      within = omega (arith, within', shows_last (b.then.log p) r.raft.log first.1.log);
+      same = same_up_to (b.now.log q) (b.then.log p) s.raft.log r.raft.log index second.1.log first.1.log some within' same;
+    }
+
+pub leader_complete_holds : (S : Type 0) → LeaderComplete S
+leader_complete_holds S g range early late p q r s lr ls = (complete_later g range early late p q r s lr ls, complete_before g range early late p q r s lr ls)
 
 -- a message that a node has sent
 pub sent_packet : {S : Type 0} (g : Range S) (a : Abs) (w : World S) → WorldOk g a w → (from to : ℕ) (m : Message S) → HasSent w from to m → (0 < from) × PacketOk g a from (to, m)

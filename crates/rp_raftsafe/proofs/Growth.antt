@@ -1,8 +1,10 @@
 -- What no move takes back; and what a move of one node leaves of the others.
-use Rattle.std.proofs.Common.{◌≡◌, ℕ, suc, ◌<◌, ◌≤◌, max, List, [], ◌∷◌, ◌++◌, length, refl, sym, ap, subst, ◌∙◌, arith}
+use Rattle.std.proofs.Common.{◌≡◌, ℕ, suc, ◌<◌, ◌≤◌, max, List, [], ◌∷◌, ◌++◌, length, refl, sym, ap, subst, ◌∙◌, arith, ⊎_elim}
+use Rattle.std.proofs.lemmas.Bool.{cases_lt}
+use Rattle.std.proofs.lemmas.List.{get_or_push, length_push}
 use Rattle.rp_raftlog.specs.declared.entries.Entry.{Entry}
 use Rattle.rp_raftsafe.proofs.Tables.{at_upd, at_upd2}
-use Rattle.rp_raftsafe.proofs.Logs.{Longer, longer_refl, longer_take, longer_length}
+use Rattle.rp_raftsafe.proofs.Logs.{tm, no_entry, same_tm, Longer, longer_refl, longer_take, longer_length}
 use Rattle.rp_raftsafe.proofs.Machine.{Abs, Inv}
 use Rattle.rp_raftsafe.proofs.Raise.{raise, ask}
 use Rattle.rp_raftsafe.proofs.Grant.{grant}
@@ -17,9 +19,11 @@ pub record Grows (a b : Abs) : Type 0 where
   pub lead : (t : ℕ) → 0 < a.lead t → b.lead t ≡ a.lead t
   pub llog : Longer a.llog b.llog
   pub ack : (q t : ℕ) → a.ack q t ≤ b.ack q t
+  -- a leader appends entries of its own term
+  pub added : (t j : ℕ) → 0 < a.lead t → length (a.llog t) ≤ j → j < length (b.llog t) → tm (b.llog t) j ≡ t
 
 pub grows_refl : (a : Abs) → Grows a a
-grows_refl a = record { term = λ q. omega arith; vote = λ q t _. refl; asked = λ t c _. refl; lead = λ t _. refl; llog = λ t. longer_refl (a.llog t); ack = λ q t. omega arith }
+grows_refl a = record { term = λ q. omega arith; vote = λ q t _. refl; asked = λ t c _. refl; lead = λ t _. refl; llog = λ t. longer_refl (a.llog t); ack = λ q t. omega arith; added = λ t j _ le lt. absurd (omega arith) }
 
 pub grows_trans : (a b c : Abs) → Grows a b → Grows b c → Grows a c
 grows_trans a b c g h = record {
@@ -29,6 +33,11 @@ grows_trans a b c g h = record {
   lead = λ t pos. h.lead t (omega (arith, g.lead t pos)) ∙ g.lead t pos;
   llog = λ t. longer_take (b.llog t) (c.llog t) (length (a.llog t)) (h.llog t) (longer_length (a.llog t) (b.llog t) (g.llog t)) ∙ g.llog t;
   ack = λ q t. omega (arith, g.ack q t, h.ack q t);
+  added = λ t j pos le lt.
+      ⊎_elim
+      (λ (old : j < length (b.llog t)). same_tm j (suc j) (c.llog t) (b.llog t) (omega arith) (longer_take (b.llog t) (c.llog t) (suc j) (h.llog t) (omega arith)) ∙ g.added t j pos le old)
+      (λ (new : length (b.llog t) ≤ j). h.added t j (omega (arith, g.lead t pos)) new lt)
+      (cases_lt j (length (b.llog t)));
 }
 
 pub record Moves (p : ℕ) (a b : Abs) : Type 0 where
@@ -59,6 +68,7 @@ raise_moves a p t up = record {
     lead = λ s _. refl;
     llog = λ s. longer_refl (a.llog s);
     ack = λ q s. omega arith;
+    added = λ s j _ le lt. absurd (omega arith);
   };
   term = λ q ne. at_upd (λ x. x ≡ a.term q) a.term p t q (λ e. absurd (ne e)) (λ _. refl);
   log = λ q _. refl;
@@ -75,6 +85,7 @@ ask_moves a p free = record {
     lead = λ s _. refl;
     llog = λ s. longer_refl (a.llog s);
     ack = λ q s. omega arith;
+    added = λ s j _ le lt. absurd (omega arith);
   };
   term = λ q _. refl;
   log = λ q _. refl;
@@ -91,6 +102,7 @@ grant_moves a p c free = record {
     lead = λ s _. refl;
     llog = λ s. longer_refl (a.llog s);
     ack = λ q s. omega arith;
+    added = λ s j _ le lt. absurd (omega arith);
   };
   term = λ q _. refl;
   log = λ q _. refl;
@@ -107,6 +119,7 @@ elect_moves n a c h g = record {
     lead = λ s pos. at_upd (λ x. x ≡ a.lead s) a.lead (a.term c) c s (λ es. absurd (omega (arith, ap a.lead es, g.leaderless))) (λ _. refl);
     llog = elect_longer n a c h g;
     ack = λ q s. at_upd2 (λ x. a.ack q s ≤ x) a.ack c (a.term c) (length (a.log c)) q s (λ eq es. omega (arith, h.ack_length q s, ap length (h.unled s (ap a.lead es ∙ g.leaderless)))) (λ _. omega arith);
+    added = λ s j pos le. at_upd (λ x. j < length x → tm x j ≡ s) a.llog (a.term c) (a.log c) s (λ es _. absurd (omega (arith, ap a.lead es, g.leaderless))) (λ _ lt. absurd (omega arith));
   };
   term = λ q _. refl;
   log = λ q _. refl;
@@ -123,6 +136,9 @@ extend_moves n a c e h g = record {
     lead = λ s _. refl;
     llog = longer n a c e h g;
     ack = λ q s. at_upd2 (λ x. a.ack q s ≤ x) a.ack c (a.term c) (suc (a.ack c (a.term c))) q s (λ eq es. subst (λ z. a.ack z s ≤ suc (a.ack c (a.term c))) (sym eq) (subst (λ z. a.ack c z ≤ suc (a.ack c (a.term c))) (sym es) (omega arith))) (λ _. omega arith);
+    added = λ s j _ le. at_upd (λ x. j < length x → tm x j ≡ s) a.llog (a.term c) (a.llog (a.term c) ++ e ∷ []) s
+        (λ es lt. ap (λ z. z.term) (get_or_push (a.llog (a.term c)) e no_entry j (omega (arith, length_push (a.llog (a.term c)) e, ap (λ z. length (a.llog z)) es))) ∙ g.own ∙ sym es)
+        (λ _ lt. absurd (omega arith));
   };
   term = λ q _. refl;
   log = λ q ne. at_upd (λ x. x ≡ a.log q) a.log c (a.log c ++ e ∷ []) q (λ eq. absurd (ne eq)) (λ _. refl);
@@ -139,6 +155,7 @@ store_moves a p xs m = record {
     lead = λ s _. refl;
     llog = λ s. longer_refl (a.llog s);
     ack = λ q s. at_upd2 (λ x. a.ack q s ≤ x) a.ack p (a.term p) (max (a.ack p (a.term p)) m) q s (λ eq es. subst (λ z. a.ack z s ≤ max (a.ack p (a.term p)) m) (sym eq) (subst (λ z. a.ack p z ≤ max (a.ack p (a.term p)) m) (sym es) (omega arith))) (λ _. omega arith);
+    added = λ s j _ le lt. absurd (omega arith);
   };
   term = λ q _. refl;
   log = λ q ne. at_upd (λ x. x ≡ a.log q) a.log p xs q (λ eq. absurd (ne eq)) (λ _. refl);

@@ -39,11 +39,30 @@ LogsMatch S =
     (g : Range S) → IsRange g → (early late : List Event) (p q : ℕ) (r s : Replica S) → IsLive (world_after g early) p r → IsLive (world_after g (early ++ late)) q s
     → (index term : ℕ) → term_at r.raft.log index ≡ Some term → term_at s.raft.log index ≡ Some term → SameUpTo r.raft.log s.raft.log index
 
--- two logs are the same up to each index that both have committed
+-- two logs are the same up to each index that both have committed (Raft 2014, section 5.4.3: state
+-- machine safety)
 abbrev pub CommitsAgree : Type 0 → Type 0
 CommitsAgree S =
     (g : Range S) → IsRange g → (early late : List Event) (p q : ℕ) (r s : Replica S) → IsLive (world_after g early) p r → IsLive (world_after g (early ++ late)) q s
     → (index : ℕ) → index ≤ r.raft.head.commit → index ≤ s.raft.head.commit → SameUpTo r.raft.log s.raft.log index
+
+-- a log shows all of another up to an index, as far as the other shows it
+pub record ShowsUpTo (l m : LogState) (index : ℕ) : Type 0 where
+  pub within : index ≤ last_index m
+  pub same : SameUpTo l m index
+
+-- the log of this one, if it leads, shows all that the other has committed in an earlier term
+abbrev pub IsComplete : {S : Type 0} → Replica S → Replica S → Type 0
+IsComplete leader other =
+    leader.raft.head.role ≡ Leader → other.raft.head.term < leader.raft.head.term
+    → (index : ℕ) → index ≤ other.raft.head.commit → ShowsUpTo other.raft.log leader.raft.log index
+
+-- a leader's log shows every entry that is committed in an earlier term, be it told before the
+-- leader's time or after (Raft 2014, section 5.4: leader completeness)
+abbrev pub LeaderComplete : Type 0 → Type 0
+LeaderComplete S =
+    (g : Range S) → IsRange g → (early late : List Event) (p q : ℕ) (r s : Replica S) → IsLive (world_after g early) p r → IsLive (world_after g (early ++ late)) q s
+    → IsComplete s r × IsComplete r s
 
 -- a list is the beginning of another
 abbrev pub IsPrefixOf : List Entry → List Entry → Type 0

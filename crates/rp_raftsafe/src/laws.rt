@@ -1,40 +1,51 @@
-//! Laws of the world of one range, for every schedule of deliveries, ticks, proposals, cuts, removals and
-//! restarts. `S` is the type of a range's state, of which snapshots are made. No program calls these.
+//! Laws of the world of one range, for every schedule of deliveries, ticks, proposals, cuts, removals
+//! and restarts. `S` is the type of a range's state, of which snapshots are made. No program calls
+//! these.
 
-ghost use Rattle.rp_raftsafe.specs.Safety.{OneLeader, LogsMatch, CommitsAgree, OneList, AppendsFit, SentToOthers, OnlyProposed};
+ghost use Rattle.rp_raftsafe.specs.Safety.{OneLeader, LogsMatch, LeaderComplete, CommitsAgree, OneList, AppendsFit, SentToOthers, OnlyProposed};
 ghost use Rattle.rp_raftsafe.specs.Bounds.{Bounded};
 ghost use Rattle.rp_raftsafe.specs.Many.{SeesOwn, StartsNowhere};
 
-/// In each term at most one node is ever leader, at one time or at two (Raft 2014, section 5.2, election safety).
+/// Election safety (Raft 2014, section 5.2): in each term at most one node is ever leader, at one time
+/// or at two.
 pub fn one_leader<S>()
     ensures { OneLeader S }
 {}
 
-/// Two logs that have one term at an index are the same up to it, as far as both show them (Raft 2014,
-/// section 5.3, log matching).
+/// Log matching (Raft 2014, section 5.3): two logs that have one term at an index are the same up to
+/// it, as far as both show them.
 pub fn logs_match<S>()
     ensures { LogsMatch S }
 {}
 
-/// Two replicas agree on each entry that both have committed, at one time or at two.
+/// Leader completeness (Raft 2014, section 5.4): the log of a leader shows every entry that is
+/// committed in an earlier term, at one time or at two.
+pub fn leader_complete<S>()
+    ensures { LeaderComplete S }
+{}
+
+/// State machine safety (Raft 2014, section 5.4.3): two replicas agree on each entry that both have
+/// committed, at one time or at two.
 pub fn commits_agree<S>()
     ensures { CommitsAgree S }
 {}
 
-/// There is a committed list, which the schedule determines and which only grows, and each replica shows it:
-/// its base, its entries up to the commit index, and its state, which is the fold of the list up to the
-/// applied index. Each entry of it is Nothing or was proposed (Raft 2014, section 5.4, state machine safety).
+/// State machine safety, as one list (Raft 2014, section 5.4.3): there is a committed list, which the
+/// schedule determines and which only grows, and each replica shows it: its base, its entries up to
+/// the commit index, and its state, which is the fold of the list up to the applied index. Each entry
+/// of it is Nothing or was proposed.
 pub fn one_list<S>()
     ensures { OneList S }
 {}
 
-/// Each entry of a log and each payload in a message is Nothing, or was proposed by an event of the schedule.
+/// Validity: each entry of a log and each payload in a message is Nothing, or was proposed by an event
+/// of the schedule.
 pub fn only_proposed<S>()
     ensures { OnlyProposed S }
 {}
 
-/// An `Append` whose term is not below the receiver's has, above the receiver's base and up to its commit
-/// index, the terms that its log has there.
+/// An `Append` whose term is not below the receiver's has, above the receiver's base and up to its
+/// commit index, the terms that its log has there.
 pub fn appends_fit<S>()
     ensures { AppendsFit S }
 {}
@@ -44,14 +55,14 @@ pub fn sent_to_others<S>()
     ensures { SentToOthers S }
 {}
 
-/// Every term, index and count of a replica or a message stays below a bound that grows with the events: by 2
-/// for a tick, 1 for a message that comes, and 1 for each payload.
+/// Every term, index and count of a replica or a message stays below a bound that grows with the
+/// events: by 2 for a tick, 1 for a message that comes, and 1 for each payload.
 pub fn bounded<S>()
     ensures { Bounded S }
 {}
 
-/// Of nodes with several ranges and one list of what they sent, each range sees its own world: each event is
-/// one of its own, or nothing to it.
+/// Of nodes with several ranges and one list of what they sent, each range sees its own world: each
+/// event is one of its own, or nothing to it.
 pub fn sees_own<S>()
     ensures run { SeesOwn S }
     ensures start { StartsNowhere S }

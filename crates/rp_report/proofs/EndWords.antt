@@ -1,5 +1,5 @@
 -- Replies, refusals and ends of attempts: what their words tell.
-use Rattle.std.proofs.Common.{◌≡◌, ℕ, ◌<◌, ◌≤◌, ◌==◌, ◌^◌, Bool, true, false, get_or, List, [], ◌∷◌, ◌++◌, Option, Some, None, IfSome, refl, ap, sym, ◌∙◌, lit<, arith, append_assoc, Result, Ok, Err}
+use Rattle.std.proofs.Common.{◌≡◌, ℕ, ◌<◌, ◌≤◌, ◌==◌, ◌^◌, Bool, true, false, get_or, List, [], ◌∷◌, ◌++◌, Some, None, refl, ap, sym, ◌∙◌, lit<, arith, append_assoc, Result, Ok, Err}
 use Rattle.std.specs.Prelude.{codes, if◌then◌else◌}
 use Rattle.std.specs.Fmt.{decimal}
 use Rattle.std.specs.Str.{bytes_eq}
@@ -11,7 +11,6 @@ use Rattle.rp_base.proofs.KeyLaws.{one_bound}
 use Rattle.rp_base.proofs.NumberLaws.{read_as_written}
 use Rattle.rp_base.proofs.SplitLaws.{desc_same}
 use Rattle.rp_base.proofs.ValueLaws.{first_above_sign}
-use Rattle.rp_base.specs.declared.values.Value.{Value}
 use Rattle.rp_base.specs.declared.values.Value.TheVariants.{Number, Text}
 use Rattle.std.proofs.lemmas.Bool.Decides.{nat_tests}
 use Rattle.rp_request.specs.Fits.{FitsReply, FitsId}

@@ -12,6 +12,7 @@ use Rattle.rp_request.specs.declared.items.Record.{Record}
 use Rattle.rp_request.specs.declared.items.Record.TheVariants.{Took, Passed}
 use Rattle.rp_request.specs.declared.notes.Note.{Note}
 use Rattle.rp_request.specs.declared.notes.ReplyLine.{ReplyLine}
+use Rattle.rp_script.specs.Words.{begun_with}
 use Rattle.rp_report.specs.declared.views.Row.{Row}
 use Rattle.rp_report.specs.declared.views.ReplicaView.{ReplicaView}
 use Rattle.rp_report.specs.declared.views.ReplicaView.TheVariants.{Live, Removed, Absent}
@@ -24,7 +25,7 @@ use Rattle.rp_report.specs.Outcomes.{end_text}
 use Rattle.rp_report.specs.Report.{note_line, attempt_of, answer_line, range_line, record_lines, row_line, live_text, replica_lines_of, replica_lines, range_lines, report}
 use Rattle.rp_report.specs.Widths.{Fits, FitsRecord, IsOneLine, FitsNote, FitsReplyLine, FitsRow, FitsReplica, FitsRangeLine, FitsRange, FitsView}
 use Rattle.rp_report.specs.InTexts.{record_in_text, entries_of, entries_in, entry_in_text}
-use Rattle.rp_report.proofs.WordLaws.{begun_with, value_word, AreLetters, AreWords, spoken, number_word, key_word, bound_word}
+use Rattle.rp_report.proofs.WordLaws.{value_word, AreLetters, AreWords, spoken, number_word, key_word, bound_word}
 use Rattle.rp_report.proofs.EndWords.{command_word, id_word, wide_attempt, end_words, end_spoken, end_are_words}
 use Rattle.rp_report.proofs.ItemWords.{record_words, record_spoken, record_are_words, one_record}
 

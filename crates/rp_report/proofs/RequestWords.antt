@@ -9,7 +9,6 @@ use Rattle.std.proofs.lemmas.Bool.{cases_eq}
 use Rattle.std.proofs.lemmas.Bool.Decides.{nat_tests}
 use Rattle.rp_base.specs.Keys.{key_text, IsKey, is_key_byte}
 use Rattle.rp_base.specs.Values.{IsValue, value_text}
-use Rattle.rp_base.specs.declared.KeySpan.{KeySpan}
 use Rattle.rp_base.specs.declared.values.Value.{Value}
 use Rattle.rp_base.specs.declared.values.Value.TheVariants.{Number, Text}
 use Rattle.rp_base.proofs.KeyBytes.{passes_whole}
@@ -87,7 +86,7 @@ number_is_no_word n c cs fits stops =
     other_word is_ascii_digit (decimal n) c cs stops w.some w.digits
 
 -- no value is spelled `none`
-value_not_none : (v : Value) → IsValue v → bytes_eq (value_text v) (codes "none") ≡ false
+pub value_not_none : (v : Value) → IsValue v → bytes_eq (value_text v) (codes "none") ≡ false
 value_not_none (Number n) h = number_is_no_word n 110 (111 ∷ 110 ∷ 101 ∷ []) h refl
 value_not_none (Text text) h = refl
 
@@ -99,7 +98,7 @@ one_option (Some u) None hu hv same = absurd (let a = value_not_none u hu in let
 one_option (Some u) (Some v) hu hv same = ap (λ (w : Value). let x : Option Value = Some w in x) (one_value u v hu hv same)
 
 -- no key is spelled `~`
-key_not_end : (key : ℕ) → IsKey key → bytes_eq (key_text key) (codes "~") ≡ false
+pub key_not_end : (key : ℕ) → IsKey key → bytes_eq (key_text key) (codes "~") ≡ false
 key_not_end key h =
     let len = key_text_len key h in
     other_word is_key_byte (key_text key) 126 [] refl (omega (arith, len.0)) (key_text_good key h)

@@ -6,7 +6,6 @@ use Rattle.rp_request.specs.declared.outcomes.Reply.{Reply}
 use Rattle.rp_request.specs.declared.outcomes.Reply.TheVariants.{Old, Now, Set, Count, Range}
 use Rattle.rp_request.specs.declared.outcomes.Refusal.{Refusal}
 use Rattle.rp_request.specs.declared.outcomes.Refusal.TheVariants.{NoReplica, NotLeaseHolder, RangeMismatch, Latched, ConditionFailed, IsText, Overflow, Short, TooWide, NotInside, SplitLimit}
-use Rattle.rp_request.specs.declared.outcomes.Outcome.{Outcome}
 use Rattle.rp_request.specs.declared.outcomes.Outcome.TheVariants.{Success, Refused, Ambiguous, Pending}
 use Rattle.rp_request.specs.declared.outcomes.End.{End}
 use Rattle.rp_request.specs.declared.outcomes.End.TheVariants as ends

@@ -1,6 +1,6 @@
 -- The words of a text that is written word by word.
 use Rattle.std.proofs.Common.{◌≡◌, ℕ, ◌<◌, ◌==◌, Bool, true, false, not, ◌&&◌, inl, inr, subst, List, [], ◌∷◌, ◌++◌, length, refl, ap, sym, ◌∙◌, arith, append_assoc}
-use Rattle.std.specs.Prelude.{filter, ◌^◌, if◌then◌else◌}
+use Rattle.std.specs.Prelude.{filter, ◌^◌}
 use Rattle.std.specs.List.{prefix_len}
 use Rattle.std.specs.Char.{is_ascii_digit}
 use Rattle.std.specs.Fmt.{decimal}
@@ -10,25 +10,11 @@ use Rattle.rp_base.specs.Numbers.{u64_of}
 use Rattle.rp_base.proofs.KeyBytes.{passes_whole}
 use Rattle.rp_base.proofs.KeyLaws.{key_text_good, key_text_len, read_as_spelled, bound_text_least, bound_text_greatest, bound_text_key}
 use Rattle.rp_base.proofs.NumberLaws.{read_as_written, Writes-from_ok}
-use Rattle.rp_base.specs.ShortTexts.{is_text_byte, IsText}
+use Rattle.rp_base.specs.ShortTexts.{is_text_byte}
 use Rattle.rp_base.specs.Values.{IsValue, value_text}
 use Rattle.rp_base.specs.declared.values.Value.{Value}
 use Rattle.rp_base.specs.declared.values.Value.TheVariants.{Number, Text}
-
-abbrev pub begun_with : ℕ → List (List ℕ) → List (List ℕ)
-begun_with b [] = (b ∷ []) ∷ []
-begun_with b (text ∷ texts) = (b ∷ text) ∷ texts
-
-abbrev pub pieces : List ℕ → List (List ℕ)
-pieces [] = [] ∷ []
-pieces (b ∷ bytes) = if b == 32 then [] ∷ pieces bytes else begun_with b (pieces bytes)
-
-abbrev pub has_bytes : List ℕ → Bool
-has_bytes [] = false
-has_bytes (b ∷ bytes) = true
-
-abbrev pub words_of : List ℕ → List (List ℕ)
-words_of line = filter has_bytes (pieces line)
+use Rattle.rp_script.specs.Words.{pieces, has_bytes, words_of}
 
 -- a byte that is neither a space nor the end of a line
 abbrev pub is_letter : ℕ → Type 0

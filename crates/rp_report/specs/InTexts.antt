@@ -24,7 +24,8 @@ reply_in_text reply = reply
 -- a refusal as its text tells it: without the tick at which a lease expires, and without the span
 -- that is held
 abbrev pub refusal_in_text : Refusal → Refusal
-refusal_in_text (NotLeaseHolder lease) = NotLeaseHolder (record { holder = lease.holder; seq = lease.seq; expires = 0 })
+refusal_in_text (NotLeaseHolder lease) =
+    NotLeaseHolder (record { holder = lease.holder; seq = lease.seq; expires = 0 })
 refusal_in_text (Latched by held) = Latched by whole
 refusal_in_text refusal = refusal
 

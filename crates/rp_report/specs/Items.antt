@@ -3,7 +3,6 @@ use Rattle.std.specs.Prelude.{ℕ, List, ◌++◌, Option, Some, None, codes}
 use Rattle.std.specs.Fmt.{decimal}
 use Rattle.rp_base.specs.Keys.{key_text}
 use Rattle.rp_base.specs.declared.CmdId.{CmdId}
-use Rattle.rp_base.specs.declared.KeySpan.{KeySpan}
 use Rattle.rp_request.specs.declared.requests.Request.{Request}
 use Rattle.rp_request.specs.declared.requests.Request.TheVariants as requests
 use Rattle.rp_request.specs.declared.outcomes.Reply.{Reply}
@@ -29,7 +28,8 @@ request_text (requests.CPut key expect value) =
     codes "cput " ++ key_text key ++ codes " " ++ value_or_none expect ++ spaced_value value
 request_text (requests.Del key) = codes "del " ++ key_text key
 request_text (requests.Wipe span) = codes "wipe " ++ key_text span.start ++ span_end_text span.end
-request_text (requests.Move from to by) = codes "move " ++ key_text from ++ spaced_key to ++ spaced by
+request_text (requests.Move from to by) =
+    codes "move " ++ key_text from ++ spaced_key to ++ spaced by
 request_text (requests.Split key) = codes "split " ++ key_text key
 
 -- a reply

@@ -1,6 +1,5 @@
 -- The text of how an attempt ended.
 use Rattle.std.specs.Prelude.{ℕ, List, ◌++◌, Option, codes}
-use Rattle.std.specs.Fmt.{decimal}
 use Rattle.rp_base.specs.declared.Desc.{Desc}
 use Rattle.rp_base.specs.declared.values.Value.{Value}
 use Rattle.rp_request.specs.declared.outcomes.Refusal.{Refusal}

@@ -1,6 +1,5 @@
 -- The report: the text of what a run shows, line after line.
 use Rattle.std.specs.Prelude.{ℕ, ◌+◌, List, [], ◌∷◌, ◌++◌, flat_map, codes}
-use Rattle.std.specs.Fmt.{decimal}
 use Rattle.rp_base.specs.Keys.{key_text}
 use Rattle.rp_base.specs.declared.CmdId.{CmdId}
 use Rattle.rp_base.specs.declared.Desc.{Desc}
@@ -28,16 +27,19 @@ attempt_of answer = record { client = answer.client; seq = answer.seq; attempt =
 -- how an attempt ended
 abbrev pub answer_line : ReplyLine → List ℕ
 answer_line answer =
-    codes "reply " ++ attempt_text (attempt_of answer) ++ codes " " ++ end_text answer.end ++ newline
+    codes "reply " ++ attempt_text (attempt_of answer) ++ codes " "
+    ++ end_text answer.end ++ newline
 
 -- a range's number and its bounds
 abbrev pub bounds_text : Desc → List ℕ
-bounds_text desc = codes "range" ++ spaced desc.id ++ spaced_bound desc.start ++ spaced_bound desc.end
+bounds_text desc =
+    codes "range" ++ spaced desc.id ++ spaced_bound desc.start ++ spaced_bound desc.end
 
 -- the range itself: its number, its bounds, its level and its lease
 abbrev pub range_line : Desc → Lease → List ℕ
 range_line desc lease =
-    bounds_text desc ++ codes " level" ++ spaced desc.level ++ codes " lease " ++ lease_text lease ++ newline
+    bounds_text desc ++ codes " level" ++ spaced desc.level
+    ++ codes " lease " ++ lease_text lease ++ newline
 
 -- the records, from this index on
 abbrev pub record_lines : ℕ → List Record → List ℕ
@@ -51,11 +53,13 @@ row_line row = codes "row " ++ key_text row.key ++ spaced_value row.value ++ new
 -- how far a live replica has come: its Raft term, its applied index, its lease applied index
 abbrev pub live_text : ℕ → ℕ → ℕ → List ℕ
 live_text term applied lai =
-    codes " live term" ++ spaced term ++ codes " applied" ++ spaced applied ++ codes " lai" ++ spaced lai
+    codes " live term" ++ spaced term ++ codes " applied" ++ spaced applied
+    ++ codes " lai" ++ spaced lai
 
 -- what a node has of the range, behind the node's number
 abbrev pub state_text : ReplicaView → List ℕ
-state_text (Live term applied lai rows) = live_text term applied lai ++ newline ++ flat_map row_line rows
+state_text (Live term applied lai rows) =
+    live_text term applied lai ++ newline ++ flat_map row_line rows
 state_text (Removed applied) = codes " removed applied" ++ spaced applied ++ newline
 state_text Absent = codes " none" ++ newline
 

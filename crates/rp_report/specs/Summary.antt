@@ -1,7 +1,6 @@
 -- The summary: how many there are of what the report has a line for.
 use Rattle.std.specs.Prelude.{ℕ, ◌==◌, ◌&&◌, Bool, true, false, List, ◌++◌, length, map, sum_by, count_by, codes}
 use Rattle.std.specs.Set.{distinct_count}
-use Rattle.rp_request.specs.declared.outcomes.Outcome.{Outcome}
 use Rattle.rp_request.specs.declared.outcomes.Outcome.TheVariants.{Success, Refused, Ambiguous, Pending}
 use Rattle.rp_request.specs.declared.outcomes.End.{End}
 use Rattle.rp_request.specs.declared.outcomes.End.TheVariants as ends
@@ -69,20 +68,26 @@ count_line word n = word ++ spaced n ++ newline
 -- how the attempts ended
 abbrev pub ending_lines : List ReplyLine → List ℕ
 ending_lines answers =
-    count_line (codes "ok") (ending is_success answers) ++ count_line (codes "refused") (ending is_refused answers)
-    ++ count_line (codes "ambiguous") (ending is_ambiguous answers) ++ count_line (codes "pending") (ending is_pending answers)
+    count_line (codes "ok") (ending is_success answers)
+    ++ count_line (codes "refused") (ending is_refused answers)
+    ++ count_line (codes "ambiguous") (ending is_ambiguous answers)
+    ++ count_line (codes "pending") (ending is_pending answers)
 
 -- the commands and their attempts, each line of a reply being one attempt
 abbrev pub answer_counts : List ReplyLine → List ℕ
 answer_counts answers =
-    count_line (codes "commands") (commands_among answers) ++ count_line (codes "attempts") (length answers) ++ ending_lines answers
+    count_line (codes "commands") (commands_among answers)
+    ++ count_line (codes "attempts") (length answers) ++ ending_lines answers
 
 -- the ranges and the records in them
 abbrev pub range_counts : List RangeView → List ℕ
 range_counts ranges =
-    count_line (codes "ranges") (length ranges) ++ count_line (codes "places") (records_in is_place ranges)
+    count_line (codes "ranges") (length ranges)
+    ++ count_line (codes "places") (records_in is_place ranges)
     ++ count_line (codes "passed") (records_in is_pass ranges)
 
 -- the ten lines
 abbrev pub summary : View → List ℕ
-summary view = answer_counts view.replies ++ range_counts view.ranges ++ count_line (codes "messages") view.messages
+summary view =
+    answer_counts view.replies ++ range_counts view.ranges
+    ++ count_line (codes "messages") view.messages

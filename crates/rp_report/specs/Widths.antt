@@ -34,7 +34,8 @@ Fits n = n < 2 ^ 64
 abbrev pub FitsRefusal : Refusal → Type 0
 FitsRefusal NoReplica = Unit {0}
 FitsRefusal (NotLeaseHolder lease) = Fits lease.holder × Fits lease.seq
-FitsRefusal (RangeMismatch desc) = Fits desc.id × IsShown desc.start × IsShown desc.end × Fits desc.level
+FitsRefusal (RangeMismatch desc) =
+    Fits desc.id × IsShown desc.start × IsShown desc.end × Fits desc.level
 FitsRefusal (Latched by held) = FitsId by
 FitsRefusal (ConditionFailed actual) = FitsOption actual
 FitsRefusal (IsText key) = IsKey key
@@ -61,7 +62,8 @@ FitsEnd ends.Unsent = Unit {0}
 
 -- what an applied item names
 abbrev pub FitsPlace : Place → Type 0
-FitsPlace (places.Write id request seq reply) = FitsId id × FitsRequest request × Fits seq × FitsReply reply
+FitsPlace (places.Write id request seq reply) =
+    FitsId id × FitsRequest request × Fits seq × FitsReply reply
 FitsPlace (places.Split id key right seq) = FitsId id × IsKey key × Fits right × Fits seq
 FitsPlace (places.Lease lease) = Fits lease.holder × Fits lease.seq × Fits lease.expires
 
@@ -85,7 +87,8 @@ abbrev pub FitsRow : Row → Type 0
 FitsRow row = IsKey row.key × IsValue row.value
 
 abbrev pub FitsReplica : ReplicaView → Type 0
-FitsReplica (Live term applied lai rows) = Fits term × Fits applied × Fits lai × AllByRecursion FitsRow rows
+FitsReplica (Live term applied lai rows) =
+    Fits term × Fits applied × Fits lai × AllByRecursion FitsRow rows
 FitsReplica (Gone applied) = Fits applied
 FitsReplica Absent = Unit {0}
 

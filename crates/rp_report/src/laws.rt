@@ -7,6 +7,8 @@ ghost use Rattle.rp_request.specs.declared.outcomes.Refusal.{Refusal};
 ghost use Rattle.rp_request.specs.declared.outcomes.End.{End};
 ghost use Rattle.rp_request.specs.declared.items.Place.{Place};
 ghost use Rattle.rp_request.specs.declared.items.Record.{Record};
+ghost use Rattle.rp_script.specs.Words.{words_of};
+ghost use Rattle.rp_script.specs.Requests.{request};
 ghost use Rattle.rp_report.specs.Items.{request_text, reply_text, item_text, record_line};
 ghost use Rattle.rp_report.specs.Outcomes.{refusal_text, end_text};
 ghost use Rattle.rp_report.specs.Report.{report};
@@ -14,41 +16,54 @@ ghost use Rattle.rp_report.specs.declared.views.View.{View};
 ghost use Rattle.rp_report.specs.Widths.{FitsRefusal, FitsEnd, FitsPlace, FitsRecord, FitsView};
 ghost use Rattle.rp_report.specs.InTexts.{reply_in_text, refusal_in_text, end_in_text, item_in_text, record_in_text, entries_in, entry_in_text};
 
+/// A request is spelled as in a `send` line: a script reads its words as this request.
+#[tactic(auto, using(crate::proofs::ReadBack::read_back))]
+pub fn requests_are_read_back()
+    ensures { (q : Request) → FitsRequest q → request (words_of (request_text q)) ≡ Ok q }
+{}
+
 /// Requests with one text are one request.
 #[tactic(auto, using(crate::proofs::RequestWords::one_request))]
 pub fn requests_are_told_apart()
-    ensures { (p : Request) (q : Request) → FitsRequest p → FitsRequest q → request_text p ≡ request_text q → p ≡ q }
+    ensures { (p : Request) (q : Request) → FitsRequest p → FitsRequest q → request_text p ≡ request_text q
+        → p ≡ q }
 {}
 
 /// Replies with one text are the same but for what their number counts.
 #[tactic(auto, using(crate::proofs::EndWords::one_reply))]
 pub fn replies_are_told_apart()
-    ensures { (r : Reply) (s : Reply) → FitsReply r → FitsReply s → reply_text r ≡ reply_text s → reply_in_text r ≡ reply_in_text s }
+    ensures { (r : Reply) (s : Reply) → FitsReply r → FitsReply s → reply_text r ≡ reply_text s
+        → reply_in_text r ≡ reply_in_text s }
 {}
 
-/// Refusals with one text are the same but for the tick at which a lease expires and the span that is
-/// held.
+/// Refusals with one text are the same but for the tick at which a lease expires and the span that
+/// is held.
 #[tactic(auto, using(crate::proofs::EndWords::one_refusal))]
 pub fn refusals_are_told_apart()
-    ensures { (p : Refusal) (q : Refusal) → FitsRefusal p → FitsRefusal q → refusal_text p ≡ refusal_text q → refusal_in_text p ≡ refusal_in_text q }
+    ensures { (p : Refusal) (q : Refusal) → FitsRefusal p → FitsRefusal q
+        → refusal_text p ≡ refusal_text q → refusal_in_text p ≡ refusal_in_text q }
 {}
 
-/// Ends of attempts with one text are the same but for what the texts of replies and refusals leave out.
+/// Ends of attempts with one text are the same but for what the texts of replies and refusals leave
+/// out.
 #[tactic(auto, using(crate::proofs::EndWords::one_end))]
 pub fn ends_are_told_apart()
-    ensures { (a : End) (b : End) → FitsEnd a → FitsEnd b → end_text a ≡ end_text b → end_in_text a ≡ end_in_text b }
+    ensures { (a : End) (b : End) → FitsEnd a → FitsEnd b → end_text a ≡ end_text b
+        → end_in_text a ≡ end_in_text b }
 {}
 
 /// Items with one text are the same but for what the number of a reply counts.
 #[tactic(auto, using(crate::proofs::ItemWords::one_item))]
 pub fn items_are_told_apart()
-    ensures { (i : Place) (j : Place) → FitsPlace i → FitsPlace j → item_text i ≡ item_text j → item_in_text i ≡ item_in_text j }
+    ensures { (i : Place) (j : Place) → FitsPlace i → FitsPlace j → item_text i ≡ item_text j
+        → item_in_text i ≡ item_in_text j }
 {}
 
-/// Records with one line stand at one index and are the same, but for what the number of a reply counts.
+/// Records with one line stand at one index and are the same, but for what the number of a reply
+/// counts.
 pub fn records_are_told_apart()
-    ensures { (m : ℕ) (n : ℕ) (r : Record) (s : Record) → m < 2 ^ 64 → n < 2 ^ 64 → FitsRecord r → FitsRecord s
-        → record_line m r ≡ record_line n s → (m ≡ n) × (record_in_text r ≡ record_in_text s) }
+    ensures { (m : ℕ) (n : ℕ) (r : Record) (s : Record) → m < 2 ^ 64 → n < 2 ^ 64
+        → FitsRecord r → FitsRecord s → record_line m r ≡ record_line n s → (m ≡ n) × (record_in_text r ≡ record_in_text s) }
 {}
 
 /// Views with one report have the same records at the same indexes in the same order.
@@ -63,5 +78,6 @@ pub fn texts_show_what_they_tell()
     ensures refusals { (r : Refusal) → refusal_text (refusal_in_text r) ≡ refusal_text r }
     ensures ends { (e : End) → end_text (end_in_text e) ≡ end_text e }
     ensures items { (i : Place) → item_text (item_in_text i) ≡ item_text i }
-    ensures records { (index : ℕ) (r : Record) → record_line index (record_in_text r) ≡ record_line index r }
+    ensures records { (index : ℕ) (r : Record)
+        → record_line index (record_in_text r) ≡ record_line index r }
 {}

@@ -129,8 +129,8 @@ pub fn spell_end(out: &mut Text, end: &End) -> Result<(), NoMemory>
     }
 }
 
-/// Appends the refusal and the value that shows it, or nothing. Each bound that it names is the least,
-/// the greatest, or a key.
+/// Appends the refusal and the value that shows it, or nothing. Each bound that it names is the
+/// least, the greatest, or a key.
 pub fn push_refusal(out: &mut Text, refusal: &Refusal) -> Result<(), NoMemory>
     requires { IsShownRefusal refusal.now }
     ensures ok { OnOk result (out.new ≡ out.old ++ refusal_text refusal.now) }
@@ -141,8 +141,8 @@ pub fn push_refusal(out: &mut Text, refusal: &Refusal) -> Result<(), NoMemory>
     out.append(text)
 }
 
-/// Appends how an attempt ended, or nothing. Each bound that it names is the least, the greatest, or a
-/// key.
+/// Appends how an attempt ended, or nothing. Each bound that it names is the least, the greatest, or
+/// a key.
 pub fn push_outcome(out: &mut Text, outcome: &Outcome) -> Result<(), NoMemory>
     requires { IsShownOutcome outcome.now }
     ensures ok { OnOk result (out.new ≡ out.old ++ outcome_text outcome.now) }

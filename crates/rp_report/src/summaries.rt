@@ -177,8 +177,8 @@ fn push_counts(out: &mut Text, view: &View) -> Result<(), NoMemory>
 /// Appends the summary, ten lines of a word and a number: how many different commands the replies
 /// name, how many attempts there are, a reply being one, and how many of them are ok, refused,
 /// ambiguous and pending (a command whose tries ended counts as refused, one that was never sent as
-/// pending); how many ranges there are, and how many entries in them took effect and were passed over;
-/// and how many messages were sent.
+/// pending); how many ranges there are, and how many entries in them took effect and were passed
+/// over; and how many messages were sent.
 pub fn write_summary(view: &View, out: &mut Text) -> Result<(), NoMemory>
     ensures ok { OnOk result (out.new ≡ out.old ++ summary view.now) }
     ensures err { OnErr result (out.new ≡ out.old) }

@@ -1,5 +1,6 @@
 //! Tests: each public call on a view or a value that is not empty.
-ghost use Rattle.rp_report.specs.Shown.{IsShownDesc};
+ghost use Rattle.std.specs.Prelude.{IfOk};
+ghost use Rattle.rp_report.specs.Shown.{IsShownDesc, IsShownOutcome, IsShownView};
 
 use crate::{
     RangeView, ReplicaView, Row, View, push_outcome, push_range_line, push_refusal,
@@ -53,6 +54,103 @@ fn with_row(alloc: Global) -> Result<ReplicaView, Fail> {
         lai: LeaseIndex::new(1),
         rows,
     })
+}
+
+/// The write of command 1.1: the key `a` gets the text `hi`.
+fn put_hi() -> Result<Record, Fail> {
+    Ok(Record::Took(Place::Write {
+        id: CmdId {
+            client: 1,
+            seq: 1,
+            attempt: 1,
+        },
+        request: Request::Put {
+            key: Key::read(b"a")?,
+            value: hi()?,
+        },
+        seq: LeaseSeq::new(1),
+        reply: Reply::Old(None),
+    }))
+}
+
+/// One more attempt, and how it ended.
+fn answered(mut view: View, seq: u32, outcome: Outcome) -> Result<View, Fail>
+    requires shown { IsShownView view }
+    requires outcome { IsShownOutcome outcome }
+    ensures { IfOk result (λ v. IsShownView v) }
+{
+    let reply = ReplyLine {
+        client: 1,
+        seq,
+        attempt: 1,
+        end: End::Outcome(outcome),
+    };
+    view.replies.push(reply)?;
+    Ok(view)
+}
+
+/// One more range.
+fn ranged(mut view: View, range: RangeView) -> Result<View, Fail>
+    requires shown { IsShownView view }
+    requires desc { IsShownDesc range.desc }
+    ensures { IfOk result (λ v. IsShownView v) }
+{
+    view.ranges.push(range)?;
+    Ok(view)
+}
+
+/// The range 0 over the whole key space, from index 1 on.
+fn first_range(records: Vec<Record>, replicas: Vec<ReplicaView>) -> RangeView
+    ensures desc { IsShownDesc result.desc }
+{
+    RangeView {
+        desc: whole(),
+        lease: first_lease(),
+        first: 1,
+        records: Seq::from_vec(records),
+        replicas: Seq::from_vec(replicas),
+    }
+}
+
+/// A put of a text, an add that is refused, and an entry that carries nothing, on one node.
+fn one_text(alloc: Global) -> Result<View, Fail>
+    ensures { IfOk result (λ v. IsShownView v) }
+{
+    let empty = View {
+        nodes: 1,
+        notes: Seq::new(alloc),
+        replies: Seq::new(alloc),
+        ranges: Seq::new(alloc),
+        messages: 0,
+    };
+    let view = answered(empty, 1, Outcome::Success(Reply::Old(None)))?;
+    let refusal = Refusal::IsText {
+        key: Key::read(b"a")?,
+    };
+    let view = answered(view, 2, Outcome::Refused(refusal))?;
+    let records = vec![in alloc; Record::Passed(Why::Nothing), put_hi()?]?;
+    let replicas = vec![in alloc; with_row(alloc)?]?;
+    ranged(view, first_range(records, replicas))
+}
+
+#[test]
+fn a_text_is_reported(rt: HostRuntime) -> Result<(), Fail> {
+    let mut out = Text::new(rt.alloc());
+    write_text(&one_text(rt.alloc())?, &mut out)?;
+    let text =
+        "nodes 1\nreply 1.1 1 ok none\nreply 1.2 1 refused is-text a\nrange 0 ^ ~ level 0 lease 1 1 40\npass 1 nothing\nplace 2 write 1.1 1 put a 'hi under 1 ok none\nnode 1 live term 1 applied 2 lai 1\nrow a 'hi\nend\n";
+    assert!(rt; out.as_str() == text);
+    Ok(())
+}
+
+#[test]
+fn a_text_is_summed_up(rt: HostRuntime) -> Result<(), Fail> {
+    let mut out = Text::new(rt.alloc());
+    write_summary(&one_text(rt.alloc())?, &mut out)?;
+    let text =
+        "commands 2\nattempts 2\nok 1\nrefused 1\nambiguous 0\npending 0\nranges 1\nplaces 1\npassed 1\nmessages 0\n";
+    assert!(rt; out.as_str() == text);
+    Ok(())
 }
 
 #[test]

@@ -158,8 +158,8 @@ fn spell_replicas(out: &mut Text, replicas: &[ReplicaView]) -> Result<(), NoMemo
     Ok(())
 }
 
-/// Appends the line of a range, or nothing: its number, its bounds, its level and its lease. Each bound
-/// is the least, the greatest, or a key.
+/// Appends the line of a range, or nothing: its number, its bounds, its level and its lease. Each
+/// bound is the least, the greatest, or a key.
 pub fn push_range_line(out: &mut Text, desc: &Desc, lease: &Lease) -> Result<(), NoMemory>
     requires { IsShownDesc desc.now }
     ensures ok { OnOk result (out.new ≡ out.old ++ range_line desc.now lease.now) }
