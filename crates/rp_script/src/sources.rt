@@ -126,19 +126,20 @@ impl ScriptReader {
     }
 
     /// Keeps what the line that has begun says, and that it ended.
-    fn take_line(&mut self, said: &Option<ScriptLine>) -> Result<(), ScriptStop>
+    fn take_line(&mut self, said: Option<ScriptLine>) -> Result<(), ScriptStop>
         requires room { self.old.seen.lines < 65536 }
-        requires follows { IfSome said.now (Follows self.old.seen) }
-        requires bounded { IfSome said.now IsBounded }
-        requires built { IfSome said.now (λ l. unbuilt_in self.old.forms l ≡ None) }
-        ensures ends { OnOk result (self.new ≡ line_taken self.old said.now) }
+        requires follows { IfSome said (Follows self.old.seen) }
+        requires bounded { IfSome said IsBounded }
+        requires built { IfSome said (λ l. unbuilt_in self.old.forms l ≡ None) }
+        ensures ends { OnOk result (self.new ≡ line_taken self.old said) }
         ensures memory { IfErr result (λ stop. stop ≡ ScriptStop.NoMemory) }
+        ensures further { OnOk result (weight self.old + 1 ≤ weight self.new) }
         ensures forms { self.new.forms ≡ self.old.forms }
         ensures most { weight self.new ≤ 16842752 }
     {
         let number = self.script.lines() + 1;
-        push_line(&mut self.taken, number, said)?;
-        self.script.keep(said);
+        push_line(&mut self.taken, number, &said)?;
+        self.script.keep(&said);
         self.line.clear();
         Ok(())
     }
@@ -151,8 +152,11 @@ impl ScriptReader {
         ensures forms { self.new.forms ≡ self.old.forms }
         ensures ends { weight self.new ≤ 16842752 }
     {
-        let said = self.judge()?;
-        self.take_line(&said)
+        let _ = &self.line;
+        match self.judge() {
+            Ok(said) => self.take_line(said),
+            Err(fault) => Err(ScriptStop::Judged { fault }),
+        }
     }
 
     /// Takes one byte.
