@@ -4,6 +4,7 @@ use Rattle.std.proofs.Math.Nat.{max-eq_left}
 use Rattle.std.specs.Prelude.{filter_map, IsFalse}
 use Rattle.std.specs.List.{AllByRecursion, filter, cons_option}
 use Rattle.std.specs.Option.{option_map}
+use Rattle.rp_base.proofs.Elements.{all_append, all_filter, all_map, all_weaker, fewer_filtered, fewer_mapped}
 use Rattle.rp_base.specs.declared.ids.CmdId.{CmdId}
 use Rattle.rp_base.specs.declared.items.Item.{Item}
 use Rattle.rp_base.specs.declared.items.Item.TheVariants as items
@@ -18,13 +19,12 @@ use Rattle.rp_pending.specs.Proposals.{has_id, proposal_of, with_changed, propos
 use Rattle.rp_pending.specs.Refreshes.{waiting_of}
 use Rattle.rp_pending.specs.declared.proposals.Proposal.{Proposal}
 use Rattle.rp_raftlog.specs.declared.entries.Entry.{Entry}
-use Rattle.rp_replica.specs.Flushes.{command_of, entry_of, flushed, payloads_of, proposed_all, without_all, write_of}
+use Rattle.rp_replica.specs.Flushes.{assigning, command_of, entry_of, flushed, payloads_of, proposed_all, without_all, write_of}
 use Rattle.rp_replica.specs.Replicas.{Replica}
 use Rattle.rp_replica.proofs.Assigning.{few_entries, length_entries}
 use Rattle.rp_replica.proofs.Carrying.{read_back}
 use Rattle.rp_world.specs.Sound.{IsSent, IsGiven, IsWrite, IsSoundReplica}
-use Rattle.rp_replica.specs.Writes.{assigning, WritesFit}
-use Rattle.rp_world.proofs.SoundLists.{all_append, all_weaker, all_map, all_filter, fewer_filtered, fewer_mapped}
+use Rattle.rp_replica.specs.Writes.{WritesFit}
 
 -- a change that keeps id and request
 changed_by : (sent : List ℕ) (b : Bool) (p q : Proposal) → IsSent sent p → IsSent sent q → IsSent sent (cond b q p)
