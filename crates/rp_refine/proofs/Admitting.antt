@@ -1,6 +1,7 @@
 -- An admission, as the range machine has it.
 use Rattle.std.proofs.Common.{◌≡◌, ℕ, ◌<◌, ◌==◌, ◌||◌, Bool, true, false, cond, ◌⊎◌, inl, inr, List, [], ◌∷◌, Option, None, Some, Result, Ok, Err, is_some, IsFalse, refl, sym, ap, subst, ◌∙◌, arith, eqb-true}
 use Rattle.std.specs.List.{find, list_any}
+use Rattle.rp_base.proofs.Elements.{found_some}
 use Rattle.rp_base.specs.Spans.{span_list}
 use Rattle.rp_base.specs.declared.ids.CmdId.{CmdId}
 use Rattle.rp_base.specs.declared.spans.Span.{Span}
@@ -35,13 +36,6 @@ use Rattle.rp_refine.specs.Runs.{Run, IsRefusal, MayAsk, left_by}
 use Rattle.rp_refine.proofs.Stands.{Holds, IsHeld, found_holds, stands_add}
 use Rattle.rp_refine.proofs.Ghosts.{one_step, goes_admit}
 use Rattle.rp_refine.proofs.Shadows.{Base, Agrees, Tells, Shows, Shadow, Follows, agrees_made, agrees_new}
-
-found_some : {X : Type 0} (p : X → Bool) (xs : List X) → is_some (find p xs) ≡ list_any p xs
-found_some p [] = refl
-found_some p (x ∷ xs) = go (p x) (found_some p xs) where
-  go : (b : Bool) → is_some (find p xs) ≡ list_any p xs → is_some (cond b (Some x) (find p xs)) ≡ (b || list_any p xs)
-  go true e = refl
-  go false e = e
 
 -- no hold meets what is asked, where it is granted
 clear : (hs : List Hold) (asked : Spans) (q : CmdId) (spans : Spans) → conflict hs asked ≡ None → IsHeld q spans hs → any_meet spans asked ≡ false

@@ -3,6 +3,7 @@ use Rattle.std.proofs.Common.{◌≡◌, ℕ, zero, suc, ◌+◌, ◌*◌, ◌�
 use Rattle.std.specs.Prelude.{filter_map}
 use Rattle.std.specs.List.{AllByRecursion, filter, cons_option}
 use Rattle.std.specs.Option.{option_map}
+use Rattle.rp_base.proofs.Elements.{all_append, fewer_filtered}
 use Rattle.rp_base.specs.declared.ids.CmdId.{CmdId}
 use Rattle.rp_base.specs.declared.items.Item.{Item}
 use Rattle.rp_base.specs.declared.items.Item.TheVariants as kinds
@@ -33,13 +34,12 @@ use Rattle.rp_replica.specs.declared.plans.Turn.TheVariants.{Stays, Ends, WaitsA
 use Rattle.rp_replica.specs.Replicas.{Replica}
 use Rattle.rp_replica.specs.Admissions.{guarded, admitted_by}
 use Rattle.rp_replica.specs.Applications.{payload_of, next_payload, recorded, turn_of, turned, applied_where}
-use Rattle.rp_replica.specs.Flushes.{command_of, write_of, payloads_of, entry_of, flushed}
+use Rattle.rp_replica.specs.Flushes.{assigning, command_of, write_of, payloads_of, entry_of, flushed}
 use Rattle.rp_replica.specs.Events.{event}
-use Rattle.rp_replica.specs.Writes.{assigning}
 use Rattle.rp_refine.specs.Runs.{Input, Run, begun, LawfulEvent, AllLawful, next, play}
 use Rattle.rp_refine.specs.Laws.{IsReached}
 use Rattle.rp_refine.proofs.Flushing.{IsReadBack}
-use Rattle.rp_refine.proofs.Fitted.{Fitted, fitted_begun, fitted_event, fit_writes, seq_after, fewer_filtered, fewer_once, fewer_ids}
+use Rattle.rp_refine.proofs.Fitted.{Fitted, fitted_begun, fitted_event, fit_writes, seq_after, fewer_once, fewer_ids}
 
 -- no command has a maximum above this
 abbrev IsBelow : ℕ → Payload → Type 0
@@ -110,10 +110,6 @@ below_more : (top more : ℕ) (es : List Entry) → top ≤ more → AllByRecurs
 below_more top more [] l h = tt
 below_more top more (e ∷ es) l h = ((λ c is. let k = h.0 c is in omega (arith, k, l)), below_more top more es l h.1)
 
-all_both : {X : Type 0} (P : X → Type 0) (xs ys : List X) → AllByRecursion P xs → AllByRecursion P ys → AllByRecursion P (xs ++ ys)
-all_both P [] ys h k = k
-all_both P (x ∷ xs) ys h k = (h.0, all_both P xs ys h.1 k)
-
 counted_flushed : (r : Replica) (n ticks round : ℕ) → AllByRecursion IsReadBack (payloads_of r.pending (assigning r)) → Counted r n → Counted (flushed r ticks round).replica n
 counted_flushed r n ticks round read h =
     let last = max r.assigned r.applied.state.lai in
@@ -135,7 +131,7 @@ counted_flushed r n ticks round read h =
       entries = omega (arith, e, more, few, long);
       lai = omega (arith, l, count);
       seq = h.seq;
-      below = all_both (IsEntryBelow (assigning r).last) r.log.entries (map entry_of (payloads_of r.pending (assigning r)))
+      below = all_append (IsEntryBelow (assigning r).last) r.log.entries (map entry_of (payloads_of r.pending (assigning r)))
           (below_more r.assigned (assigning r).last r.log.entries (omega (arith, count)) h.below)
           (below_entries (assigning r).last (payloads_of r.pending (assigning r)) read
           (below_asks (assigning r).last (asks_of r.inbox) (filter_map (write_of r.pending) (assigning r).writes)

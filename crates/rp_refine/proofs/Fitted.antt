@@ -5,12 +5,13 @@ use Rattle.std.specs.List.{AllByRecursion, filter, cons_option}
 use Rattle.std.specs.Option.{option_map}
 use Rattle.std.specs.Ordering.{nat_cmp}
 use Rattle.std.specs.FinMap.{get, get-empty}
+use Rattle.rp_base.proofs.Elements.{all_append, all_filter, fewer_filtered}
+use Rattle.rp_base.proofs.LeaseLaws.{lease_follows, follows_by_one}
 use Rattle.rp_base.specs.declared.ids.CmdId.{CmdId}
 use Rattle.rp_base.specs.declared.items.Item.{Item}
 use Rattle.rp_base.specs.declared.items.Item.TheVariants as kinds
 use Rattle.rp_base.specs.declared.leases.Lease as leases
 use Rattle.rp_base.specs.declared.leases.LeaseAsk.{LeaseAsk}
-use Rattle.rp_base.specs.Leases.{extended, moved}
 use Rattle.rp_request.specs.declared.commands.Command.{Command}
 use Rattle.rp_request.specs.declared.commands.Payload.{Payload}
 use Rattle.rp_request.specs.declared.commands.Payload.TheVariants as payloads
@@ -37,13 +38,12 @@ use Rattle.rp_replica.specs.Allows.{MayFlush}
 use Rattle.rp_replica.specs.Replicas.{Replica}
 use Rattle.rp_replica.specs.Admissions.{guarded, admitted_by}
 use Rattle.rp_replica.specs.Applications.{payload_of, next_payload, recorded, turn_of, turned, applied_where}
-use Rattle.rp_replica.specs.Flushes.{command_of, write_of, payloads_of, entry_of, without_all, proposed_all, flushed}
+use Rattle.rp_replica.specs.Flushes.{assigning, command_of, write_of, payloads_of, entry_of, without_all, proposed_all, flushed}
 use Rattle.rp_replica.specs.Events.{event}
-use Rattle.rp_replica.specs.Writes.{assigning}
 use Rattle.rp_refine.specs.Runs.{Input, Run, begun, FitsItem, LawfulEvent, AllLawful, next, play}
 use Rattle.rp_refine.proofs.Admitting.{passed}
 use Rattle.rp_refine.proofs.Fitting.{FitsTable, fits_after, fits_evaluated}
-use Rattle.rp_refine.proofs.Flushing.{IsReadBack, MayWrite}
+use Rattle.rp_refine.proofs.Flushing.{AreOfNodes, IsReadBack, MayWrite}
 
 -- what a proposal holds but its maximum
 record FitsProposal (p : Proposal) : Type 0 where
@@ -62,10 +62,6 @@ pub record Fitted (r : Replica) : Type 0 where
   inbox : AllByRecursion FitsItem r.inbox
   pending : AllByRecursion FitsProposal r.pending
   entries : AllByRecursion FitsEntry r.log.entries
-
-all_both : {X : Type 0} (P : X → Type 0) (xs ys : List X) → AllByRecursion P xs → AllByRecursion P ys → AllByRecursion P (xs ++ ys)
-all_both P [] ys h k = k
-all_both P (x ∷ xs) ys h k = (h.0, all_both P xs ys h.1 k)
 
 nothing : {v : ℕ} → None ≡ Some v → ⊥
 nothing e = cc
@@ -89,17 +85,13 @@ fitted_admitted r id request h fits_id fits (Ok e) g =
       table = h.table;
       seq = h.seq;
       inbox = h.inbox;
-      pending = all_both FitsProposal r.pending _ h.pending (record { id = fits_id; request = fits; reply = k.0; batch = k.1; seq = h.seq }, tt);
+      pending = all_append FitsProposal r.pending _ h.pending (record { id = fits_id; request = fits; reply = k.0; batch = k.1; seq = h.seq }, tt);
       entries = h.entries;
     }
 
 -- proposals that are left, or changed
 fits_left : (id : CmdId) (ps : List Proposal) → AllByRecursion FitsProposal ps → AllByRecursion FitsProposal (without id ps)
-fits_left id [] h = tt
-fits_left id (p ∷ ps) h = go (has_id id p) (fits_left id ps h.1) where
-  go : (b : Bool) → AllByRecursion FitsProposal (without id ps) → AllByRecursion FitsProposal (cond (not b) (p ∷ without id ps) (without id ps))
-  go true k = k
-  go false k = (h.0, k)
+fits_left id ps h = all_filter FitsProposal (λ p. not (has_id id p)) ps h
 
 fits_left_all : (ids : List CmdId) (ps : List Proposal) → AllByRecursion FitsProposal ps → AllByRecursion FitsProposal (without_all ids ps)
 fits_left_all [] ps h = h
@@ -126,13 +118,6 @@ fits_found id (x ∷ ps) p h e = go (fits_found id ps p h.1) (has_id id x) e whe
   go ih false is = ih is
 
 -- no more commands than the inbox has items
-pub fewer_filtered : {X : Type 0} (t : X → Bool) (xs : List X) → length (filter t xs) ≤ length xs
-fewer_filtered t [] = omega arith
-fewer_filtered t (x ∷ xs) = go (t x) (fewer_filtered t xs) where
-  go : (b : Bool) → length (filter t xs) ≤ length xs → length (cond b (x ∷ filter t xs) (filter t xs)) ≤ suc (length xs)
-  go true l = omega (arith, l)
-  go false l = omega (arith, l)
-
 pub fewer_once : (ids : List CmdId) → length (once ids) ≤ length ids
 fewer_once [] = omega arith
 fewer_once (id ∷ ids) =
@@ -162,6 +147,15 @@ fits_asks [] h = tt
 fits_asks (kinds.Write id ∷ inbox) h = fits_asks inbox h.1
 fits_asks (kinds.Lease ask ∷ inbox) h = (h.0, fits_asks inbox h.1)
 
+nodes_of : (inbox : List Item) → AllByRecursion FitsItem inbox → AreOfNodes (asks_of inbox)
+nodes_of [] h = tt
+nodes_of (kinds.Write id ∷ inbox) h = nodes_of inbox h.1
+nodes_of (kinds.Lease ask ∷ inbox) h = ((let k = h.0.from_one in omega (arith, k)), nodes_of inbox h.1)
+
+-- the lease asks of a flush name nodes
+pub fit_nodes : (r : Replica) → Fitted r → AreOfNodes (assigning r).leases
+fit_nodes r h = nodes_of r.inbox h.inbox
+
 fits_flushed : (r : Replica) → Fitted r → MayFlush r → AllByRecursion FitsPayload (payloads_of r.pending (assigning r))
 fits_flushed r h may =
     let under = filter (waits_under (waiting_of r.pending) r.applied.state.lease.seq) (once (ids_of r.inbox)) in
@@ -169,7 +163,7 @@ fits_flushed r h may =
     let b = fewer_once (ids_of r.inbox) in
     let c = fewer_ids r.inbox in
     let d = may.assigned in
-    all_both FitsPayload (map payloads.Lease (asks_of r.inbox)) _ (fits_asks r.inbox h.inbox)
+    all_append FitsPayload (map payloads.Lease (asks_of r.inbox)) _ (fits_asks r.inbox h.inbox)
     (fits_writes r.pending h.pending under (max r.assigned r.applied.state.lai) (omega (arith, a, b, c, d)))
 
 all_read : (ps : List Payload) → AllByRecursion FitsPayload ps → AllByRecursion IsReadBack ps
@@ -192,7 +186,7 @@ fitted_flushed r ticks round h may = record {
   seq = h.seq;
   inbox = tt;
   pending = fits_proposed_all (assigning r).writes ticks round (without_all (assigning r).refused r.pending) (fits_left_all (assigning r).refused r.pending h.pending);
-  entries = all_both FitsEntry r.log.entries (map entry_of (payloads_of r.pending (assigning r))) h.entries (fits_entries (payloads_of r.pending (assigning r)) (fits_flushed r h may));
+  entries = all_append FitsEntry r.log.entries (map entry_of (payloads_of r.pending (assigning r))) h.entries (fits_entries (payloads_of r.pending (assigning r)) (fits_flushed r h may));
 }
 
 -- the state after a payload
@@ -219,18 +213,15 @@ seq_written s c (OldIndex lai) = omega arith
 seq_written s c LeaseMoved = omega arith
 seq_written s c verdicts.Nothing = omega arith
 
-seq_leased : (s : AppliedState) (ask : LeaseAsk) → (leased s (asked s ask)).lease.seq ≤ s.lease.seq + 1
+seq_leased : (s : AppliedState) (ask : LeaseAsk) (o : Option leases.Lease) → asked s ask ≡ o → (leased s o).lease.seq ≤ s.lease.seq + 1
 unfolding asked
-seq_leased s ask = go (ask.prev == s.lease.seq) (ask.holder == s.lease.holder) where
-  go : (b c : Bool) → (leased s (cond b (Some (cond c (extended s.lease ask) (moved s.lease ask))) None)).lease.seq ≤ s.lease.seq + 1
-  go true true = omega arith
-  go true false = omega arith
-  go false c = omega arith
+seq_leased s ask None e = omega arith
+seq_leased s ask (Some lease) e = follows_by_one s.lease lease (lease_follows s.lease ask lease e)
 
 pub seq_after : (s : AppliedState) (p : Payload) → (after s p).lease.seq ≤ s.lease.seq + 1
 seq_after s payloads.Nothing = omega arith
 seq_after s (payloads.Write c) = seq_written s c (command_verdict s c)
-seq_after s (payloads.Lease ask) = seq_leased s ask
+seq_after s (payloads.Lease ask) = seq_leased s ask (asked s ask) refl
 
 fitted_turned : (r : Replica) (t : Turn) → Fitted r → Fitted (turned r t)
 fitted_turned r Stays h = h
@@ -238,7 +229,7 @@ fitted_turned r (Ends id) h = record { table = h.table; seq = h.seq; inbox = h.i
 fitted_turned r (WaitsAgain id) h = record {
   table = h.table;
   seq = h.seq;
-  inbox = all_both FitsItem r.inbox (kinds.Write id ∷ []) h.inbox (tt, tt);
+  inbox = all_append FitsItem r.inbox (kinds.Write id ∷ []) h.inbox (tt, tt);
   pending = fits_changed id waiting_again (λ p k. record { id = k.id; request = k.request; reply = k.reply; batch = k.batch; seq = k.seq }) r.pending h.pending;
   entries = h.entries;
 }
@@ -265,7 +256,7 @@ fitted_applied r h l (Some p) e = fitted_turned (recorded r p) (turn_of r p) (re
 -- each event keeps it
 pub fitted_event : (x : Run) → Fitted x.replica → (e : ReplicaEvent) (ticks round : ℕ) (taken : List Item) → LawfulEvent x e taken → Fitted (event x.replica e ticks round taken).replica
 fitted_event x h (Admit id request) ticks round taken l = fitted_admitted x.replica id request h l.fits_id l.fits (guarded x.replica request) refl
-fitted_event x h Collect ticks round taken l = record { table = h.table; seq = h.seq; inbox = all_both FitsItem x.replica.inbox taken h.inbox l.1; pending = h.pending; entries = h.entries }
+fitted_event x h Collect ticks round taken l = record { table = h.table; seq = h.seq; inbox = all_append FitsItem x.replica.inbox taken h.inbox l.1; pending = h.pending; entries = h.entries }
 fitted_event x h Flush ticks round taken l = fitted_flushed x.replica ticks round h l
 fitted_event x h Apply ticks round taken l = fitted_applied x.replica h l (next_payload x.replica) refl
 fitted_event x h (Peek key) ticks round taken l = h

@@ -20,20 +20,18 @@ use Rattle.rp_pending.specs.Proposals.{has_id, proposal_of, without, with_change
 use Rattle.rp_pending.specs.Refreshes.{waiting_of}
 use Rattle.rp_request.specs.Applied.{records_of}
 use Rattle.rp_request.specs.History.{History}
-use Rattle.rp_base.proofs.IdLaws.{same_is}
+use Rattle.rp_base.proofs.IdLaws.{same_is, id_cases}
 use Rattle.rp_replica.specs.declared.events.ReplicaEvent.TheVariants as events
 use Rattle.rp_replica.specs.Replicas.{Replica}
 use Rattle.rp_replica.specs.Applications.{payload_of}
-use Rattle.rp_replica.specs.Flushes.{command_of, write_of, payloads_of, entry_of, freed_all, without_all, proposed_all, refused_with, flushed}
+use Rattle.rp_replica.specs.Flushes.{assigning, command_of, write_of, payloads_of, entry_of, freed_all, without_all, proposed_all, refused_with, flushed}
 use Rattle.rp_rangesafe.specs.Attempts.{Body, Stage, Waiting, Proposed, Refused, Attempt, Attempts, IsPending, IsOf, staged, handed_out, with_attempt}
 use Rattle.rp_rangesafe.specs.World.{World, here, Event, Refuse, Commit, Lawful, AllLawful, happens, run}
 use Rattle.rp_rangesafe.specs.World as machine
 use Rattle.rp_rangesafe.specs.Places.{IsLater}
 use Rattle.rp_rangesafe.specs.Ranges.{Owner, Ranges, first_applied}
-use Rattle.rp_base.proofs.IdLaws.{id_cases}
 use Rattle.rp_rangesafe.proofs.Tables.{at_same, at_other}
 use Rattle.rp_rangesafe.proofs.Runs.{later_state}
-use Rattle.rp_replica.specs.Writes.{assigning}
 use Rattle.rp_refine.specs.Runs.{Outcomes, Run, with_outcome, with_ended, left_by}
 use Rattle.rp_refine.proofs.Stands.{IsMade, AllHold, stands_drop, stands_turn}
 use Rattle.rp_refine.proofs.Ghosts.{ArePlain, IsPlain}
@@ -47,6 +45,10 @@ IsReadBack p = payload_of (Some (entry_of p)) ≡ Some p
 -- each payload that a flush writes is
 abbrev pub MayWrite : Replica → Type 0
 MayWrite r = AllByRecursion IsReadBack (payloads_of r.pending (assigning r))
+
+-- each lease ask of a flush names a node
+abbrev pub AreOfNodes : List LeaseAsk → Type 0
+AreOfNodes asks = AllByRecursion (λ ask. 0 < ask.holder) asks
 
 -- events that admit nothing lead to a range of which this holds
 record Went (h : World) (Q : World → Type 0) : Type 0 where
@@ -284,23 +286,24 @@ module _ (node : ℕ) (applied : History) (owner : CmdId → Owner) (ps0 : List 
 
   -- the lease asks, and then the commands
   ask_all : (asks : List LeaseAsk) (ws : List (CmdId × ℕ)) (log : LogState) (outcome : Outcomes) (ls : List Hold) (ps : List Proposal) (ticks round : ℕ) (k : World)
-      → Distinct (map (λ w. w.0) ws) → AllByRecursion (λ w. 0 < w.1) ws → AllByRecursion IsReadBack (map payloads.Lease asks ++ filter_map (write_of ps0) ws)
+      → Distinct (map (λ w. w.0) ws) → AllByRecursion (λ w. 0 < w.1) ws → AreOfNodes asks
+      → AllByRecursion IsReadBack (map payloads.Lease asks ++ filter_map (write_of ps0) ws)
       → Going log outcome ls ps (map (λ w. w.0) ws) k
       → Went k (Going (appended log (map entry_of (map payloads.Lease asks ++ filter_map (write_of ps0) ws))) outcome ls (proposed_all ws ticks round ps) [])
-  ask_all [] ws log outcome ls ps ticks round k d above fits g = write_all ws log outcome ls ps ticks round k d above fits g
-  ask_all (ask ∷ asks) ws log outcome ls ps ticks round k d above fits g =
+  ask_all [] ws log outcome ls ps ticks round k d above nodes fits g = write_all ws log outcome ls ps ticks round k d above fits g
+  ask_all (ask ∷ asks) ws log outcome ls ps ticks round k d above nodes fits g =
       let c : Payload = payloads.Lease ask in
-      went_on (went_one {h = k} {Q = Going (appended log (entry_of c ∷ [])) outcome ls ps (map (λ w. w.0) ws)} (Commit c) tt tt
-      (commit_one log outcome ls ps (map (λ w. w.0) ws) c k tt fits.0 g))
+      went_on (went_one {h = k} {Q = Going (appended log (entry_of c ∷ [])) outcome ls ps (map (λ w. w.0) ws)} (Commit c) tt nodes.0
+      (commit_one log outcome ls ps (map (λ w. w.0) ws) c k nodes.0 fits.0 g))
       (λ m r. subst (λ l. Went m (Going l outcome ls (proposed_all ws ticks round ps) [])) (log_joined log (entry_of c) (map entry_of (map payloads.Lease asks ++ filter_map (write_of ps0) ws)))
-      (ask_all asks ws (appended log (entry_of c ∷ [])) outcome ls ps ticks round m d above fits.1 r))
+      (ask_all asks ws (appended log (entry_of c ∷ [])) outcome ls ps ticks round m d above nodes.1 fits.1 r))
 
 later_distinct : (xs ys : List CmdId) → Distinct (xs ++ ys) → Distinct ys
 later_distinct [] ys h = h
 later_distinct (x ∷ xs) ys h = later_distinct xs ys h.1
 
-pub flush_follows : (w : Ranges) (x : Run) → Shadow w x → (ticks round : ℕ) → MayWrite x.replica → Follows w (left_by x.outcome events.Flush (flushed x.replica ticks round))
-flush_follows w x s ticks round fits = follows w (left_by x.outcome events.Flush (flushed x.replica ticks round)) x s turns where
+pub flush_follows : (w : Ranges) (x : Run) → Shadow w x → (ticks round : ℕ) → AreOfNodes (assigning x.replica).leases → MayWrite x.replica → Follows w (left_by x.outcome events.Flush (flushed x.replica ticks round))
+flush_follows w x s ticks round nodes fits = follows w (left_by x.outcome events.Flush (flushed x.replica ticks round)) x s turns where
   turns : Turns (w.range 0) w.owner (left_by x.outcome events.Flush (flushed x.replica ticks round))
   turns =
       let a = assigning x.replica in
@@ -314,7 +317,7 @@ flush_follows w x s ticks round fits = follows w (left_by x.outcome events.Flush
       let begin : Going x.replica.node x.replica.applied w.owner x.replica.pending x.replica.log x.outcome x.replica.latches x.replica.pending (a.refused ++ map (λ v. v.0) a.writes) (w.range 0) = record { base = s.shows.base; tells = t; made = made_all (w.range 0).attempt x.replica.pending t.stands.holds; waits = waits } in
       let went = went_on (refuse_all x.replica.node x.replica.applied w.owner x.replica.pending x.replica.applied.state.lease x.replica.log a.refused (map (λ v. v.0) a.writes) x.outcome x.replica.latches x.replica.pending (w.range 0) distinct begin)
       (λ m q. ask_all x.replica.node x.replica.applied w.owner x.replica.pending a.leases a.writes x.replica.log (with_ended x.outcome (map (refused_with x.replica.applied.state.lease) a.refused))
-      (freed_all a.refused x.replica.latches) (without_all a.refused x.replica.pending) ticks round m (later_distinct a.refused (map (λ v. v.0) a.writes) distinct) (numbers_positive last under) fits q) in
+      (freed_all a.refused x.replica.latches) (without_all a.refused x.replica.pending) ticks round m (later_distinct a.refused (map (λ v. v.0) a.writes) distinct) (numbers_positive last under) nodes fits q) in
       record {
         events = went.events;
         plain = went.plain;

@@ -11,7 +11,7 @@ use Rattle.rp_refine.proofs.Ghosts.{reached_first, are_later_itself, are_later_f
 use Rattle.rp_refine.proofs.Shadows.{Shadow, Follows}
 use Rattle.rp_refine.proofs.Admitting.{admit_follows}
 use Rattle.rp_refine.proofs.Applying.{apply_follows}
-use Rattle.rp_refine.proofs.Fitted.{Fitted, fitted_begun, fitted_event, fitted_all, fit_writes}
+use Rattle.rp_refine.proofs.Fitted.{Fitted, fitted_begun, fitted_event, fitted_all, fit_nodes, fit_writes}
 use Rattle.rp_refine.proofs.Flushing.{flush_follows}
 
 -- at first
@@ -48,7 +48,7 @@ follows_event w x s fit Collect ticks round taken l = record {
   later = are_later_itself w;
   shadow = record { opened = s.opened; made_here = s.made_here; shows = record { base = s.shows.base; tells = s.shows.tells } };
 }
-follows_event w x s fit Flush ticks round taken l = flush_follows w x s ticks round (fit_writes x.replica fit l)
+follows_event w x s fit Flush ticks round taken l = flush_follows w x s ticks round (fit_nodes x.replica fit) (fit_writes x.replica fit l)
 follows_event w x s fit Apply ticks round taken l = apply_follows w x s
 follows_event w x s fit (Peek key) ticks round taken l = record {
   to = w;

@@ -1,5 +1,6 @@
 -- What a flush assigns: ids that are all distinct, and of waiting attempts.
 use Rattle.std.proofs.Common.{◌≡◌, ℕ, ◌+◌, ◌<◌, ◌==◌, Bool, true, false, cond, not, List, [], ◌∷◌, ◌++◌, map, Option, None, Some, is_some, refl, ap, subst, arith}
+use Rattle.std.proofs.lemmas.Bool.{not-true}
 use Rattle.std.specs.Option.{option_map, option_map_or}
 use Rattle.std.specs.List.{AllByRecursion, filter, find, cons_option}
 use Rattle.rp_base.specs.declared.ids.CmdId.{CmdId}
@@ -12,6 +13,7 @@ use Rattle.rp_pending.specs.declared.proposals.Stage as places
 use Rattle.rp_pending.specs.declared.proposals.Stage.TheVariants as stages
 use Rattle.rp_pending.specs.Proposals.{is_proposed}
 use Rattle.rp_pending.specs.Refreshes.{waiting_of}
+use Rattle.rp_base.proofs.Elements.{all_append, all_filter, all_pass, all_weaker}
 use Rattle.rp_base.proofs.IdLaws.{same_is, not_same_apart}
 use Rattle.rp_rangesafe.specs.Attempts.{Waiting, Attempts}
 use Rattle.rp_refine.proofs.Stands.{AllHold, HasStage}
@@ -21,58 +23,27 @@ abbrev pub Distinct : List CmdId → Type 0
 Distinct [] = Unit {0}
 Distinct (x ∷ xs) = AllByRecursion (λ y. x ≡ y → ⊥) xs × Distinct xs
 
-module _ {X : Type 0} where
-  pub all_weaker : (P Q : X → Type 0) → ((x : X) → P x → Q x) → (xs : List X) → AllByRecursion P xs → AllByRecursion Q xs
-  all_weaker P Q k [] h = tt
-  all_weaker P Q k (x ∷ xs) h = (k x h.0, all_weaker P Q k xs h.1)
-
-  pub all_both : (P Q : X → Type 0) (xs ys : List X) → AllByRecursion P xs → AllByRecursion P ys → AllByRecursion P (xs ++ ys)
-  all_both P Q [] ys h k = k
-  all_both P Q (x ∷ xs) ys h k = (h.0, all_both P Q xs ys h.1 k)
-
-  all_each : (P : X → Type 0) → ((x : X) → P x) → (xs : List X) → AllByRecursion P xs
-  all_each P k [] = tt
-  all_each P k (x ∷ xs) = (k x, all_each P k xs)
-
-  all_filtered : (P : X → Type 0) (t : X → Bool) (xs : List X) → AllByRecursion P xs → AllByRecursion P (filter t xs)
-  all_filtered P t [] h = tt
-  all_filtered P t (x ∷ xs) h = go (t x) (all_filtered P t xs h.1) where
-    go : (b : Bool) → AllByRecursion P (filter t xs) → AllByRecursion P (cond b (x ∷ filter t xs) (filter t xs))
-    go true ih = (h.0, ih)
-    go false ih = ih
-
-  all_pass : (t : X → Bool) (xs : List X) → AllByRecursion (λ x. t x ≡ true) (filter t xs)
-  all_pass t [] = tt
-  all_pass t (x ∷ xs) = go (t x) refl (all_pass t xs) where
-    go : (b : Bool) → t x ≡ b → AllByRecursion (λ y. t y ≡ true) (filter t xs) → AllByRecursion (λ y. t y ≡ true) (cond b (x ∷ filter t xs) (filter t xs))
-    go true e ih = (e, ih)
-    go false e ih = ih
-
 distinct_filtered : (t : CmdId → Bool) (xs : List CmdId) → Distinct xs → Distinct (filter t xs)
 distinct_filtered t [] h = tt
 distinct_filtered t (x ∷ xs) h = go (t x) (distinct_filtered t xs h.1) where
   go : (b : Bool) → Distinct (filter t xs) → Distinct (cond b (x ∷ filter t xs) (filter t xs))
-  go true ih = (all_filtered (λ y. x ≡ y → ⊥) t xs h.0, ih)
+  go true ih = (all_filter (λ y. x ≡ y → ⊥) t xs h.0, ih)
   go false ih = ih
-
-not_true : (b : Bool) → not b ≡ true → b ≡ false
-not_true true e = absurd cc
-not_true false e = refl
 
 distinct_once : (xs : List CmdId) → Distinct (once xs)
 distinct_once [] = tt
 distinct_once (x ∷ xs) = (
-  all_weaker (λ y. not (same_id x y) ≡ true) (λ y. x ≡ y → ⊥) (λ y e. not_same_apart x y (not_true (same_id x y) e)) (filter (λ y. not (same_id x y)) (once xs)) (all_pass (λ y. not (same_id x y)) (once xs)),
+  all_weaker (λ y. not (same_id x y) ≡ true) (λ y. x ≡ y → ⊥) (λ y e. not_same_apart x y (not-true (same_id x y) e)) (filter (λ y. not (same_id x y)) (once xs)) (all_pass (λ y. not (same_id x y)) (once xs)),
   distinct_filtered (λ y. not (same_id x y)) (once xs) (distinct_once xs),
 )
 
 distinct_both : (xs ys : List CmdId) → Distinct xs → Distinct ys → AllByRecursion (λ x. AllByRecursion (λ y. x ≡ y → ⊥) ys) xs → Distinct (xs ++ ys)
 distinct_both [] ys h k l = k
-distinct_both (x ∷ xs) ys h k l = (all_both (λ y. x ≡ y → ⊥) (λ y. x ≡ y → ⊥) xs ys h.0 l.0, distinct_both xs ys h.1 k l.1)
+distinct_both (x ∷ xs) ys h k l = (all_append (λ y. x ≡ y → ⊥) xs ys h.0 l.0, distinct_both xs ys h.1 k l.1)
 
 one_sequence : (seq : ℕ) (o : Option ℕ) → option_map_or (λ s. s == seq) o false ≡ true → option_map_or (λ s. not (s == seq)) o false ≡ true → ⊥
 one_sequence seq None e h = cc
-one_sequence seq (Some s) e h = (let k = not_true (s == seq) h in cc)
+one_sequence seq (Some s) e h = (let k = not-true (s == seq) h in cc)
 
 pub numbers_ids : (last : ℕ) (ids : List CmdId) → map (λ w. w.0) (numbered last ids) ≡ ids
 numbers_ids last [] = refl
@@ -114,7 +85,7 @@ module _ (f : Attempts) (ps : List Proposal) (h : AllHold f ps) (seq : ℕ) (inb
   waits_by t id e = found_waits f id ps h (is_there (λ (w : waitings.Waiting). w.seq) t (find (λ w. same_id w.id id) (waiting_of ps)) e)
 
   pub all_wait : AllByRecursion (λ id. (f id).stage ≡ Waiting) (filter another ids ++ filter under ids)
-  all_wait = all_both (λ id. (f id).stage ≡ Waiting) (λ id. (f id).stage ≡ Waiting) (filter another ids) (filter under ids)
+  all_wait = all_append (λ id. (f id).stage ≡ Waiting) (filter another ids) (filter under ids)
       (all_weaker (λ id. another id ≡ true) (λ id. (f id).stage ≡ Waiting) (λ id. waits_by (λ s. not (s == seq)) id) (filter another ids) (all_pass another ids))
       (all_weaker (λ id. under id ≡ true) (λ id. (f id).stage ≡ Waiting) (λ id. waits_by (λ s. s == seq) id) (filter under ids) (all_pass under ids))
 

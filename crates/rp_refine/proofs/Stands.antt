@@ -13,7 +13,7 @@ use Rattle.rp_pending.specs.declared.proposals.Proposal.{Proposal}
 use Rattle.rp_pending.specs.declared.proposals.Stage as places
 use Rattle.rp_pending.specs.declared.proposals.Stage.TheVariants as stages
 use Rattle.rp_pending.specs.Proposals.{has_id, proposal_of, without, with_changed}
-use Rattle.rp_base.proofs.IdLaws.{same_is, not_same_apart}
+use Rattle.rp_base.proofs.IdLaws.{same_is, not_same_apart, same_back, same_itself, apart_not_same}
 use Rattle.rp_replica.proofs.Known.{known_without}
 use Rattle.rp_rangesafe.specs.Attempts.{Body, Stage, Waiting, Proposed, Attempt, Attempts, IsPending, with_attempt}
 use Rattle.rp_refine.specs.Laws.{hold_of, HaveDistinctIds}
@@ -126,14 +126,6 @@ distinct_left id (p ∷ ps) h = go (has_id id p) (distinct_left id ps h.1) where
   go true ih = ih
   go false ih = (none_left id p.id ps h.0, ih)
 
-same_back : (x y : CmdId) → same_id x y ≡ same_id y x
-same_back x y = go (same_id x y) (same_id y x) refl refl where
-  go : (b c : Bool) → same_id x y ≡ b → same_id y x ≡ c → b ≡ c
-  go true true e f = refl
-  go false false e f = refl
-  go true false e f = absurd (not_same_apart y x f (sym (same_is x y e)))
-  go false true e f = absurd (not_same_apart x y e (sym (same_is y x f)))
-
 held_left : (id : CmdId) (ps : List Proposal) → filter (is_of_other id) (map hold_of ps) ≡ map hold_of (without id ps)
 held_left id [] = refl
 held_left id (p ∷ ps) =
@@ -230,14 +222,8 @@ known_before q (x ∷ ps) p h = go (λ k. known_before q ps p k) (has_id q x) h 
   go ih true k = k
   go ih false k = ih k
 
-itself : (p : Proposal) → has_id p.id p ≡ true
-itself p = go (has_id p.id p) refl where
-  go : (b : Bool) → has_id p.id p ≡ b → has_id p.id p ≡ true
-  go true e = e
-  go false e = absurd (not_same_apart p.id p.id e refl)
-
 known_last : (ps : List Proposal) (p : Proposal) → IsListed p.id (ps ++ p ∷ [])
-known_last [] p = ap (λ b. is_some (cond b (Some p) None)) (itself p)
+known_last [] p = ap (λ b. is_some (cond b (Some p) None)) (same_itself p.id)
 known_last (x ∷ ps) p = go (known_last ps p) (has_id p.id x) where
   go : IsListed p.id (ps ++ p ∷ []) → (b : Bool) → IsSome (cond b (Some x) (proposal_of p.id (ps ++ p ∷ [])))
   go ih true = refl
@@ -276,10 +262,7 @@ stands_same f g ls ps e s = subst (λ h. Stands h ls ps) (λ i q. e q i) s
 
 none_same : (id : CmdId) (ps : List Proposal) → HasNone id ps → AllByRecursion (λ y. same_id id y ≡ false) (map (λ p. p.id) ps)
 none_same id [] h = tt
-none_same id (p ∷ ps) h = (go (same_id id p.id) refl, none_same id ps h.1) where
-  go : (b : Bool) → same_id id p.id ≡ b → same_id id p.id ≡ false
-  go false e = e
-  go true e = absurd (h.0 (same_is id p.id e))
+none_same id (p ∷ ps) h = (apart_not_same id p.id h.0, none_same id ps h.1)
 
 pub have_distinct : (ps : List Proposal) → AreDistinct ps → HaveDistinctIds ps
 unfolding IsDistinct

@@ -59,14 +59,16 @@ pub record IsEntryOf (log : List Payload) (id : CmdId) (k : ℕ) (c : Command) :
   pub here : entry log k ≡ Write c
   pub named : c.id ≡ id
 
--- the attempt has a place in a list: the entry with this index, from 0, is a command of it, and is taken
+-- the attempt has a place in a list: the entry with this index, from 0, is a command of it, and is
+-- taken
 pub record IsPlace (log : List Payload) (id : CmdId) (k : ℕ) (c : Command) : Type 0 where
   pub within : k < length log
   pub takes : Takes first_applied (entry log) k c
   pub named : c.id ≡ id
 
--- a place is lawful: the command was evaluated at an index at or below, under the lease sequence and the description of
--- its place, where node 1 holds the lease; and there the request lies in the bounds and is evaluated as it was
+-- a place is lawful: the command was evaluated at an index at or below, under the lease sequence
+-- and the description of its place, where node 1 holds the lease; and there the request lies in the
+-- bounds and is evaluated as it was
 pub record IsLawfulPlace (log : List Payload) (k : ℕ) (c : Command) : Type 0 where
   pub from : ℕ
   pub behind : from ≤ k
@@ -77,7 +79,8 @@ pub record IsLawfulPlace (log : List Payload) (k : ℕ) (c : Command) : Type 0 w
   pub evaluates : IsEvaluated (state_after log k) (body_of c)
   pub does : Does (state_after log k).table (state_after log k).desc c.request (record { batch = c.batch; reply = c.reply })
 
--- the attempt has a place with this reply, and it is the one place of its command, whichever of its attempts
+-- the attempt has a place with this reply, and it is the one place of its command, whichever of its
+-- attempts
 pub record IsTheOnePlace (log : List Payload) (id : CmdId) (reply : Reply) : Type 0 where
   pub index : ℕ
   pub command : Command

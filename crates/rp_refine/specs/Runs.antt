@@ -1,5 +1,5 @@
--- A run of one replica whose whole log is committed: events one after the other, and what each attempt was told
--- (this project).
+-- A run of one replica whose whole log is committed: events one after the other, and what each
+-- attempt was told (this project).
 use Rattle.std.specs.Prelude.{◌≡◌, ℕ, ◌≤◌, ◌<◌, ◌-◌, ◌^◌, if◌then◌else◌, ◌⊎◌, List, [], ◌∷◌, length, Option, None, Some}
 use Rattle.std.specs.List.{AllByRecursion}
 use Rattle.rp_base.specs.declared.ids.CmdId.{CmdId}
@@ -93,8 +93,8 @@ abbrev pub FitsItem : Item → Type 0
 FitsItem (Write id) = Unit {0}
 FitsItem (Lease ask) = FitsAsk ask
 
--- which events are lawful: what is handed in has numbers of their widths, as the types of the code say, and the numbers of a
--- flush and the lease sequence stay below their ends
+-- which events are lawful: what is handed in has numbers of their widths, as the types of the code
+-- say, and the numbers of a flush and the lease sequence stay below their ends
 abbrev pub LawfulEvent : Run → ReplicaEvent → List Item → Type 0
 LawfulEvent x (Admit id request) taken = MayAsk x id request
 LawfulEvent x Collect taken = (length taken ≤ 16) × AllByRecursion FitsItem taken

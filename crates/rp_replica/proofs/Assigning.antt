@@ -20,7 +20,8 @@ use Rattle.rp_pending.specs.Proposals.{is_proposed, proposal_of}
 use Rattle.rp_pending.specs.Refreshes.{waiting_of}
 use Rattle.rp_replica.specs.Flushes.{entry_of, payloads_of, write_of, without_all}
 use Rattle.rp_replica.specs.Plans.{ArePending}
-use Rattle.rp_base.proofs.IdLaws.{same_is}
+use Rattle.rp_base.proofs.Elements.{fewer_filtered, fewer_mapped}
+use Rattle.rp_base.proofs.IdLaws.{same_back}
 use Rattle.rp_replica.proofs.Known.{known_without_all}
 
 -- a command that waits under a sequence does not wait under another
@@ -43,10 +44,6 @@ all_apart waiting seq id h (other ∷ ids) a =
     let others = All-tail (λ o. waits_under_another waiting seq o ≡ true) other ids a in
     All-cons (λ o. id ≡ o → ⊥) other ids (apart waiting seq id other h another) (all_apart waiting seq id h ids others)
 
--- the test of ids is the same from both sides
-same_swap : (x y : CmdId) → same_id x y ≡ true → same_id y x ≡ true
-same_swap x y h = subst (λ z. same_id z x ≡ true) (same_is x y h) (subst (λ z. same_id x z ≡ true) (sym (same_is x y h)) h)
-
 -- what waits is pending
 some_more : (d : Bool) (p : Proposal) (r : Option Proposal) → is_some r ≡ true → is_some (cond d (Some p) r) ≡ true
 some_more true p r h = refl
@@ -57,7 +54,7 @@ wait_more : (id : CmdId) (p : Proposal) (b c : Bool) (ws : List Waiting) (more :
     → is_some (find (λ w. same_id w.id id) (cons_option (cond b None (Some (record { id = p.id; seq = p.seq }))) ws)) ≡ true
     → is_some (cond (same_id id p.id) (Some p) more) ≡ true
 wait_more id p true c ws more e ih h = some_more (same_id id p.id) p more (ih h)
-wait_more id p false true ws more e ih h = ap (λ d. is_some (cond d (Some p) more)) (same_swap p.id id e)
+wait_more id p false true ws more e ih h = ap (λ d. is_some (cond d (Some p) more)) (same_back id p.id ∙ e)
 wait_more id p false false ws more e ih h =
     some_more (same_id id p.id) p more
     (ih (subst (λ d. is_some (cond d (Some (record { id = p.id; seq = p.seq })) (find (λ w. same_id w.id id) ws)) ≡ true) e h))
@@ -98,22 +95,6 @@ split_items : (inbox : List Item) → length (asks_of inbox) + length (ids_of in
 split_items [] = refl
 split_items (Write id ∷ inbox) = omega (arith, split_items inbox)
 split_items (Lease ask ∷ inbox) = omega (arith, split_items inbox)
-
-fewer_if : {X : Type 0} (b : Bool) (x : X) (xs : List X) (n : ℕ) → length xs ≤ n → length (cond b (x ∷ xs) xs) ≤ suc n
-fewer_if true x xs n h = omega (arith, h)
-fewer_if false x xs n h = omega (arith, h)
-
-fewer_filtered : {X : Type 0} (p : X → Bool) (xs : List X) → length (filter p xs) ≤ length xs
-fewer_filtered p [] = omega arith
-fewer_filtered p (x ∷ xs) = fewer_if (p x) x (filter p xs) (length xs) (fewer_filtered p xs)
-
-fewer_some : {X : Type 0} (o : Option X) (xs : List X) (n : ℕ) → length xs ≤ n → length (cons_option o xs) ≤ suc n
-fewer_some None xs n h = omega (arith, h)
-fewer_some (Some x) xs n h = omega (arith, h)
-
-fewer_mapped : {X Y : Type 0} (f : X → Option Y) (xs : List X) → length (filter_map f xs) ≤ length xs
-fewer_mapped f [] = omega arith
-fewer_mapped f (x ∷ xs) = fewer_some (f x) (filter_map f xs) (length xs) (fewer_mapped f xs)
 
 fewer_once : (ids : List CmdId) → length (once ids) ≤ length ids
 fewer_once [] = omega arith

@@ -1,5 +1,6 @@
 -- A flush reads of what waits only what its inbox names.
-use Rattle.std.proofs.Common.{◌≡◌, ℕ, ◌+◌, max, ◌==◌, ◌&&◌, ◌||◌, Bool, true, false, cond, List, [], ◌∷◌, length, map, Option, None, Some, refl, sym, ap, subst, ◌∙◌, eq-eqb}
+use Rattle.std.proofs.Common.{◌≡◌, ℕ, ◌==◌, ◌||◌, max, Bool, true, false, cond, List, [], ◌∷◌, map, Option, None, Some, refl, sym, ap, subst, ◌∙◌}
+use Rattle.std.proofs.lemmas.Bool.{or_left, or_right}
 use Rattle.std.specs.Prelude.{not, option_and_then, option_map}
 use Rattle.std.specs.Option.{option_map_or}
 use Rattle.std.specs.List.{All, AllByRecursion, IsDistinct, cons_option, filter, find}
@@ -10,33 +11,13 @@ use Rattle.rp_base.specs.declared.items.Item.TheVariants.{Write, Lease}
 use Rattle.rp_request.specs.declared.commands.Waiting.{Waiting}
 use Rattle.rp_flush.specs.declared.assigns.Assigned.{Assigned}
 use Rattle.rp_base.specs.Ids.{same_id}
-use Rattle.rp_flush.specs.Assigns.{asks_of, ids_of, last_after, once, seq_of, waits_under, waits_under_another, numbered, assigned_of}
+use Rattle.rp_flush.specs.Assigns.{asks_of, ids_of, once, seq_of, waits_under, waits_under_another, last_after, numbered, assigned_of}
 use Rattle.rp_flush.specs.Counts.{stands}
 use Rattle.rp_pending.specs.declared.proposals.Proposal.{Proposal}
 use Rattle.rp_pending.specs.Proposals.{is_proposed, proposal_of}
 use Rattle.rp_pending.specs.Refreshes.{waits, waiting_of}
 use Rattle.rp_replica.specs.Waits.{waiting_in}
-use Rattle.rp_base.proofs.IdLaws.{same_is}
-
--- the test of ids is the same from both sides
-swapped : (x y : CmdId) → same_id x y ≡ true → same_id y x ≡ true
-swapped x y h = subst (λ z. same_id z x ≡ true) (same_is x y h) (subst (λ z. same_id x z ≡ true) (sym (same_is x y h)) h)
-
-either_side : (x y : CmdId) (b c : Bool) → same_id x y ≡ b → same_id y x ≡ c → b ≡ c
-either_side x y true true h k = refl
-either_side x y true false h k = sym (swapped x y h) ∙ k
-either_side x y false true h k = sym h ∙ swapped y x k
-either_side x y false false h k = refl
-
-same_swap : (x y : CmdId) → same_id x y ≡ same_id y x
-same_swap x y = either_side x y _ _ refl refl
-
-both_true : (a b : Bool) → a ≡ true → b ≡ true → (a && b) ≡ true
-both_true true b h k = k
-both_true false b h k = h
-
-same_self : (x : CmdId) → same_id x x ≡ true
-same_self x = both_true _ _ (both_true _ _ (eq-eqb x.client x.client refl) (eq-eqb x.seq x.seq refl)) (eq-eqb x.attempt x.attempt refl)
+use Rattle.rp_base.proofs.IdLaws.{same_is, same_back, same_itself}
 
 -- the sequence under which a proposal waits, where it does
 abbrev seq_when : Option Proposal → Option ℕ
@@ -76,8 +57,8 @@ when_cond false p o = refl
 all_waits : (id : CmdId) (ps : List Proposal) → IsDistinct same_id (map (λ (p : Proposal). p.id) ps) → seq_of (waiting_of ps) id ≡ seq_when (proposal_of id ps)
 all_waits id [] d = refl
 all_waits id (p ∷ ps) d =
-    wait_more id p (is_proposed p.stage) (same_id id p.id) (waiting_of ps) (seq_when (proposal_of id ps)) (same_swap p.id id)
-    (λ e. ap seq_when (alone id p ps d (same_swap p.id id ∙ e))) (all_waits id ps (others_distinct p ps d))
+    wait_more id p (is_proposed p.stage) (same_id id p.id) (waiting_of ps) (seq_when (proposal_of id ps)) (same_back p.id id)
+    (λ e. ap seq_when (alone id p ps d (same_back p.id id ∙ e))) (all_waits id ps (others_distinct p ps d))
     ∙ when_cond (same_id id p.id) p (proposal_of id ps)
 
 -- of what waits of the inbox: the same, where the inbox names it
@@ -118,21 +99,10 @@ inbox_waits id ps (Lease ask ∷ inbox) = inbox_waits id ps inbox
 inbox_waits id ps (Write k ∷ inbox) = item_more id k ps (same_id k id) (stands id (ids_of inbox)) _ (waiting_in ps inbox) refl refl (inbox_waits id ps inbox)
 
 -- each id of a list stands in it
-or_right : (a b : Bool) → b ≡ true → (a || b) ≡ true
-or_right true b h = refl
-or_right false b h = h
-
-or_left : (a b : Bool) → a ≡ true → (a || b) ≡ true
-or_left true b h = refl
-or_left false b h = absurd (clash h)
-  where
-    clash : false ≡ true → ⊥
-    clash e = cc
-
 each_stands : (all ids : List CmdId) → ((id : CmdId) → stands id ids ≡ true → stands id all ≡ true) → All (λ id. stands id all ≡ true) ids
 each_stands all [] sub = All-nil _
 each_stands all (id ∷ ids) sub =
-    All-cons (λ x. stands x all ≡ true) id ids (sub id (or_left (same_id id id) (stands id ids) (same_self id)))
+    All-cons (λ x. stands x all ≡ true) id ids (sub id (or_left (same_id id id) (stands id ids) (same_itself id)))
     (each_stands all ids (λ x h. sub x (or_right (same_id id x) (stands x ids) h)))
 
 -- to each id of the inbox the two lists answer the same

@@ -1,5 +1,5 @@
 -- A planned flush is the flush of the definition.
-use Rattle.std.proofs.Common.{◌≡◌, ℕ, max, List, ◌++◌, map, refl, sym, ap, subst, ◌∙◌, arith}
+use Rattle.std.proofs.Common.{◌≡◌, ℕ, List, ◌++◌, map, refl, sym, ap, subst, ◌∙◌, arith}
 use Rattle.std.specs.Prelude.{filter_map}
 use Rattle.rp_base.specs.declared.ids.CmdId.{CmdId}
 use Rattle.rp_base.specs.declared.leases.Lease as leases
@@ -13,15 +13,11 @@ use Rattle.rp_replica.specs.declared.events.Ended.{Ended}
 use Rattle.rp_replica.specs.declared.plans.ReplicaPlan.{ReplicaPlan}
 use Rattle.rp_replica.specs.declared.plans.ReplicaPlan.TheVariants.{Flushes}
 use Rattle.rp_replica.specs.Replicas.{Replica}
-use Rattle.rp_replica.specs.Flushes.{entry_of, flushed, payloads_of, refused_with, write_of}
+use Rattle.rp_replica.specs.Flushes.{assigning, entry_of, flushed, payloads_of, refused_with, write_of}
 use Rattle.rp_replica.specs.Allows.{MayFlush}
 use Rattle.rp_replica.specs.Plans.{Makes}
 use Rattle.rp_replica.specs.Carried.{EachCarries}
 use Rattle.rp_replica.proofs.Assigning.{assigned_pending, entries_are, few_entries, length_entries}
-
--- what a flush assigns here
-abbrev assigning : Replica → Assigned
-assigning r = assigned_of r.inbox (waiting_of r.pending) r.applied.state.lease.seq r.applied.state.lai r.assigned
 
 abbrev with_lists : Assigned → (now round : ℕ) → List Entry → List Ended → ReplicaPlan
 with_lists a now round entries outcomes =

@@ -1,8 +1,9 @@
 -- What a flush writes holds numbers of their widths.
-use Rattle.std.proofs.Common.{◌≡◌, ◌<◌, ◌+◌, ℕ, max, List, [], ◌∷◌, ◌++◌, length, drop, get_or, map, Option, None, Some, sym, ap, subst, ◌∙◌}
+use Rattle.std.proofs.Common.{◌≡◌, ◌<◌, ◌+◌, ℕ, List, ◌∷◌, length, drop, get_or, map, Option, None, Some, sym, ap, subst, ◌∙◌}
 use Rattle.std.proofs.lemmas.List.{drop_more}
 use Rattle.std.specs.Prelude.{filter_map}
 use Rattle.std.specs.List.{AllByRecursion, cons_option}
+use Rattle.rp_base.proofs.Elements.{all_append}
 use Rattle.rp_base.specs.declared.ids.CmdId.{CmdId}
 use Rattle.rp_base.specs.declared.leases.Lease as leases
 use Rattle.rp_base.specs.declared.leases.LeaseAsk.{LeaseAsk}
@@ -13,9 +14,9 @@ use Rattle.rp_flush.specs.Assigns.{assigned_of}
 use Rattle.rp_flush.specs.declared.assigns.Assigned.{Assigned}
 use Rattle.rp_pending.specs.Refreshes.{waiting_of}
 use Rattle.rp_pending.specs.declared.proposals.Proposal.{Proposal}
-use Rattle.rp_replica.specs.Flushes.{listed, payloads_of, write_of}
+use Rattle.rp_replica.specs.Flushes.{assigning, listed, payloads_of, write_of}
 use Rattle.rp_replica.specs.Replicas.{Replica}
-use Rattle.rp_replica.specs.Writes.{assigning, WritesFit}
+use Rattle.rp_replica.specs.Writes.{WritesFit}
 
 opened : {X : Type 0} (xs : List X) (i : ℕ) (x : X) → i < length xs → x ≡ get_or xs i x → drop i xs ≡ x ∷ drop (i + 1) xs
 opened xs i x within is = drop_more xs i x within ∙ ap (λ v. v ∷ drop (i + 1) xs) (sym is)
@@ -40,10 +41,6 @@ pub write_fits : (ps : List Proposal) (ws : List (CmdId × ℕ)) (i : ℕ) (w : 
 write_fits ps ws i w within is fits so_far rest =
     so_far (subst (λ l. AllByRecursion FitsPayload (filter_map (write_of ps) l)) (sym (opened ws i w within is)) (fits_cons (write_of ps w) _ fits rest))
 
-both_fit : (xs ys : List Payload) → AllByRecursion FitsPayload xs → AllByRecursion FitsPayload ys → AllByRecursion FitsPayload (xs ++ ys)
-both_fit [] ys h k = k
-both_fit (x ∷ xs) ys h k = (h.0, both_fit xs ys h.1 k)
-
 -- of what a body has made
 pub writes_fit : (r : Replica) (lease : leases.Lease) (lai : ℕ) (a : Assigned) (asks : List LeaseAsk) (writes : List (CmdId × ℕ))
     → lease ≡ r.applied.state.lease → lai ≡ r.applied.state.lai
@@ -55,5 +52,5 @@ writes_fit r lease lai a asks writes l i e ls ws fa fw =
     ∙ ap (λ n. assigned_of r.inbox (waiting_of r.pending) r.applied.state.lease.seq n r.assigned) i in
     record {
       each = subst (λ b. AllByRecursion FitsPayload (payloads_of r.pending b)) is
-          (both_fit _ _ (subst (λ l. AllByRecursion FitsPayload (map payloads.Lease l)) ls fa) (subst (λ l. AllByRecursion FitsPayload (filter_map (write_of r.pending) l)) ws fw));
+          (all_append FitsPayload _ _ (subst (λ l. AllByRecursion FitsPayload (map payloads.Lease l)) ls fa) (subst (λ l. AllByRecursion FitsPayload (filter_map (write_of r.pending) l)) ws fw));
     }

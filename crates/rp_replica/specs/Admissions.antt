@@ -1,4 +1,5 @@
--- Admission at the leaseholder (after CockroachDB: the lease, the bounds, the latches, and then the evaluation).
+-- Admission at the leaseholder (after CockroachDB: the lease, the bounds, the latches, and then the
+-- evaluation).
 use Rattle.std.specs.Prelude.{ℕ, ◌==◌, if◌then◌else◌, [], ◌∷◌, ◌++◌, None, Result, Ok, Err}
 use Rattle.rp_base.specs.declared.ids.CmdId.{CmdId}
 use Rattle.rp_request.specs.Covers.{spans_of, in_bounds}
@@ -19,8 +20,8 @@ abbrev pub unlatched : Result (Unit {0}) Held → Result Evaluated Refusal → R
 unlatched (Ok tt) evaluation = evaluation
 unlatched (Err held) evaluation = Err (Latched held.by held.held)
 
--- what the guards let through, in their order: the node holds the applied lease, the request lies in the
--- bounds, no latch stands in its way, and it is evaluated on the applied table
+-- what the guards let through, in their order: the node holds the applied lease, the request lies
+-- in the bounds, no latch stands in its way, and it is evaluated on the applied table
 abbrev pub guarded : Replica → Request → Result Evaluated Refusal
 guarded r request = if r.applied.state.lease.holder == r.node
     then (if in_bounds r.applied.state.desc request

@@ -1,5 +1,5 @@
--- Application of the next committed entry, and what it tells the node that proposed it (after CockroachDB: the
--- proposer ends, refuses or proposes its command again by the check's verdict).
+-- Application of the next committed entry, and what it tells the node that proposed it (after
+-- CockroachDB: the proposer ends, refuses or proposes its command again by the check's verdict).
 use Rattle.std.specs.Prelude.{ℕ, ◌+◌, ◌==◌, if◌then◌else◌, Bool, false, List, [], ◌∷◌, ◌++◌, Option, None, Some, Result, Ok, Err}
 use Rattle.std.specs.List.{filter}
 use Rattle.rp_base.specs.declared.items.Item.TheVariants as items
@@ -67,7 +67,8 @@ told_of r Nothing = []
 told_of r (Write c) = if is_own_command r c then told r.applied.state.lease c (command_verdict r.applied.state c) else []
 told_of r (Lease ask) = []
 
--- the proposal turns so: where it ends its latches are free, and where it waits again it stands at the inbox's end
+-- the proposal turns so: where it ends its latches are free, and where it waits again it stands at
+-- the inbox's end
 abbrev pub turned : Replica → Turn → Replica
 turned r turns.Stays = r
 turned r (turns.Ends id) = record r { latches = filter (is_of_other id) r.latches; pending = without id r.pending }

@@ -1,5 +1,6 @@
--- Flush: the inbox becomes payloads in the log, each command under a lease index (after CockroachDB's proposal
--- buffer, whose flush gives the maximum lease indexes under the replica's lock).
+-- Flush: the inbox becomes payloads in the log, each command under a lease index (after
+-- CockroachDB's proposal buffer, whose flush gives the maximum lease indexes under the replica's
+-- lock).
 use Rattle.std.specs.Prelude.{ℕ, List, [], ◌∷◌, ◌++◌, map, filter_map, Option, None, Some}
 use Rattle.std.specs.Option.{option_map}
 use Rattle.std.specs.List.{filter}
@@ -65,6 +66,11 @@ proposed_all (w ∷ ws) ticks round ps = proposed_all ws ticks round (with_chang
 abbrev pub refused_with : leases.Lease → CmdId → Ended
 refused_with lease id = record { id = id; outcome = outcomes.Refused (NotLeaseHolder lease) }
 
+-- what a flush assigns here, under the present lease: where no command gets a lease index, the last
+-- one given stays
+abbrev pub assigning : Replica → Assigned
+assigning r = assigned_of r.inbox (waiting_of r.pending) r.applied.state.lease.seq r.applied.state.lai r.assigned
+
 abbrev pub flushed_by : Replica → Assigned → (ticks round : ℕ) → Done
 flushed_by r a ticks round = record {
   replica = record r {
@@ -80,5 +86,4 @@ flushed_by r a ticks round = record {
 
 -- a flush, at a tick and in a round of the node
 abbrev pub flushed : Replica → (ticks round : ℕ) → Done
-flushed r ticks round =
-    flushed_by r (assigned_of r.inbox (waiting_of r.pending) r.applied.state.lease.seq r.applied.state.lai r.assigned) ticks round
+flushed r ticks round = flushed_by r (assigning r) ticks round

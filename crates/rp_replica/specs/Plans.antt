@@ -78,7 +78,8 @@ PlanFits r (Collects taken) = length taken.list ≤ 16
 PlanFits r (Flushes f) = FlushFits r f
 PlanFits r (Applies a) = ApplicationFits r a
 
--- how many entries, proposals, holds and items can be added without memory, and what application can
+-- how many entries, proposals, holds and items can be added without memory, and what application
+-- can
 pub record Room : Type 0 where
   pub log : ℕ
   pub applied : applies.Room

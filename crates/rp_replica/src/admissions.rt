@@ -1,3 +1,4 @@
+//! The admission of an attempt: guards, evaluation, latches.
 ghost use Rattle.std.specs.Prelude.{◌≡◌, ◌≤◌, ◌==◌, IfOk, Result};
 ghost use Rattle.rp_request.specs.declared.outcomes.Refusal.{Refusal};
 ghost use Rattle.rp_request.specs.Evaluations.{evaluated};
@@ -21,7 +22,8 @@ use std::alloc::Global;
 fn refusal_apart(
     answer: Result<Evaluated, EvalFault>,
 ) -> Result<Result<Evaluated, Refusal>, NoMemory>
-    ensures { (v : Result Evaluated Refusal) → Gives answer v → IfOk result (λ answered. answered ≡ v) }
+    ensures { (v : Result Evaluated Refusal) → Gives answer v
+        → IfOk result (λ answered. answered ≡ v) }
 {
     match answer {
         Ok(evaluated) => Ok(Ok(evaluated)),
@@ -89,7 +91,8 @@ impl Replica {
         request: Request,
     ) -> Result<ReplicaPlan, NoMemory>
         requires { proposal_of id self.now.replica.pending ≡ None }
-        ensures { IfOk result (λ p. Makes self.now.replica p (admitted self.now.replica id request)) }
+        ensures { IfOk result
+            (λ p. Makes self.now.replica p (admitted self.now.replica id request)) }
     {
         let evaluated = match self.guarded(alloc, &request)? {
             Ok(evaluated) => evaluated,

@@ -1,3 +1,4 @@
+//! The application of the next committed entry, and what it makes of its proposal.
 ghost use Rattle.std.specs.Prelude.{◌≡◌, ◌≤◌, ◌+◌, IfOk, Some};
 ghost use Rattle.rp_replica.specs.Replicas.{leaves};
 ghost use Rattle.rp_replica.specs.Applications.{applied, is_own, is_own_command, payload_of, turn, turn_of, told, told_of, recorded, turned};
@@ -9,7 +10,7 @@ ghost use Rattle.rp_apply.specs.Rooms.{IsWithin, needed};
 ghost use Rattle.rp_replica.specs.Plans.{items_of};
 ghost use Rattle.rp_raftlog.specs.declared.entries.Entry.{Entry};
 
-use crate::events::{Effects, Ended, EventAnswer, Outcomes};
+use crate::events::{Effects, Ended, EventAnswer, Outcomes, push_end};
 use crate::plans::{Application, ReplicaPlan, Turn};
 use crate::replicas::Replica;
 use rp_apply::{Verdict, check};
@@ -33,8 +34,8 @@ fn payload_of(alloc: Global, entry: &Entry) -> Result<Payload, NoMemory>
 }
 
 /// What the verdict on its own entry makes of a proposal.
-fn turn(command: &Command, verdict: Verdict) -> Turn
-    ensures { result ≡ turn command.now verdict }
+fn turn(command: &Command, verdict: &Verdict) -> Turn
+    ensures { result ≡ turn command.now verdict.now }
 {
     match verdict {
         Verdict::Took | Verdict::OldLease { .. } => Turn::Ends { id: command.id },
@@ -48,9 +49,9 @@ fn told(
     alloc: Global,
     lease: Lease,
     command: &Command,
-    verdict: Verdict,
+    verdict: &Verdict,
 ) -> Result<Outcomes, NoMemory>
-    ensures { IfOk result (λ o. o ≡ told lease command.now verdict) }
+    ensures { IfOk result (λ o. o ≡ told lease command.now verdict.now) }
 {
     let outcome = match verdict {
         Verdict::Took => Outcome::Success(command.reply),
@@ -59,12 +60,13 @@ fn told(
             return Ok(Outcomes::new(alloc));
         }
     };
-    let mut outcomes = Outcomes::new(alloc);
-    outcomes.push(Ended {
+    let end = Ended {
         id: command.id,
         outcome,
-    })?;
-    Ok(outcomes)
+    };
+    let mut ends = Vec::new(alloc);
+    push_end(&mut ends, &end)?;
+    Ok(Outcomes::from_vec(ends))
 }
 
 impl Replica {
@@ -78,34 +80,22 @@ impl Replica {
         }
     }
 
-    fn turn_of(&self, payload: &Payload) -> Turn
-        ensures turn { result ≡ turn_of self.now.replica payload.now }
-        ensures known { IsKnown self.now.replica.pending result }
+    /// What an entry makes of the proposal that it came of, and what its client is told.
+    fn turn_and_end(&self, alloc: Global, payload: &Payload) -> Result<(Turn, Outcomes), NoMemory>
+        ensures turn { IfOk result (λ r. r.0 ≡ turn_of self.now.replica payload.now) }
+        ensures known { IfOk result (λ r. IsKnown self.now.replica.pending r.0) }
+        ensures told { IfOk result (λ r. r.1 ≡ told_of self.now.replica payload.now) }
     {
         let Payload::Write(command) = payload else {
-            return Turn::Stays;
+            return Ok((Turn::Stays, Outcomes::new(alloc)));
         };
         if !self.is_own(command) {
-            return Turn::Stays;
+            return Ok((Turn::Stays, Outcomes::new(alloc)));
         }
-        turn(command, check(&self.applied, payload))
-    }
-
-    fn told_of(&self, alloc: Global, payload: &Payload) -> Result<Outcomes, NoMemory>
-        ensures { IfOk result (λ o. o ≡ told_of self.now.replica payload.now) }
-    {
-        let Payload::Write(command) = payload else {
-            return Ok(Outcomes::new(alloc));
-        };
-        if !self.is_own(command) {
-            return Ok(Outcomes::new(alloc));
-        }
-        told(
-            alloc,
-            self.applied.lease(),
-            command,
-            check(&self.applied, payload),
-        )
+        let verdict = check(&self.applied, payload);
+        let turn = turn(command, &verdict);
+        let outcomes = told(alloc, self.applied.lease(), command, &verdict)?;
+        Ok((turn, outcomes))
     }
 
     pub(crate) fn plan_application(&self, alloc: Global) -> Result<ReplicaPlan, NoMemory>
@@ -118,8 +108,7 @@ impl Replica {
             });
         };
         let payload = payload_of(alloc, entry)?;
-        let turn = self.turn_of(&payload);
-        let outcomes = self.told_of(alloc, &payload)?;
+        let (turn, outcomes) = self.turn_and_end(alloc, &payload)?;
         Ok(ReplicaPlan::Applies {
             application: Application {
                 payload,

@@ -1,4 +1,7 @@
-use rp_base::{CmdId, Key, Seq, Value};
+//! What happens at a replica, and what it answers and ends.
+ghost use Rattle.std.specs.Prelude.{◌≡◌, [], ◌∷◌, ◌++◌, OnOk};
+
+use rp_base::{CmdId, Key, NoMemory, Seq, Value};
 use rp_request::{Outcome, Refusal, Request};
 
 /// What happens at one replica (this project's events, after CockroachDB's way of a write).
@@ -40,6 +43,14 @@ pub struct Ended {
 
 /// Ends of attempts: at a flush in the order of the inbox.
 pub type Outcomes = Seq<Ended>;
+
+/// Puts an end behind others.
+pub(crate) fn push_end(ends: &mut Vec<Ended>, end: &Ended) -> Result<(), NoMemory>
+    ensures { OnOk result (ends.new.items ≡ ends.old.items ++ end.now ∷ []) }
+{
+    ends.extend_from_slice(std::slice::from_ref(end))?;
+    Ok(())
+}
 
 /// What an event hands out.
 #[derive(Drop)]

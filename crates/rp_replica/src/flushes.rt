@@ -1,3 +1,4 @@
+//! The flush: the inbox becomes entries of the log, each command under a lease index.
 ghost use Rattle.std.specs.Prelude.{◌≡◌, ◌≤◌, ◌+◌, ◌<◌, ◌^◌, [], ◌∷◌, ◌++◌, map, filter_map, length, OnOk, IfOk};
 ghost use Rattle.rp_request.specs.declared.commands.Payload.TheVariants as payloads;
 ghost use Rattle.rp_raftlog.specs.LogState.{appended, last_index};
@@ -11,7 +12,7 @@ ghost use Rattle.rp_replica.specs.Writes.{WritesFit};
 ghost use Rattle.rp_request.specs.Fits.{FitsPayload};
 ghost use Rattle.std.specs.List.{AllByRecursion};
 
-use crate::events::{Effects, Ended, EventAnswer, Outcomes};
+use crate::events::{Effects, Ended, EventAnswer, Outcomes, push_end};
 use crate::plans::{FlushPlan, ReplicaPlan};
 use crate::replicas::Replica;
 use crate::waits::assign_inbox;
@@ -56,7 +57,8 @@ fn command(proposal: &Proposal, max: LeaseIndex) -> Result<Command, NoMemory>
 fn push_asks(alloc: Global, entries: &mut Entries, asks: &[LeaseAsk]) -> Result<(), NoMemory>
     requires { EachCarries entries.old }
     ensures carry { OnOk result (EachCarries entries.new) }
-    ensures entries { OnOk result (entries.new ≡ entries.old ++ map (λ ask. entry_of (payloads.Lease ask)) asks.now) }
+    ensures entries { OnOk result (entries.new
+        ≡ entries.old ++ map (λ ask. entry_of (payloads.Lease ask)) asks.now) }
     ensures fits { OnOk result (AllByRecursion FitsPayload (map payloads.Lease asks.now)) }
 {
     for ask in asks {
@@ -76,8 +78,10 @@ fn push_write(
 ) -> Result<(), NoMemory>
     requires { EachCarries entries.old }
     ensures carry { OnOk result (EachCarries entries.new) }
-    ensures entries { OnOk result (entries.new ≡ entries.old ++ map entry_of (listed (write_of pending.now.list (id, max)))) }
-    ensures fits { OnOk result (AllByRecursion FitsPayload (listed (write_of pending.now.list (id, max)))) }
+    ensures entries { OnOk result (entries.new
+        ≡ entries.old ++ map entry_of (listed (write_of pending.now.list (id, max)))) }
+    ensures fits { OnOk result
+        (AllByRecursion FitsPayload (listed (write_of pending.now.list (id, max)))) }
 {
     match pending.find(id) {
         None => Ok(()),
@@ -98,8 +102,10 @@ fn push_writes(
 ) -> Result<(), NoMemory>
     requires { EachCarries entries.old }
     ensures carry { OnOk result (EachCarries entries.new) }
-    ensures entries { OnOk result (entries.new ≡ entries.old ++ map entry_of (filter_map (write_of pending.now.list) writes.now)) }
-    ensures fits { OnOk result (AllByRecursion FitsPayload (filter_map (write_of pending.now.list) writes.now)) }
+    ensures entries { OnOk result (entries.new
+        ≡ entries.old ++ map entry_of (filter_map (write_of pending.now.list) writes.now)) }
+    ensures fits { OnOk result
+        (AllByRecursion FitsPayload (filter_map (write_of pending.now.list) writes.now)) }
 {
     for write in writes {
         push_write(alloc, entries, pending, write.0, write.1)?;
@@ -107,23 +113,24 @@ fn push_writes(
     Ok(())
 }
 
-/// Puts the end of a refused attempt behind others.
-fn push_refusal(told: &mut Outcomes, lease: &Lease, id: CmdId) -> Result<(), NoMemory>
-    ensures { OnOk result (told.new ≡ told.old ++ refused_with lease.now id ∷ []) }
+/// The end of a refused attempt: the present lease.
+fn refused_with(lease: &Lease, id: CmdId) -> Ended
+    ensures { result ≡ refused_with lease.now id }
 {
     let outcome = Outcome::Refused(Refusal::NotLeaseHolder { lease: *lease });
-    told.push(Ended { id, outcome })
+    Ended { id, outcome }
 }
 
 /// What the refused attempts are told: the present lease.
 fn refusals(alloc: Global, refused: &[CmdId], lease: &Lease) -> Result<Outcomes, NoMemory>
     ensures { IfOk result (λ o. o ≡ map (refused_with lease.now) refused.now) }
 {
-    let mut told = Outcomes::new(alloc);
+    let mut ends = Vec::new(alloc);
     for id in refused {
-        push_refusal(&mut told, lease, *id)?;
+        let end = refused_with(lease, *id);
+        push_end(&mut ends, &end)?;
     }
-    Ok(told)
+    Ok(Outcomes::from_vec(ends))
 }
 
 /// The entries of a flush: lease asks first, then commands.
@@ -134,9 +141,12 @@ fn entries_of(
     writes: &[(CmdId, LeaseIndex)],
 ) -> Result<Entries, NoMemory>
     ensures carry { IfOk result (λ e. EachCarries e) }
-    ensures entries { IfOk result (λ e. e ≡ map (λ ask. entry_of (payloads.Lease ask)) leases.now ++ map entry_of (filter_map (write_of pending.now.list) writes.now)) }
+    ensures entries { IfOk result (λ e. e
+        ≡ map (λ ask. entry_of (payloads.Lease ask)) leases.now
+        ++ map entry_of (filter_map (write_of pending.now.list) writes.now)) }
     ensures asks { OnOk result (AllByRecursion FitsPayload (map payloads.Lease leases.now)) }
-    ensures commands { OnOk result (AllByRecursion FitsPayload (filter_map (write_of pending.now.list) writes.now)) }
+    ensures commands { OnOk result
+        (AllByRecursion FitsPayload (filter_map (write_of pending.now.list) writes.now)) }
 {
     let mut entries = Entries::new(alloc);
     push_asks(alloc, &mut entries, leases)?;
@@ -191,7 +201,8 @@ impl Replica {
         round: u64,
     ) -> Result<ReplicaPlan, NoMemory>
         requires { MayFlush self.now.replica }
-        ensures plan { IfOk result (λ p. Makes self.now.replica p (flushed self.now.replica now round)) }
+        ensures plan { IfOk result
+            (λ p. Makes self.now.replica p (flushed self.now.replica now round)) }
         ensures fits { OnOk result (WritesFit self.now.replica) }
     {
         let lai = self.applied.lai();

@@ -21,19 +21,22 @@ pub fn a_payload_is_read_back_from_its_entry()
 /// At the start no entry is there that would not be decoded.
 #[tactic(auto, using(crate::proofs::Carrying::at_start))]
 pub fn entries_carry_payloads_at_the_start()
-    ensures { (node : ℕ) (state : AppliedState) (index : ℕ) (term : ℕ) → AllCarry (started node state index term) }
+    ensures { (node : ℕ) (state : AppliedState) (index : ℕ) (term : ℕ)
+        → AllCarry (started node state index term) }
 {}
 
 /// What a plan that fits does keeps each entry of the log one that is decoded.
 #[tactic(auto, using(crate::proofs::Carrying::still_carry))]
 pub fn entries_go_on_to_carry_payloads()
-    ensures planned { (r : Replica) (p : ReplicaPlan) → PlanFits r p → AllCarry r → AllCarry (planned r p).replica }
+    ensures planned { (r : Replica) (p : ReplicaPlan) → PlanFits r p → AllCarry r
+        → AllCarry (planned r p).replica }
 {}
 
 /// And so does an event for which a plan was made.
 #[tactic(auto, using(crate::proofs::Carrying::made_carry))]
 pub fn an_event_that_was_planned_keeps_them()
-    ensures { (r : Replica) (p : ReplicaPlan) (d : Done) → Makes r p d → AllCarry r → AllCarry d.replica }
+    ensures { (r : Replica) (p : ReplicaPlan) (d : Done) → Makes r p d → AllCarry r
+        → AllCarry d.replica }
 {}
 
 /// Where each entry carries a payload, so does the one at an index.

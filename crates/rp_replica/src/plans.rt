@@ -1,3 +1,4 @@
+//! What an event will do, once it is planned.
 ghost use Rattle.std.specs.Prelude.{◌≡◌, ℕ, ◌≤◌, length};
 ghost use Rattle.rp_replica.specs.declared.plans.ReplicaPlan.TheVariants.{Collects};
 ghost use Rattle.rp_replica.specs.declared.events.ReplicaEvent.TheVariants.{Collect};
@@ -72,7 +73,8 @@ impl ReplicaPlan {
         requires collect { IsCollect self.old }
         requires few { length taken.list ≤ 16 }
         ensures plan { self.new ≡ Collects taken }
-        ensures makes { (r : Replica) (ticks : ℕ) (round : ℕ) → Makes r self.new (event r Collect ticks round taken.list) }
+        ensures makes { (r : Replica) (ticks : ℕ) (round : ℕ)
+            → Makes r self.new (event r Collect ticks round taken.list) }
     {
         *self = ReplicaPlan::Collects { taken };
     }

@@ -1,3 +1,4 @@
+//! A replica and its calls: plan, make room, commit.
 ghost use Rattle.std.specs.Prelude.{◌≡◌, [], OnOk, IfOk};
 ghost use Rattle.rp_replica.specs.Replicas.{Done, committed, leaves, started};
 ghost use Rattle.rp_replica.specs.Events.{event, peeked};
@@ -68,7 +69,8 @@ impl Replica {
         table: Table,
         base: (u64, u64),
     ) -> Replica
-        ensures { result.replica ≡ started node (record { desc = desc; lease = lease; lai = 0; table = table.map }) base.0 base.1 }
+        ensures { result.replica ≡ started node
+            (record { desc = desc; lease = lease; lai = 0; table = table.map }) base.0 base.1 }
     {
         let (index, term) = base;
         Replica {
@@ -103,8 +105,8 @@ impl Replica {
         &self.pending
     }
 
-    /// What an event will do at a tick and in a round of the node. It leaves all that contracts see,
-    /// room aside; a collect is planned without its items.
+    /// What an event will do at a tick and in a round of the node. It leaves all that contracts
+    /// see, room aside; a collect is planned without its items.
     pub fn plan(
         &mut self,
         alloc: Global,
@@ -115,7 +117,8 @@ impl Replica {
         requires { Allows self.old.replica happens }
         ensures replica { self.new.replica ≡ self.old.replica }
         ensures room { IsRoomWithin self.old.room self.new.room }
-        ensures plan { IfOk result (λ p. Makes self.new.replica p (event self.new.replica happens now round [])) }
+        ensures plan { IfOk result
+            (λ p. Makes self.new.replica p (event self.new.replica happens now round [])) }
         ensures collect { happens ≡ Collect → IfOk result (λ p. IsCollect p) }
         ensures fits { happens ≡ Flush → OnOk result (WritesFit self.new.replica) }
     {
@@ -130,7 +133,8 @@ impl Replica {
         round: u64,
     ) -> Result<ReplicaPlan, NoMemory>
         requires { Allows self.now.replica happens }
-        ensures plan { IfOk result (λ p. Makes self.now.replica p (event self.now.replica happens now round [])) }
+        ensures plan { IfOk result
+            (λ p. Makes self.now.replica p (event self.now.replica happens now round [])) }
         ensures collect { happens ≡ Collect → IfOk result (λ p. IsCollect p) }
         ensures fits { happens ≡ Flush → OnOk result (WritesFit self.now.replica) }
     {
@@ -157,8 +161,8 @@ impl Replica {
         }
     }
 
-    /// Makes the room that a plan needs: at a collect, for 16 items. It leaves all that contracts see,
-    /// room aside.
+    /// Makes the room that a plan needs: at a collect, for 16 items. It leaves all that contracts
+    /// see, room aside.
     pub fn make_room(&mut self, plan: &ReplicaPlan) -> Result<(), NoMemory>
         requires { PlanFits self.old.replica plan.now }
         ensures replica { self.new.replica ≡ self.old.replica }
@@ -180,11 +184,13 @@ impl Replica {
         }
     }
 
-    /// Does what was planned in this state, once `make_room` has answered Ok for it. It takes no memory.
+    /// Does what was planned in this state, once `make_room` has answered Ok for it. It takes no
+    /// memory.
     pub fn commit(&mut self, alloc: Global, plan: ReplicaPlan) -> Effects
         requires fits { PlanFits self.old.replica plan }
         requires room { HasRoom self.old.room plan }
-        ensures done { leaves self.new.replica result.answer result.outcomes ≡ planned self.old.replica plan }
+        ensures done { leaves self.new.replica result.answer result.outcomes
+            ≡ planned self.old.replica plan }
         ensures made { (d : Done) → Makes self.old.replica plan d
             → leaves self.new.replica result.answer result.outcomes ≡ d }
     {

@@ -1,3 +1,4 @@
+//! What a flush reads of the pending proposals: those that its inbox names.
 ghost use Rattle.std.specs.Prelude.{◌≡◌, ◌+◌, ◌<◌, ◌^◌, length, max, IfOk};
 ghost use Rattle.rp_flush.specs.Assigns.{assigned_of};
 ghost use Rattle.rp_pending.specs.Refreshes.{waiting_of};
@@ -28,8 +29,8 @@ fn waits_in(pending: &Pending, item: &Item) -> Option<Waiting>
     }
 }
 
-/// What waits of an inbox for a lease index, in its order. It asks for each item and walks no list of
-/// all that is pending.
+/// What waits of an inbox for a lease index, in its order. It asks for each item and walks no list
+/// of all that is pending.
 fn waiting_in(alloc: Global, pending: &Pending, inbox: &[Item]) -> Result<WaitList, NoMemory>
     ensures { IfOk result (λ w. w ≡ waiting_in pending.now.list inbox.now) }
 {
@@ -52,7 +53,8 @@ pub(crate) fn assign_inbox(
     assigned: LeaseIndex,
 ) -> Result<Assigned, NoMemory>
     requires { max assigned lai + length inbox.now.list < 2 ^ 64 }
-    ensures { IfOk result (λ all. all ≡ assigned_of inbox.now.list (waiting_of pending.now.list) lease.seq lai assigned) }
+    ensures { IfOk result (λ all. all
+        ≡ assigned_of inbox.now.list (waiting_of pending.now.list) lease.seq lai assigned) }
 {
     // An id is looked up, so none may stand twice.
     pending.ids_are_distinct();
