@@ -1,21 +1,14 @@
 -- Reading stops at a field wherever it gives no payload.
-use Rattle.std.proofs.Common.{◌≡◌, ℕ, zero, suc, ◌^◌, ◌<◌, ◌==◌, ◌&&◌, Bool, true, false, not, nat_lt, List, [], ◌∷◌, length, take, Option, None, Some, Result, Ok, Err, refl, sym, ap, subst, ◌∙◌, arith, if◌then◌else◌, ◌↔◌}
+use Rattle.std.proofs.Common.{◌≡◌, ℕ, zero, suc, ◌<◌, ◌==◌, ◌&&◌, Bool, true, false, not, nat_lt, List, [], ◌∷◌, length, take, None, Some, Result, Ok, Err, refl, sym, ap, subst, ◌∙◌, arith, if◌then◌else◌, ◌↔◌}
 use Rattle.std.specs.Int.{Width, w16, w32, w64, byte_len, from_be_bytes}
 use Rattle.std.proofs.lemmas.Bool.{eqb-true}
 use Rattle.std.proofs.lemmas.Bool.Decides.{nat_tests}
-use Rattle.rp_base.specs.declared.CmdId.{CmdId}
-use Rattle.rp_base.specs.declared.LeaseAsk.{LeaseAsk}
-use Rattle.rp_base.specs.declared.Value.{Value}
 use Rattle.rp_base.specs.declared.Value.TheVariants.{Number, Text}
 use Rattle.rp_request.specs.Texts.{payload_has_text}
-use Rattle.rp_request.specs.declared.Command.{Command}
-use Rattle.rp_request.specs.declared.Op.{Op}
 use Rattle.rp_request.specs.declared.Op.TheVariants as ops
 use Rattle.rp_request.specs.declared.Payload.{Payload}
 use Rattle.rp_request.specs.declared.Payload.TheVariants as payloads
-use Rattle.rp_request.specs.declared.Reply.{Reply}
 use Rattle.rp_request.specs.declared.Reply.TheVariants as replies
-use Rattle.rp_request.specs.declared.Request.{Request}
 use Rattle.rp_request.specs.declared.Request.TheVariants as requests
 use Rattle.rp_codec.specs.Cursors.{Left, past, whole}
 use Rattle.rp_codec.specs.declared.faults.BadField.{BadField}

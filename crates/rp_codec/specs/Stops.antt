@@ -1,5 +1,5 @@
 -- Where reading stops: at the first field that is cut short or outside its form.
-use Rattle.std.specs.Prelude.{◌≡◌, ℕ, ◌<◌, true, false, List, [], length, Option, Ok}
+use Rattle.std.specs.Prelude.{◌≡◌, ℕ, ◌<◌, true, false, List, length, Option, Ok}
 use Rattle.std.specs.Int.{Width}
 use Rattle.rp_base.specs.declared.CmdId.{CmdId}
 use Rattle.rp_base.specs.declared.KeySpan.{KeySpan}

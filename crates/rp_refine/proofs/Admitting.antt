@@ -1,6 +1,5 @@
 -- An admission, as the range machine has it.
-use Rattle.std.proofs.Common.{◌≡◌, ℕ, ◌<◌, ◌==◌, ◌||◌, Bool, true, false, cond, ◌⊎◌, inl, inr, List, [], ◌∷◌, Option, None, Some, Result, Ok, Err, is_some, IsFalse, refl, sym, ap, subst, ◌∙◌, arith, eqb-true}
-use Rattle.std.specs.List.{find, list_any}
+use Rattle.std.proofs.Common.{◌≡◌, ℕ, ◌<◌, ◌==◌, Bool, true, false, cond, ◌⊎◌, inl, inr, List, [], ◌∷◌, Option, None, Some, Result, Ok, Err, is_some, IsFalse, refl, sym, ap, subst, ◌∙◌, arith, eqb-true}
 use Rattle.rp_base.proofs.Elements.{found_some}
 use Rattle.rp_base.specs.Spans.{span_list}
 use Rattle.rp_base.specs.declared.ids.CmdId.{CmdId}
