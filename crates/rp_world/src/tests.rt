@@ -43,9 +43,17 @@ fn stands_at(view: &View, index: u64, last: u64, expected: &[Row]) -> bool {
     }
 }
 
+/// What a node shows, whose applied index is not at its end.
+fn view_of(world: World) -> Result<View, Fail> {
+    if world.replica.applied().index() == u64::MAX {
+        return Err(Fail::new("the applied index is at its end"));
+    }
+    Ok(world.into_view()?)
+}
+
 #[test]
 fn a_node_starts_with_no_rows(rt: HostRuntime) -> Result<(), Fail> {
-    let view = World::start(rt.alloc()).into_view()?;
+    let view = view_of(World::start(rt.alloc()))?;
     assert!(rt; view.nodes == 1 && view.messages == 0);
     assert!(rt; ends_are(&view, &[]) && notes_are(&view, &[]));
     assert!(rt; stands_at(&view, 0, 0, &[]));
@@ -59,7 +67,8 @@ fn a_peek_is_noted(rt: HostRuntime) -> Result<(), Fail> {
         range: RangeId::new(0).unwrap(),
         key: Key::read(b"a")?,
     };
-    let view = World::start(rt.alloc()).play(2, &line)?.into_view()?;
+    let world = World::start(rt.alloc()).play(2, &line)?;
+    let view = view_of(world)?;
     assert!(rt; notes_are(&view, &[(2, "peek a none applied 0")]));
     Ok(())
 }
