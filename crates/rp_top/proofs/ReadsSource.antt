@@ -9,7 +9,7 @@ use Rattle.rp_script.specs.declared.faults.ScriptFault.{ScriptFault}
 use Rattle.rp_script.specs.declared.lines.NumberedLine.{NumberedLine}
 use Rattle.rp_script.proofs.ReadsLines.{append-nil, reads_meaning, reads_pieces}
 use Rattle.rp_top.specs.Scripts.{script_of}
-use Rattle.rp_top.specs.Gives.{Stops, Gives, Reads, HasCome}
+use Rattle.rp_top.specs.Gives.{Gives, HasCome}
 use Rattle.rp_top.specs.declared.stops.Stop.{Stop}
 use Rattle.rp_top.specs.declared.stops.Stop.TheVariants as stops
 
@@ -45,17 +45,11 @@ judged_piece (Some all) None c r piece fault h came stops = absurd h.comes
 judged_piece None b c r piece fault h came stops = (h.bytes ++ piece, tt, stopped_here h.bytes piece r fault h.leads stops)
 
 -- the piece in which the reading stops
-pub came_stopped : (a b c : Option (List ℕ)) (r : Reading) (piece : List ℕ) (stop : Stop) → HasCome a b r → Comes b piece c → Stops stop (fed_all r piece)
-    → (x : List ℕ) × IsAll a x × Reads {Y = List NumberedLine} (Err stop) (script_of x)
+pub came_stopped : (a b c : Option (List ℕ)) (r : Reading) (piece : List ℕ) (stop : Stop) → HasCome a b r → Comes b piece c → Gives {X = Reading} (Err stop) (fed_all r piece)
+    → (x : List ℕ) × IsAll a x × Gives {X = List NumberedLine} (Err stop) (script_of x)
 came_stopped a b c r piece (stops.Judged fault) h came stops = judged_piece a b c r piece fault h came stops
 came_stopped a b c r piece stops.NoMemory h came stops = any_script a
-came_stopped a b c r piece stops.ReadFault h came stops = absurd stops
-
-gives_reads : (res : Result (List NumberedLine) Stop) (v : Result (List NumberedLine) ScriptFault) → Gives (λ lines. lines) res v → Reads res v
-gives_reads (Ok lines) v h = h
-gives_reads (Err (stops.Judged fault)) v h = h
-gives_reads (Err stops.NoMemory) v h = tt
-gives_reads (Err stops.ReadFault) v h = absurd h
+came_stopped a b c r piece stops.ReadFault h came stops = any_script a
 
 whole : (a b : Option (List ℕ)) (bytes : List ℕ) → Comes a bytes b → IsAtEnd b → IsAll a bytes
 whole (Some all) (Some left) bytes came end = sym (append-nil bytes) ∙ ap (λ l. bytes ++ l) (sym end) ∙ sym came
@@ -64,11 +58,11 @@ whole None b bytes came end = tt
 
 -- the end of the source
 pub came_whole : (a b c : Option (List ℕ)) (r : Reading) (res : Result (List NumberedLine) Stop) → HasCome a b r → Comes b [] c → IsAtEnd c
-    → Gives (λ lines. lines) res (finished r r.line) → (x : List ℕ) × IsAll a x × Reads res (script_of x)
+    → Gives res (finished r r.line) → (x : List ℕ) × IsAll a x × Gives res (script_of x)
 came_whole a b c r res h came end gives =
     let all = came_further a b c r r [] h came refl in (
       all.bytes,
       whole a c all.bytes all.comes end,
-      gives_reads res _ (let P : Result (List NumberedLine) ScriptFault → Type 0 = λ v. Gives (λ lines. lines) res v in
+      (let P : Result (List NumberedLine) ScriptFault → Type 0 = λ v. Gives res v in
           subst P (sym (ap (λ v. v >>= λ s. finished s s.line) all.leads) ∙ reads_meaning OneNode false all.bytes) gives),
     )

@@ -52,8 +52,10 @@ which_text DiskBytes = codes "disk-bytes"
 
 -- the line that says why a script was not played
 abbrev pub fault_line : ScriptFault → List ℕ
-fault_line (faults.Refused line word kind) = codes "refused" ++ spaced line ++ spaced word ++ codes " " ++ kind_text kind ++ newline
-fault_line (faults.Limit which count) = codes "limit " ++ which_text which ++ spaced count ++ newline
+fault_line (faults.Refused line word kind) =
+    codes "refused" ++ spaced line ++ spaced word ++ codes " " ++ kind_text kind ++ newline
+fault_line (faults.Limit which count) =
+    codes "limit " ++ which_text which ++ spaced count ++ newline
 
 -- a view in a form
 abbrev pub written : Form → View → List ℕ
@@ -71,8 +73,8 @@ status_of (Ok lines) = statuses.Ok
 status_of (Err (faults.Refused line word kind)) = statuses.Refused line word kind
 status_of (Err (faults.Limit which count)) = statuses.Limit which count
 
--- this status and this text were due and come, but for a fault or want of memory: at a read fault and
--- at want of memory nothing was written, at a write fault a front of the text
+-- this status and this text were due and come, but for a fault or want of memory: at a read fault
+-- and at want of memory nothing was written, at a write fault a front of the text
 abbrev pub Writes : Status → Status → List ℕ → Option (List ℕ) → Option (List ℕ) → Type 0
 Writes statuses.ReadFault due text old new = Adds old [] new
 Writes statuses.NoMemory due text old new = Adds old [] new
@@ -80,8 +82,10 @@ Writes statuses.WriteFault due text old new = AddsFront old text new
 Writes status due text old new = (status ≡ due) × Adds old text new
 
 -- what a run answers and writes in a form for a script of this meaning
-abbrev pub Answers : Status → Form → Result (List NumberedLine) ScriptFault → Option (List ℕ) → Option (List ℕ) → Type 0
-Answers status form meaning old new = Writes status (status_of meaning) (output form meaning) old new
+abbrev pub Answers : Status → Form → Result (List NumberedLine) ScriptFault
+    → Option (List ℕ) → Option (List ℕ) → Type 0
+Answers status form meaning old new =
+    Writes status (status_of meaning) (output form meaning) old new
 
 -- the form that a word names
 abbrev pub form_named : List ℕ → Option Form
@@ -97,7 +101,8 @@ form_in option = if bytes_eq option (codes "--form=text") then Some forms.Text
 abbrev pub form_asked : List (List ℕ) → Option Form
 form_asked (word ∷ []) = if bytes_eq word (codes "run") then Some forms.Text else None
 form_asked (word ∷ option ∷ []) = if bytes_eq word (codes "run") then form_in option else None
-form_asked (word ∷ option ∷ name ∷ []) = if bytes_eq word (codes "run") && bytes_eq option (codes "--form") then form_named name else None
+form_asked (word ∷ option ∷ name ∷ []) =
+    if bytes_eq word (codes "run") && bytes_eq option (codes "--form") then form_named name else None
 form_asked words = None
 
 -- what is written where the words ask for nothing

@@ -1,5 +1,7 @@
--- A result of the code against what the bytes mean: want of memory alone is free.
-use Rattle.std.specs.Prelude.{◌≡◌, ℕ, false, List, Option, Result, Ok, Err}
+-- A result of the code against what the bytes mean: want of memory and a fault of the source are
+-- free.
+use Rattle.std.specs.Prelude.{◌≡◌, ℕ, false, List, Option, None, Some, Result, Ok}
+use Rattle.rp_base.specs.Gives as results
 use Rattle.rp_outside.specs.Devices.{Comes}
 use Rattle.rp_script.specs.Reading.{Reading, unread, fed_all}
 use Rattle.rp_script.specs.declared.built.Forms.TheVariants.{OneNode}
@@ -14,23 +16,15 @@ abbrev pub stop_of : ScriptStop → Stop
 stop_of (inner.Judged fault) = stops.Judged fault
 stop_of inner.NoMemory = stops.NoMemory
 
--- what stops the reading is what the bytes say, or want of memory
-abbrev pub Stops : {Y : Type 0} → Stop → Result Y ScriptFault → Type 0
-Stops (stops.Judged fault) v = v ≡ Err fault
-Stops stops.NoMemory v = Unit {0}
-Stops stops.ReadFault v = ⊥
+-- what a stop says of the bytes: nothing where memory was refused or the source failed
+abbrev pub fault_of : Stop → Option ScriptFault
+fault_of (stops.Judged fault) = Some fault
+fault_of stops.NoMemory = None
+fault_of stops.ReadFault = None
 
--- a result is what the bytes say, but for want of memory
-abbrev pub Gives : {X Y : Type 0} → (X → Y) → Result X Stop → Result Y ScriptFault → Type 0
-Gives view (Ok x) v = v ≡ Ok (view x)
-Gives view (Err stop) v = Stops stop v
-
--- the same for a source that may fail
-abbrev pub Reads : {Y : Type 0} → Result Y Stop → Result Y ScriptFault → Type 0
-Reads (Ok y) v = v ≡ Ok y
-Reads (Err (stops.Judged fault)) v = v ≡ Err fault
-Reads (Err stops.NoMemory) v = Unit {0}
-Reads (Err stops.ReadFault) v = Unit {0}
+-- a result is what the bytes say, but for want of memory and a fault of the source
+abbrev pub Gives : {X : Type 0} → Result X Stop → Result X ScriptFault → Type 0
+Gives result meant = results.Gives (λ x. x) fault_of result meant
 
 -- what came of the source so far led to this reading
 pub record HasCome (old new : Option (List ℕ)) (reading : Reading) : Type 0 where

@@ -96,7 +96,8 @@ fn put_report<K: Sink>(alloc: Global, sink: &mut K, lines: &[NumberedLine], form
 
 /// Writes why a script was not played.
 fn put_fault<K: Sink>(alloc: Global, sink: &mut K, fault: ScriptFault) -> Status
-    ensures answers { Writes result (status_of (Err fault)) (fault_line fault) (K.held sink.old) (K.held sink.new) }
+    ensures answers { Writes result (status_of (Err fault)) (fault_line fault)
+        (K.held sink.old) (K.held sink.new) }
     ensures faults { K.faults sink.old ≤ K.faults sink.new }
     ensures cause { result ≡ Status.WriteFault → Rose (K.faults sink.old) (K.faults sink.new) }
     ensures calm { result ≢ Status.WriteFault → K.faults sink.new ≡ K.faults sink.old }
@@ -112,7 +113,8 @@ fn put_fault<K: Sink>(alloc: Global, sink: &mut K, fault: ScriptFault) -> Status
     }
 }
 
-/// Reads a script to its end, plays it, and writes what it shows, each with the causes of its answers.
+/// Reads a script to its end, plays it, and writes what it shows, each with the causes of its
+/// answers.
 fn call<S: Source, K: Sink>(alloc: Global, source: &mut S, sink: &mut K, form: Form) -> Status
     ensures answers { (bytes : List ℕ) × IsAll (S.left source.old) bytes
         × Answers result form (script_of bytes) (K.held sink.old) (K.held sink.new) }
@@ -121,8 +123,10 @@ fn call<S: Source, K: Sink>(alloc: Global, source: &mut S, sink: &mut K, form: F
     ensures end { result ≡ Status.Ok → IsAtEnd (S.left source.new) }
     ensures source { S.faults source.old ≤ S.faults source.new }
     ensures sink { K.faults sink.old ≤ K.faults sink.new }
-    ensures read_fault { result ≡ Status.ReadFault → Rose (S.faults source.old) (S.faults source.new) }
-    ensures write_fault { result ≡ Status.WriteFault → Rose (K.faults sink.old) (K.faults sink.new) }
+    ensures read_fault { result ≡ Status.ReadFault
+        → Rose (S.faults source.old) (S.faults source.new) }
+    ensures write_fault { result ≡ Status.WriteFault
+        → Rose (K.faults sink.old) (K.faults sink.new) }
     ensures source_calm { result ≢ Status.ReadFault → S.faults source.new ≡ S.faults source.old }
     ensures sink_calm { result ≢ Status.WriteFault → K.faults sink.new ≡ K.faults sink.old }
 {
@@ -153,18 +157,23 @@ pub fn run_call<S: Source, K: Sink>(
     // Each other answer has its cause, and a fault has its answer.
     ensures usage { result ≢ Status.Usage }
     ensures refused { (line word : ℕ) (kind : LineKind) → result ≡ Status.Refused line word kind
-        → (bytes : List ℕ) × IsAll (S.left source.old) bytes × (script_of bytes ≡ Err (Refused line word kind)) }
+        → (bytes : List ℕ) × IsAll (S.left source.old) bytes
+        × (script_of bytes ≡ Err (Refused line word kind)) }
     ensures limit { (which : Which) (count : ℕ) → result ≡ Status.Limit which count
-        → (bytes : List ℕ) × IsAll (S.left source.old) bytes × (script_of bytes ≡ Err (Limit which count)) }
+        → (bytes : List ℕ) × IsAll (S.left source.old) bytes
+        × (script_of bytes ≡ Err (Limit which count)) }
     ensures source { S.faults source.old ≤ S.faults source.new }
     ensures sink { K.faults sink.old ≤ K.faults sink.new }
-    ensures read_fault { result ≡ Status.ReadFault → Rose (S.faults source.old) (S.faults source.new) }
-    ensures write_fault { result ≡ Status.WriteFault → Rose (K.faults sink.old) (K.faults sink.new) }
+    ensures read_fault { result ≡ Status.ReadFault
+        → Rose (S.faults source.old) (S.faults source.new) }
+    ensures write_fault { result ≡ Status.WriteFault
+        → Rose (K.faults sink.old) (K.faults sink.new) }
     ensures source_calm { result ≢ Status.ReadFault → S.faults source.new ≡ S.faults source.old }
     ensures sink_calm { result ≢ Status.WriteFault → K.faults sink.new ≡ K.faults sink.old }
 
     // With no fault the answer is the script's, or want of memory.
-    ensures complete { ¬ (Rose (S.faults source.old) (S.faults source.new)) → ¬ (Rose (K.faults sink.old) (K.faults sink.new))
+    ensures complete { ¬ (Rose (S.faults source.old) (S.faults source.new))
+        → ¬ (Rose (K.faults sink.old) (K.faults sink.new))
         → (bytes : List ℕ) × IsAll (S.left source.old) bytes
         × ((result ≡ Status.NoMemory) ⊎ (result ≡ status_of (script_of bytes))) }
 {
@@ -185,8 +194,8 @@ fn put_usage<K: Sink>(sink: &mut K) -> Status
     }
 }
 
-/// All that the program does: the words without the program's name, a source and a sink. It answers the
-/// exit status. The words are judged first, and a source is read where they ask for a run alone.
+/// All that the program does: the words without the program's name, a source and a sink. It answers
+/// the exit status. The words are judged first, and a source is read where they ask for a run alone.
 pub fn top_call<S: Source, K: Sink>(
     alloc: Global,
     words: &[String],
@@ -194,19 +203,25 @@ pub fn top_call<S: Source, K: Sink>(
     sink: &mut K,
 ) -> u8
     // The status and what was written are those that are due, but for a fault or want of memory.
-    ensures answers { (bytes : List ℕ) × (status : Status) × IsAll (S.left source.old) bytes × (result ≡ code_of status)
-        × Writes status (status_due (map string_bytes words.now) bytes) (text_due (map string_bytes words.now) bytes) (K.held sink.old) (K.held sink.new) }
+    ensures answers { (bytes : List ℕ) × (status : Status) × IsAll (S.left source.old) bytes
+        × (result ≡ code_of status)
+        × Writes status (status_due (map string_bytes words.now) bytes)
+        (text_due (map string_bytes words.now) bytes) (K.held sink.old) (K.held sink.new) }
 
     // The headline holds of what is shown, and the source was read to its end.
     ensures headline { result ≡ 0 → (bytes : List ℕ) × IsAll (S.left source.old) bytes
-        × (form : Form) × (form_asked (map string_bytes words.now) ≡ Some form) × IsShownRun form bytes (K.held sink.old) (K.held sink.new) }
+        × (form : Form) × (form_asked (map string_bytes words.now) ≡ Some form)
+        × IsShownRun form bytes (K.held sink.old) (K.held sink.new) }
     ensures end { result ≡ 0 → IsAtEnd (S.left source.new) }
 
     // Each other answer has its cause, and a fault has its answer.
     ensures usage { result ≡ 2 → form_asked (map string_bytes words.now) ≡ None }
-    ensures unread { form_asked (map string_bytes words.now) ≡ None → S.left source.new ≡ S.left source.old }
-    ensures refused { result ≡ 3 → (bytes : List ℕ) × IsAll (S.left source.old) bytes × IsRefused (script_of bytes) }
-    ensures limit { result ≡ 4 → (bytes : List ℕ) × IsAll (S.left source.old) bytes × IsLimited (script_of bytes) }
+    ensures unread { form_asked (map string_bytes words.now) ≡ None
+        → S.left source.new ≡ S.left source.old }
+    ensures refused { result ≡ 3 → (bytes : List ℕ) × IsAll (S.left source.old) bytes
+        × IsRefused (script_of bytes) }
+    ensures limit { result ≡ 4 → (bytes : List ℕ) × IsAll (S.left source.old) bytes
+        × IsLimited (script_of bytes) }
     ensures source { S.faults source.old ≤ S.faults source.new }
     ensures sink { K.faults sink.old ≤ K.faults sink.new }
     ensures read_fault { result ≡ 5 → Rose (S.faults source.old) (S.faults source.new) }
@@ -215,7 +230,8 @@ pub fn top_call<S: Source, K: Sink>(
     ensures sink_calm { result ≢ 6 → K.faults sink.new ≡ K.faults sink.old }
 
     // With no fault the answer is the one that is due, or want of memory.
-    ensures complete { ¬ (Rose (S.faults source.old) (S.faults source.new)) → ¬ (Rose (K.faults sink.old) (K.faults sink.new))
+    ensures complete { ¬ (Rose (S.faults source.old) (S.faults source.new))
+        → ¬ (Rose (K.faults sink.old) (K.faults sink.new))
         → (bytes : List ℕ) × IsAll (S.left source.old) bytes
         × ((result ≡ 7) ⊎ (result ≡ code_of (status_due (map string_bytes words.now) bytes))) }
 {

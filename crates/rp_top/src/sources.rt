@@ -6,7 +6,7 @@ ghost use Rattle.rp_script.specs.Bounds.{IsTaken};
 ghost use Rattle.rp_script.specs.declared.built.Forms.TheVariants.{OneNode};
 ghost use Rattle.rp_script.specs.Reading.{fed_all, finished, weight};
 ghost use Rattle.rp_top.specs.Scripts.{script_of};
-ghost use Rattle.rp_top.specs.Gives.{Gives, Reads};
+ghost use Rattle.rp_top.specs.Gives.{Gives};
 
 use crate::stops::{Stop, stop_of};
 use rp_base::Seq;
@@ -16,7 +16,8 @@ use std::alloc::Global;
 
 /// Feeds a piece of the source.
 fn feed(reader: ScriptReader, piece: &[u8]) -> Result<ScriptReader, Stop>
-    ensures gives { Gives (λ fed. fed) result (fed_all reader piece.now) }
+    ensures gives { Gives result (fed_all reader piece.now) }
+    ensures calm { result ≢ Err Stop.ReadFault }
     ensures further { IfOk result (λ fed. weight reader + length piece.now ≤ weight fed) }
     ensures ends { IfOk result (λ fed. weight fed ≤ 16842752) }
     ensures forms { IfOk result (λ fed. fed.forms ≡ reader.forms) }
@@ -29,7 +30,8 @@ fn feed(reader: ScriptReader, piece: &[u8]) -> Result<ScriptReader, Stop>
 
 /// Ends the source.
 fn finish(reader: ScriptReader) -> Result<Seq<NumberedLine>, Stop>
-    ensures gives { Gives (λ lines. lines) result (finished reader reader.line) }
+    ensures gives { Gives result (finished reader reader.line) }
+    ensures calm { result ≢ Err Stop.ReadFault }
     ensures few { IfOk result (λ lines. length lines ≤ 65536) }
     ensures taken { IfOk result (λ lines. AllByRecursion (IsTaken reader.forms) lines) }
 {
@@ -39,10 +41,11 @@ fn finish(reader: ScriptReader) -> Result<Seq<NumberedLine>, Stop>
     }
 }
 
-/// Reads the lines of a script to the source's end, in pieces of up to 4,096 bytes. The first fault of
-/// the source, limit or refusal ends the reading, and the rest is left unread.
+/// Reads the lines of a script to the source's end, in pieces of up to 4,096 bytes. The first fault
+/// of the source, limit or refusal ends the reading, and the rest is left unread.
 pub fn read_script<S: Source>(alloc: Global, source: &mut S) -> Result<Seq<NumberedLine>, Stop>
-    ensures script { (bytes : List ℕ) × IsAll (S.left source.old) bytes × Reads result (script_of bytes) }
+    ensures script { (bytes : List ℕ) × IsAll (S.left source.old) bytes
+        × Gives result (script_of bytes) }
     ensures end { OnOk result (IsAtEnd (S.left source.new)) }
     ensures few { IfOk result (λ lines. length lines ≤ 65536) }
     ensures taken { IfOk result (λ lines. AllByRecursion (IsTaken OneNode) lines) }

@@ -27,7 +27,8 @@ fn words(alloc: Global, texts: &[&str]) -> Result<Vec<String>, Fail> {
     Ok(words)
 }
 
-/// Whether the words and the script give this status and this output, with ample memory and no fault.
+/// Whether the words and the script give this status and this output, with ample memory and no
+/// fault.
 fn gives(
     alloc: Global,
     texts: &[&str],

@@ -2,6 +2,7 @@
 use Rattle.std.proofs.Common.{◌≡◌, ◌≤◌, ◌+◌, ◌-◌, ℕ, Bool, true, false, cond, nat_lt, List, [], ◌∷◌, length, Option, None, Some, refl, ◌∙◌, arith, length-append}
 use Rattle.std.specs.Prelude.{slice_get, IsFalse}
 use Rattle.std.specs.List.{AllByRecursion}
+use Rattle.rp_base.proofs.Elements.{all_filter, all_snoc, each_at}
 use Rattle.rp_base.specs.declared.ranges.Desc.{Desc}
 use Rattle.rp_base.specs.declared.items.Item.TheVariants as items
 use Rattle.rp_request.specs.Covers.{is_split}
@@ -22,7 +23,6 @@ use Rattle.rp_replica.specs.Replicas.{Replica}
 use Rattle.rp_replica.specs.declared.plans.Turn.{Turn}
 use Rattle.rp_replica.specs.declared.plans.Turn.TheVariants as turns
 use Rattle.rp_world.specs.Sound.{IsSent, IsGiven, IsWrite, IsSoundReplica}
-use Rattle.rp_world.proofs.SoundLists.{all_snoc, all_filter, each_at}
 use Rattle.rp_world.proofs.SoundFlush.{changed_sent}
 
 written_lai : (s : AppliedState) (c : Command) (v : Verdict) (last : ℕ) → s.lai ≤ last → c.max ≤ last → (written s c v).lai ≤ last

@@ -4,6 +4,7 @@ use Rattle.std.proofs.Math.Nat.{max-eq_left}
 use Rattle.std.specs.Prelude.{filter_map, IsFalse}
 use Rattle.std.specs.List.{AllByRecursion, filter, cons_option}
 use Rattle.std.specs.Option.{option_map}
+use Rattle.rp_base.proofs.Elements.{all_append, all_filter, all_map, all_weaker, fewer_filtered, fewer_mapped}
 use Rattle.rp_base.specs.declared.ids.CmdId.{CmdId}
 use Rattle.rp_base.specs.declared.items.Item.{Item}
 use Rattle.rp_base.specs.declared.items.Item.TheVariants as items
@@ -24,7 +25,6 @@ use Rattle.rp_replica.proofs.Assigning.{few_entries, length_entries}
 use Rattle.rp_replica.proofs.Carrying.{read_back}
 use Rattle.rp_world.specs.Sound.{IsSent, IsGiven, IsWrite, IsSoundReplica}
 use Rattle.rp_replica.specs.Writes.{WritesFit}
-use Rattle.rp_world.proofs.SoundLists.{all_append, all_weaker, all_map, all_filter, fewer_filtered, fewer_mapped}
 
 -- a change that keeps id and request
 changed_by : (sent : List ℕ) (b : Bool) (p q : Proposal) → IsSent sent p → IsSent sent q → IsSent sent (cond b q p)

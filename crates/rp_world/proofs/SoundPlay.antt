@@ -3,8 +3,9 @@ use Rattle.std.proofs.Common.{◌≡◌, ◌≢◌, ◌≤◌, ◌<◌, ◌+◌,
 use Rattle.std.specs.Prelude.{IsFalse, ◌^◌}
 use Rattle.std.specs.List.{AllByRecursion}
 use Rattle.std.proofs.Math.Nat.{max-eq_left}
-use Rattle.std.proofs.lemmas.List.{drop_more, length-replicate, get_or-set_other, get_or-set_same, length-set}
-use Rattle.std.proofs.lemmas.Bool.Decides.{nat_tests}
+use Rattle.std.proofs.lemmas.List.{drop_more, length-replicate}
+use Rattle.rp_base.proofs.ClientCountLaws.{client_within, counts_bounded, counts_grow, none_counted_at, one_more_counted, one_more_length}
+use Rattle.rp_base.proofs.Elements.{all_append, all_snoc, all_weaker}
 use Rattle.rp_base.specs.declared.ids.CmdId.{CmdId}
 use Rattle.rp_base.specs.declared.items.Item.TheVariants as items
 use Rattle.rp_request.specs.Covers.{is_split}
@@ -37,19 +38,13 @@ use Rattle.rp_world.specs.Playing.{applied, asked, collected, flushed, happens, 
 use Rattle.rp_world.specs.Sound.{IsSent, IsGiven, IsWrite, IsSoundReplica, IsSound, FlushFits}
 use Rattle.rp_replica.specs.Writes.{WritesFit}
 use Rattle.rp_world.specs.Worlds.{World, started, with_note, with_outcome, took, next_command, counted}
-use Rattle.rp_world.proofs.SoundLists.{all_snoc, all_append, all_weaker}
 use Rattle.rp_world.proofs.SoundFlush.{flush_sound}
 use Rattle.rp_world.proofs.SoundApply.{apply_sound, entry_known, may_apply, more_sound}
-
-pub none_sent : (n i : ℕ) → get_or (replicate {A = ℕ} n zero) i zero ≡ zero
-none_sent zero i = refl
-none_sent (suc n) zero = refl
-none_sent (suc n) (suc i) = none_sent n i
 
 pub starts_sound : IsSound started 0 0
 starts_sound = record {
   clients = length-replicate {A = ℕ} 64 0;
-  counts = λ i. (let e = none_sent 64 i in omega (arith, e));
+  counts = λ i. (let e = none_counted_at i in omega (arith, e));
   waiting = tt;
   replica = record { pending = tt; entries = tt; base = refl; index = omega arith; lai = omega arith; seq = refl; inbox = tt; given = omega arith; written = omega arith };
 }
@@ -78,32 +73,14 @@ resent r old new k most grows h = record {
   written = h.written;
 }
 
-set_at : (xs : List ℕ) (c v j : ℕ) → c < length xs → (b : Bool) → (j == c) ≡ b → get_or (set xs c v) j 0 ≡ cond b v (get_or xs j 0)
-set_at xs c v j within true e = ap (λ i. get_or (set xs c v) i 0) (eqb-true j c e) ∙ get_or-set_same xs c v 0 within
-set_at xs c v j within false e =
-    let other : j ≢ c = grind (arith, nat_tests) in
-    get_or-set_other xs c j v 0 other
-
-pub set_bounds : (xs : List ℕ) (c n j : ℕ) → c < length xs → ((i : ℕ) → get_or xs i 0 ≤ n) → (b : Bool) → (j == c) ≡ b
-    → (get_or xs j 0 ≤ get_or (set xs c (get_or xs c 0 + 1)) j 0) × (get_or (set xs c (get_or xs c 0 + 1)) j 0 ≤ n + 1)
-set_bounds xs c n j within few true e =
-    let at = set_at xs c (get_or xs c 0 + 1) j within true e in
-    let same : get_or xs j 0 ≡ get_or xs c 0 = ap (λ i. get_or xs i 0) (eqb-true j c e) in
-    let a = few c in
-    (omega (arith, at, same), omega (arith, at, a))
-set_bounds xs c n j within few false e =
-    let at = set_at xs c (get_or xs c 0 + 1) j within false e in
-    let a = few j in
-    (omega (arith, at), omega (arith, at, a))
-
 counted_sound : (w : World) (client n most : ℕ) → 1 ≤ client → client ≤ 64 → IsSound w n most → IsSound (counted w client) (n + 1) most
 counted_sound w client n most from_one to_limit h =
-    let within : client - 1 < length w.sent = omega (arith, h.clients, from_one, to_limit) in
+    let within = client_within w.sent client h.clients from_one to_limit in
     record {
-      clients = length-set w.sent (client - 1) _ ∙ h.clients;
-      counts = λ i. (set_bounds w.sent (client - 1) n i within h.counts _ refl).1;
+      clients = one_more_length w.sent client ∙ h.clients;
+      counts = counts_bounded w.sent client n within h.counts;
       waiting = h.waiting;
-      replica = resent w.replica w.sent _ _ most (λ j. (set_bounds w.sent (client - 1) n j within h.counts _ refl).0) h.replica;
+      replica = resent w.replica w.sent _ _ most (λ j. counts_grow w.sent client j within) h.replica;
     }
 
 placed_by : (w : World) (n most line : ℕ) (id : CmdId) (b : Bool) → IsSound w n most
@@ -157,8 +134,7 @@ sent_by : (w : World) (n most line client : ℕ) (request : Request) (b : Bool) 
     → IsSound (cond b (asked (counted w client) line (next_command w client) request)
     (with_outcome (counted w client) (next_command w client) (outcomes.Refused NoReplica))) (n + 1) (most + 1)
 sent_by w n most line client request true from_one to_limit plain h =
-    let within : client - 1 < length w.sent = omega (arith, h.clients, from_one, to_limit) in
-    let at = get_or-set_same w.sent (client - 1) (get_or w.sent (client - 1) 0 + 1) 0 within in
+    let at = one_more_counted w.sent client (client_within w.sent client h.clients from_one to_limit) in
     told_sound (counted w client) (n + 1) most line (next_command w client) request (guarded w.replica request)
     (counted_sound w client n most from_one to_limit h) (omega (arith, at)) plain
 sent_by w n most line client request false from_one to_limit plain h =

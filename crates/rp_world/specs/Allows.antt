@@ -1,5 +1,6 @@
 -- Which lines may be played at a node.
-use Rattle.std.specs.Prelude.{◌≡◌, ℕ, ◌+◌, ◌-◌, ◌≤◌, ◌<◌, ◌^◌, None, slice_index}
+use Rattle.std.specs.Prelude.{◌≡◌, ℕ, ◌+◌, ◌≤◌, ◌<◌, ◌^◌, None}
+use Rattle.rp_base.specs.ClientCounts.{count_of}
 use Rattle.rp_pending.specs.Proposals.{proposal_of}
 use Rattle.rp_replica.specs.Allows.{MayFlush, MayApply}
 use Rattle.rp_script.specs.declared.lines.ScriptLine.{ScriptLine}
@@ -11,7 +12,7 @@ use Rattle.rp_world.specs.Playing.{collected}
 pub record MaySend (w : World) (client : ℕ) : Type 0 where
   pub from_one : 1 ≤ client
   pub to_limit : client ≤ 64
-  pub count : slice_index w.sent (client - 1) + 1 < 2 ^ 32
+  pub count : count_of w.sent client + 1 < 2 ^ 32
   pub new : proposal_of (next_command w client) w.replica.pending ≡ None
 
 -- a send, a flush and an application have their conditions; each other line may be played

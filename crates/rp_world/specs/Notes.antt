@@ -17,4 +17,6 @@ nothing_text = codes "nothing"
 
 -- the applied value of a key, and the applied index
 abbrev pub peek_text : ℕ → Option Value → ℕ → List ℕ
-peek_text key value applied = codes "peek" ++ spaced_key key ++ codes " " ++ value_or_none value ++ codes " applied" ++ spaced applied
+peek_text key value applied =
+    codes "peek" ++ spaced_key key ++ codes " " ++ value_or_none value
+    ++ codes " applied" ++ spaced applied

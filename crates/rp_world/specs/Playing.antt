@@ -25,7 +25,8 @@ happens w e = event w.replica e 0 0 []
 abbrev pub has_replica : World → ℕ → Bool
 has_replica w range = w.replica.applied.state.desc.id == range
 
--- an admitted attempt waits for a flush where fewer than 16 items wait; else the line is told, and it stays pending
+-- an admitted attempt waits for a flush where fewer than 16 items wait; else the line is told, and
+-- it stays pending
 abbrev pub placed : World → ℕ → CmdId → World
 placed w line id = if nat_lt (length w.waiting) 16
     then record w { waiting = w.waiting ++ items.Write id ∷ [] }
@@ -39,7 +40,9 @@ told w line id _ = w
 
 -- an attempt asks to be admitted
 abbrev pub asked : World → ℕ → CmdId → Request → World
-asked w line id request = told (took w (happens w (events.Admit id request))) line id (happens w (events.Admit id request)).answer
+asked w line id request =
+    told (took w (happens w (events.Admit id request))) line id
+    (happens w (events.Admit id request)).answer
 
 -- a client's next command comes to a range
 abbrev pub sent : World → (line range client : ℕ) → Request → World
@@ -73,12 +76,14 @@ peeked w line key _ = w
 abbrev pub where_present : World → (line range : ℕ) → World → World
 where_present w line range next = if has_replica w range then next else with_note w line absent_text
 
--- what a line makes of the node; the lines that are not built yet, `cluster` and `end` change nothing
+-- what a line makes of the node; the lines that are not built yet, `cluster` and `end` change
+-- nothing
 abbrev pub played : World → ℕ → ScriptLine → World
 played w line (lines.Send node range client request) = sent w line range client request
 played w line (lines.Flush node range) = where_present w line range (flushed (collected w))
 played w line (lines.Apply node range) = where_present w line range (applied w line)
-played w line (lines.Peek node range key) = where_present w line range (peeked w line key (happens w (events.Peek key)).answer)
+played w line (lines.Peek node range key) =
+    where_present w line range (peeked w line key (happens w (events.Peek key)).answer)
 played w line _ = w
 
 -- lines one after another, each under its number

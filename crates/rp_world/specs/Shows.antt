@@ -11,7 +11,8 @@ use Rattle.rp_world.specs.Worlds.{World}
 abbrev pub IsShownEntry : CmdId × Outcome → Type 0
 IsShownEntry e = IsShownOutcome e.1
 
--- the range was not split, each outcome can be shown, and there is one record for each applied index, from 1 on
+-- the range was not split, each outcome can be shown, and there is one record for each applied
+-- index, from 1 on
 pub record IsShowing (w : World) : Type 0 where
   pub desc : w.replica.applied.state.desc ≡ first_desc
   pub outcomes : AllByRecursion IsShownEntry w.outcomes

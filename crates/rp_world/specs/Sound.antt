@@ -1,6 +1,7 @@
 -- What holds of a node along the lines of a script that are built.
-use Rattle.std.specs.Prelude.{◌≡◌, ℕ, ◌+◌, ◌-◌, ◌≤◌, List, length, Some, IsFalse, IsTrue, slice_index}
+use Rattle.std.specs.Prelude.{◌≡◌, ℕ, ◌+◌, ◌≤◌, List, length, Some, IsFalse, IsTrue, slice_index}
 use Rattle.std.specs.List.{AllByRecursion}
+use Rattle.rp_base.specs.ClientCounts.{count_of}
 use Rattle.rp_base.specs.declared.items.Item.{Item}
 use Rattle.rp_base.specs.declared.items.Item.TheVariants as items
 use Rattle.rp_request.specs.Covers.{is_split}
@@ -19,7 +20,7 @@ use Rattle.rp_world.specs.Playing.{collected, has_replica}
 
 -- the attempt is of a command that its client has sent, and that is no split
 pub record IsSent (sent : List ℕ) (p : Proposal) : Type 0 where
-  pub count : p.id.seq ≤ slice_index sent (p.id.client - 1)
+  pub count : p.id.seq ≤ count_of sent p.id.client
   pub plain : IsFalse (is_split p.request)
 
 -- the entry is read as a command that is no split, under a lease index that was given
@@ -46,7 +47,8 @@ pub record IsSoundReplica (r : Replica) (sent : List ℕ) (k most : ℕ) : Type 
   pub given : r.assigned + (length r.inbox + k) ≤ most
   pub written : length r.log.entries + (length r.inbox + k) ≤ most
 
--- a node whose clients have sent at most so many commands each, and whose other numbers stay below a bound
+-- a node whose clients have sent at most so many commands each, and whose other numbers stay below
+-- a bound
 pub record IsSound (w : World) (commands most : ℕ) : Type 0 where
   pub clients : length w.sent ≡ 64
   pub counts : (i : ℕ) → slice_index w.sent i ≤ commands
@@ -55,5 +57,6 @@ pub record IsSound (w : World) (commands most : ℕ) : Type 0 where
 
 -- where a line flushes, what it writes fits
 abbrev pub FlushFits : World → ScriptLine → Type 0
-FlushFits w (lines.Flush node range) = IsTrue (has_replica w range) → WritesFit (collected w).replica
+FlushFits w (lines.Flush node range) =
+    IsTrue (has_replica w range) → WritesFit (collected w).replica
 FlushFits w _ = Unit {0}

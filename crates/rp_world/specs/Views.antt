@@ -17,7 +17,8 @@ use Rattle.rp_world.specs.Worlds.{World}
 
 -- how an attempt ended
 abbrev pub answer_of : CmdId × Outcome → ReplyLine
-answer_of e = record { client = e.0.client; seq = e.0.seq; attempt = e.0.attempt; end = ends.Outcome e.1 }
+answer_of e =
+    record { client = e.0.client; seq = e.0.seq; attempt = e.0.attempt; end = ends.Outcome e.1 }
 
 -- a row as it is shown
 abbrev pub row_of : ℕ × Value → Row
@@ -25,7 +26,8 @@ row_of e = record { key = e.0; value = e.1 }
 
 -- how far a replica has come, and its rows by key
 abbrev pub replica_view : Replica → ReplicaView
-replica_view r = Live first_term r.applied.index r.applied.state.lai (map row_of (entries r.applied.state.table))
+replica_view r =
+    Live first_term r.applied.index r.applied.state.lai (map row_of (entries r.applied.state.table))
 
 -- its range: the description, the lease and the records
 abbrev pub range_view : Replica → RangeView

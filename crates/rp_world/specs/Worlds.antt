@@ -18,8 +18,8 @@ use Rattle.rp_replica.specs.declared.events.Ended.{Ended}
 abbrev pub Outcomes : Type 0
 Outcomes = List (CmdId × Outcome)
 
--- the node's replica, the items that wait in place of the proposal buffer, how many commands each of the
--- clients 1 to 64 sent, the outcome of each attempt, and what lines have told
+-- the node's replica, the items that wait in place of the proposal buffer, how many commands each
+-- of the clients 1 to 64 sent, the outcome of each attempt, and what lines have told
 pub record World : Type 0 where
   pub replica : Replica
   pub waiting : List Item
@@ -30,7 +30,12 @@ pub record World : Type 0 where
 -- no line was played: the replica is that of the whole key space, without rows and without entries
 abbrev pub started : World
 started = record {
-  replica = replicas.started 1 (record { desc = first_desc; lease = first_lease; lai = 0; table = empty }) 0 0;
+  replica = replicas.started 1 (record {
+    desc = first_desc;
+    lease = first_lease;
+    lai = 0;
+    table = empty;
+  }) 0 0;
   waiting = [];
   sent = no_counts;
   outcomes = [];

@@ -23,7 +23,8 @@ pub fn happen(
     happens: ReplicaEvent,
 ) -> Result<Effects, NoMemory>
     requires { Allows replica.old.replica happens }
-    ensures ok { IfOk result (λ e. leaves replica.new.replica e.answer e.outcomes ≡ event replica.old.replica happens 0 0 []) }
+    ensures ok { IfOk result (λ e. leaves replica.new.replica e.answer e.outcomes
+        ≡ event replica.old.replica happens 0 0 []) }
     ensures fits { happens ≡ Flush → OnOk result (WritesFit replica.old.replica) }
     ensures err { OnErr result (replica.new.replica ≡ replica.old.replica) }
 {
@@ -32,11 +33,12 @@ pub fn happen(
     Ok(replica.commit(alloc, plan))
 }
 
-/// The items that wait go to the replica, and none waits any more; or nothing happens where memory is
-/// wanting.
+/// The items that wait go to the replica, and none waits any more; or nothing happens where memory
+/// is wanting.
 pub fn collect(replica: &mut Replica, alloc: Global, waiting: &mut Items) -> Result<(), NoMemory>
     requires { length waiting.old.list ≤ 16 }
-    ensures replica { OnOk result (replica.new.replica ≡ (collected replica.old.replica waiting.old.list).replica) }
+    ensures replica { OnOk result (replica.new.replica
+        ≡ (collected replica.old.replica waiting.old.list).replica) }
     ensures waiting { OnOk result (waiting.new.list ≡ []) }
     ensures err { OnErr result (replica.new.replica ≡ replica.old.replica) }
     ensures kept { OnErr result (waiting.new.list ≡ waiting.old.list) }
@@ -66,7 +68,8 @@ pub fn end_one(
     id: CmdId,
     outcome: Outcome,
 ) -> Result<(), NoMemory>
-    ensures { OnOk result (outcomes.new.entries ≡ insert_entry cmd_cmp outcomes.old.entries id outcome) }
+    ensures { OnOk result (outcomes.new.entries
+        ≡ insert_entry cmd_cmp outcomes.old.entries id outcome) }
 {
     let end = Ended { id, outcome };
     end_all(outcomes, std::slice::from_ref(&end))

@@ -20,18 +20,21 @@ pub fn a_node_starts_sound()
 
 /// A line that is built leaves a sound node sound, with each number at most one greater.
 pub fn a_line_keeps_a_node_sound()
-    ensures { (w : World) (n : ℕ) (most : ℕ) (line : ℕ) (l : ScriptLine) → IsSound w n most → IsBounded l → unbuilt_in OneNode l ≡ None → FlushFits w l
+    ensures { (w : World) (n : ℕ) (most : ℕ) (line : ℕ) (l : ScriptLine)
+        → IsSound w n most → IsBounded l → unbuilt_in OneNode l ≡ None → FlushFits w l
         → IsSound (played w line l) (n + 1) (most + 1) }
 {}
 
 /// After at most 65,536 lines a sound node may play each line.
 pub fn a_sound_node_may_play()
-    ensures { (w : World) (n : ℕ) (most : ℕ) (l : ScriptLine) → IsSound w n most → n ≤ 65536 → most ≤ 65536 → IsBounded l → MayPlay w l }
+    ensures { (w : World) (n : ℕ) (most : ℕ) (l : ScriptLine)
+        → IsSound w n most → n ≤ 65536 → most ≤ 65536 → IsBounded l → MayPlay w l }
 {}
 
 /// And it can be shown.
 pub fn a_sound_node_can_be_shown()
-    ensures { (w : World) (n : ℕ) (most : ℕ) → IsSound w n most → most ≤ 65536 → w.replica.applied.index < 2 ^ 64 - 1 }
+    ensures { (w : World) (n : ℕ) (most : ℕ)
+        → IsSound w n most → most ≤ 65536 → w.replica.applied.index < 2 ^ 64 - 1 }
 {}
 
 /// At the start what a node shows can be written.
@@ -42,10 +45,12 @@ pub fn a_node_starts_showing()
 
 /// A line leaves it so.
 pub fn a_line_keeps_what_is_shown()
-    ensures { (w : World) (n : ℕ) (most : ℕ) (line : ℕ) (l : ScriptLine) → IsSound w n most → IsShowing w → IsShowing (played w line l) }
+    ensures { (w : World) (n : ℕ) (most : ℕ) (line : ℕ) (l : ScriptLine)
+        → IsSound w n most → IsShowing w → IsShowing (played w line l) }
 {}
 
 /// What a sound node shows can be written.
 pub fn what_is_shown_can_be_written()
-    ensures { (w : World) (n : ℕ) (most : ℕ) → IsSound w n most → most ≤ 65536 → IsShowing w → IsShownView (view_of w) }
+    ensures { (w : World) (n : ℕ) (most : ℕ)
+        → IsSound w n most → most ≤ 65536 → IsShowing w → IsShownView (view_of w) }
 {}

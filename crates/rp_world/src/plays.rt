@@ -106,18 +106,26 @@ impl World {
         }
     }
 
-    /// The applied value of a key is told.
-    fn peek(&mut self, line: u32, key: Key) -> Result<(), NoMemory>
-        ensures { OnOk result (self.new ≡ peeked self.old line key (happens self.old (events.Peek key)).answer) }
+    /// Notes what a peek answered.
+    fn show(&mut self, line: u32, key: Key, answer: EventAnswer) -> Result<(), NoMemory>
+        ensures { OnOk result (self.new ≡ peeked self.old line key answer) }
     {
-        let effects = self.happen(ReplicaEvent::Peek { key })?;
-        match effects.answer {
+        match answer {
             EventAnswer::Value { value, applied } => {
                 let text = peek_text(self.alloc, key, value, applied)?;
                 self.note(line, text)
             }
             _ => Ok(()),
         }
+    }
+
+    /// The applied value of a key is told.
+    fn peek(&mut self, line: u32, key: Key) -> Result<(), NoMemory>
+        ensures { OnOk result (self.new
+            ≡ peeked self.old line key (happens self.old (events.Peek key)).answer) }
+    {
+        let effects = self.happen(ReplicaEvent::Peek { key })?;
+        self.show(line, key, effects.answer)
     }
 
     /// The range has no replica here.
@@ -162,8 +170,8 @@ impl World {
         }
     }
 
-    /// Plays a line. A line that is not built yet, `cluster` and `end` change nothing. Want of memory
-    /// consumes the node, so that none is seen that has played half a line.
+    /// Plays a line. A line that is not built yet, `cluster` and `end` change nothing. Want of
+    /// memory consumes the node, so that none is seen that has played half a line.
     pub fn play(mut self, number: u32, line: &ScriptLine) -> Result<World, NoMemory>
         requires { MayPlay self line.now }
         ensures played { IfOk result (λ w. w ≡ played self number line.now) }

@@ -6,7 +6,7 @@ ghost use Rattle.rp_world.specs.Views.{answer_of, range_view, replica_view, row_
 use crate::worlds::World;
 use rp_base::{CmdId, FIRST_TERM, NoMemory, Seq};
 use rp_report::{RangeView, ReplicaView, Row, View};
-use rp_request::{ReplyLine, End, Outcome, Replies};
+use rp_request::{End, Outcome, Replies, ReplyLine};
 use rp_table::Table;
 use std::alloc::Global;
 use std::collections::BTreeMap;
@@ -29,12 +29,13 @@ fn answers_of(alloc: Global, outcomes: &BTreeMap<CmdId, Outcome>) -> Result<Repl
 {
     let mut answers = Vec::new(alloc);
     for (id, outcome) in outcomes {
-        answers.push(ReplyLine {
+        let line = ReplyLine {
             client: id.client,
             seq: id.seq,
             attempt: id.attempt,
             end: End::Outcome(*outcome),
-        })?;
+        };
+        answers.extend_from_slice(std::slice::from_ref(&line))?;
     }
     Ok(Seq::from_vec(answers))
 }

@@ -49,7 +49,8 @@ impl Model for World {
 }
 
 impl World {
-    /// A node that has played no line: its replica is that of the whole key space. It takes no memory.
+    /// A node that has played no line: its replica is that of the whole key space. It takes no
+    /// memory.
     pub fn start(alloc: Global) -> World
         ensures { result ≡ started }
     {

@@ -1,10 +1,9 @@
 -- Exactly the first attempts of the commands that clients have sent are told something.
 use Rattle.std.proofs.Common.{◌≡◌, ◌≢◌, ◌≤◌, ◌<◌, ◌+◌, ◌-◌, ◌==◌, ◌⊎◌, inl, inr, ℕ, Bool, true, false, cond, nat_lt, List, [], ◌∷◌, ◌++◌, length, get_or, set, Result, Ok, Err, Option, None, Some, is_some, refl, sym, ap, subst, ◌∙◌, arith, eqb-true}
-use Rattle.std.specs.Prelude.{◌↔◌, IsSome, slice_index}
+use Rattle.std.specs.Prelude.{◌↔◌, IsSome}
 use Rattle.std.specs.BTreeMap.{insert_entry}
 use Rattle.std.specs.List.{AllByRecursion}
 use Rattle.std.proofs.lemmas.Bool.Decides.{nat_tests}
-use Rattle.std.proofs.lemmas.List.{get_or-set_other, get_or-set_same}
 use Rattle.rp_base.specs.declared.ids.CmdId.{CmdId}
 use Rattle.rp_base.specs.declared.items.Item.TheVariants as items
 use Rattle.rp_request.specs.declared.commands.Payload.{Payload}
@@ -14,18 +13,20 @@ use Rattle.rp_request.specs.declared.outcomes.Refusal.{Refusal}
 use Rattle.rp_request.specs.declared.outcomes.Refusal.TheVariants.{NoReplica}
 use Rattle.rp_request.specs.declared.requests.Request.{Request}
 use Rattle.rp_request.specs.declared.evaluations.Evaluated.{Evaluated}
-use Rattle.rp_latch.proofs.Elements.{count_cons}
 use Rattle.rp_replica.specs.Admissions.{admitted_by, guarded}
 use Rattle.rp_replica.specs.Applications.{applied_where, next_payload}
 use Rattle.rp_replica.specs.Flushes.{flushed}
 use Rattle.rp_replica.specs.declared.events.Ended.{Ended}
 use Rattle.rp_replica.specs.declared.events.ReplicaEvent.TheVariants as events
+use Rattle.rp_base.specs.ClientCounts.{count_of, one_more_of}
+use Rattle.rp_base.proofs.ClientCountLaws.{none_counted, one_more_counted, others_counted}
+use Rattle.rp_base.proofs.Counts.{count_cons}
+use Rattle.rp_base.proofs.Elements.{all_weaker}
 use Rattle.rp_base.proofs.IdLaws.{id_cases}
 use Rattle.rp_refine.specs.Laws.{IsReached}
 use Rattle.rp_refine.specs.Runs.{Input, Run, begun, next, play, AllLawful}
 use Rattle.rp_refine.specs.Runs as runs
 use Rattle.rp_refine.proofs.Following.{reached_next}
-use Rattle.rp_refine.proofs.Settled.{all_weaker}
 use Rattle.rp_script.specs.Bounds.{IsBounded, IsTaken}
 use Rattle.rp_script.specs.declared.built.Forms.TheVariants.{OneNode}
 use Rattle.rp_script.specs.declared.lines.NumberedLine.{NumberedLine}
@@ -37,7 +38,6 @@ use Rattle.rp_world.specs.Playing as playing
 use Rattle.rp_base.specs.Ids.{cmd_cmp}
 use Rattle.rp_world.specs.Worlds.{World, Outcomes, counted, ended_in, next_command, started, took, with_note}
 use Rattle.rp_world.specs.Worlds as worlds
-use Rattle.rp_world.proofs.SoundPlay.{none_sent}
 use Rattle.rp_worldsafe.specs.Inputs.{all_inputs, input, inputs_of}
 use Rattle.rp_worldsafe.specs.Sends.{IsSentIn, is_send_of, sends_of}
 use Rattle.rp_worldsafe.specs.Told.{outcome_of}
@@ -55,7 +55,7 @@ IsNumbered n id = (id.attempt ≡ 1) × (1 ≤ id.seq) × (id.seq ≤ n id.clien
 
 -- each client has sent so many commands, and exactly their first attempts are told something
 record Answers (sent : List ℕ) (es : Outcomes) (n : ℕ → ℕ) : Type 0 where
-  counts : (client : ℕ) → 1 ≤ client → client ≤ 64 → get_or sent (client - 1) 0 ≡ n client
+  counts : (client : ℕ) → 1 ≤ client → client ≤ 64 → count_of sent client ≡ n client
   answered : (id : CmdId) → IsAnswered es id ↔ IsNumbered n id
 
 some_is : (o : Option Outcome) (v : Outcome) → o ≡ Some v → IsSome o
@@ -105,15 +105,14 @@ equal_answers sent es n m same a = subst (λ (k : ℕ → ℕ). Answers sent es 
 abbrev one_more : (ℕ → ℕ) → ℕ → ℕ → ℕ
 one_more n client c = n c + cond (client == c) 1 0
 
-more_counts : (sent : List ℕ) (n : ℕ → ℕ) (client c : ℕ) → 1 ≤ client → client - 1 < length sent → 1 ≤ c → get_or sent (c - 1) 0 ≡ n c → (b : Bool) → (client == c) ≡ b
-    → get_or (set sent (client - 1) (get_or sent (client - 1) 0 + 1)) (c - 1) 0 ≡ n c + cond b 1 0
+more_counts : (sent : List ℕ) (n : ℕ → ℕ) (client c : ℕ) → 1 ≤ client → client - 1 < length sent → 1 ≤ c → count_of sent c ≡ n c → (b : Bool) → (client == c) ≡ b
+    → count_of (one_more_of sent client) c ≡ n c + cond b 1 0
 more_counts sent n client c one within from_one e true same =
     let is : client ≡ c = eqb-true client c same in
-    let at = get_or-set_same sent (client - 1) (get_or sent (client - 1) 0 + 1) 0 within in
-    subst (λ d. get_or (set sent (client - 1) (get_or sent (client - 1) 0 + 1)) (d - 1) 0 ≡ get_or sent (d - 1) 0 + 1) is at ∙ ap (λ k. k + 1) e
+    subst (λ d. count_of (one_more_of sent client) d ≡ count_of sent d + 1) is (one_more_counted sent client within) ∙ ap (λ k. k + 1) e
 more_counts sent n client c one within from_one e false same =
-    let other : c - 1 ≢ client - 1 = grind (arith, nat_tests) in
-    let at = get_or-set_other sent (client - 1) (c - 1) (get_or sent (client - 1) 0 + 1) 0 other in
+    let other : c ≢ client = grind (arith, nat_tests) in
+    let at = others_counted sent client c one from_one other in
     omega (arith, at, e)
 
 -- the number of the client's next command, and no other, is added
@@ -253,7 +252,7 @@ nothing_told o none is = (let e = ap is_some none in cc)
 
 starts_answers : Answers started.sent started.outcomes (λ c. 0)
 starts_answers = record {
-  counts = λ client from_one to_limit. none_sent 64 (client - 1);
+  counts = λ client from_one to_limit. none_counted client;
   answered = λ id. ((λ is. absurd (nothing_told None refl is)), (λ h. absurd (omega (arith, h.1, h.2))));
 }
 
@@ -264,7 +263,7 @@ module _ (ls : List NumberedLine) (taken : AllByRecursion (IsTaken OneNode) ls) 
       (lines_answer started begun (λ c. 0) ls taken lawful starts_along starts_answers)
 
   -- each of the clients 1 to 64 is counted
-  pub counted_sends : (client : ℕ) → 1 ≤ client → client ≤ 64 → slice_index (played_all started ls).sent (client - 1) ≡ sends_of client ls
+  pub counted_sends : (client : ℕ) → 1 ≤ client → client ≤ 64 → count_of (played_all started ls).sent client ≡ sends_of client ls
   counted_sends = all_answers.counts
 
   pub answered : (id : CmdId) → IsSome (outcome_of (played_all started ls) id) ↔ IsSentIn ls id

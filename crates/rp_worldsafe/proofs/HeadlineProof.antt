@@ -1,6 +1,7 @@
 -- The headline of lines that may be played, by the laws of a run of one replica.
 use Rattle.std.proofs.Common.{◌≡◌, ℕ, ◌<◌, ◌≤◌, inl, inr, List, ◌++◌, None, Some, refl, sym, ap, subst, ◌∙◌}
-use Rattle.std.specs.Prelude.{◌↔◌, ◌-◌, IsSome, filter_map, slice_index}
+use Rattle.std.specs.Prelude.{◌↔◌, IsSome, filter_map}
+use Rattle.rp_base.specs.ClientCounts.{count_of}
 use Rattle.rp_base.specs.declared.ids.CmdId.{CmdId}
 use Rattle.rp_request.specs.declared.commands.Command.{Command}
 use Rattle.rp_request.specs.declared.outcomes.Ambiguity.{Ambiguity}
@@ -97,7 +98,7 @@ module _ (ls : List NumberedLine) (h : ArePlayable ls) where
   pub tells_all : (id : CmdId) → IsTold (node_after ls) (run_of ls) id
   tells_all id = told ls h.taken (lines_are_lawful ls h) id
 
-  pub sends_are_counted : (client : ℕ) → 1 ≤ client → client ≤ 64 → slice_index (node_after ls).sent (client - 1) ≡ sends_of client ls
+  pub sends_are_counted : (client : ℕ) → 1 ≤ client → client ≤ 64 → count_of (node_after ls).sent client ≡ sends_of client ls
   sends_are_counted = counted_sends ls h.taken (lines_are_lawful ls h)
 
   never : (id : CmdId) → IsRefusal (outcome_of (node_after ls) id) → NeverHasAPlace ls id

@@ -3,6 +3,8 @@ use Rattle.std.proofs.Common.{◌≡◌, ◌<◌, ◌≤◌, ◌+◌, ◌-◌, �
 use Rattle.std.specs.List.{AllByRecursion}
 use Rattle.std.proofs.lemmas.Bool.Decides.{nat_tests}
 use Rattle.rp_base.specs.Keys.{end_of}
+use Rattle.rp_base.proofs.ClientCountLaws.{client_within, counts_bounded, none_counted_at}
+use Rattle.rp_base.proofs.Elements.{all_snoc}
 use Rattle.rp_base.proofs.KeyLaws.{key_inside}
 use Rattle.rp_base.specs.declared.ids.CmdId.{CmdId}
 use Rattle.rp_base.specs.declared.items.Item.{Item}
@@ -31,8 +33,6 @@ use Rattle.rp_world.specs.Fits.{Fits, LineFits}
 use Rattle.rp_world.specs.Notes.{absent_text, full_text}
 use Rattle.rp_world.specs.Playing.{applied, asked, collected, flushed, happens, has_replica, noted, peeked, played, told}
 use Rattle.rp_world.specs.Worlds.{World, started, with_note, with_outcome, took, next_command, counted}
-use Rattle.rp_world.proofs.SoundLists.{all_snoc}
-use Rattle.rp_world.proofs.SoundPlay.{none_sent, set_bounds}
 use Rattle.rp_worldsafe.specs.Inputs.{input, inputs_of, all_inputs}
 use Rattle.rp_worldsafe.specs.Playable.{ArePlayable}
 use Rattle.rp_worldsafe.proofs.Told.{Along, along_line, play_append, starts_along}
@@ -88,7 +88,7 @@ line_sent w line _ = refl
 -- no client has sent more commands than there were lines
 counts_after : (w : World) (n : ℕ) (l : ScriptLine) → length w.sent ≡ 64 → IsBounded l → ((i : ℕ) → get_or w.sent i 0 ≤ n) → (i : ℕ) → get_or (sent_after w l) i 0 ≤ n + 1
 counts_after w n (lines.Send node range client q) clients b h i =
-    (set_bounds w.sent (client - 1) n i (omega (arith, clients, b.0, b.1)) h _ refl).1
+    counts_bounded w.sent client n (client_within w.sent client clients b.0 b.1) h i
 counts_after w n _ clients b h i = let c = h i in omega (arith, c)
 
 -- at most 16 items wait, whose numbers have their widths
@@ -212,7 +212,7 @@ follows_started = record {
   reached = refl;
   few = omega arith;
   along = starts_along;
-  counts = λ i. (let e = none_sent 64 i in omega (arith, e));
+  counts = λ i. (let e = none_counted_at i in omega (arith, e));
   waits = record { few = omega arith; fit = tt };
 }
 

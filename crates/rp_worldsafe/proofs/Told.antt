@@ -1,9 +1,8 @@
 -- The node keeps the outcomes that the run of its replica was told.
 use Rattle.std.proofs.Common.{◌≡◌, ◌≢◌, ◌≤◌, ◌<◌, ◌+◌, ◌-◌, ◌==◌, ◌⊎◌, inl, inr, ℕ, Bool, true, false, cond, nat_lt, List, [], ◌∷◌, ◌++◌, length, map, get_or, set, Result, Ok, Err, Option, None, Some, is_some, refl, sym, ap, subst, ◌∙◌, arith, eqb-true, append_assoc}
 use Rattle.std.specs.List.{AllByRecursion}
-use Rattle.std.proofs.lemmas.List.{get_or-set_other, get_or-set_same, length-set, length-replicate}
+use Rattle.std.proofs.lemmas.List.{length-replicate}
 use Rattle.std.proofs.lemmas.Bool.{cond_both, ltb-true, ltb-false}
-use Rattle.std.proofs.lemmas.Bool.Decides.{nat_tests}
 use Rattle.std.specs.BTreeMap.{insert_entry}
 use Rattle.rp_base.specs.declared.ids.CmdId.{CmdId}
 use Rattle.rp_base.specs.declared.items.Item.TheVariants as items
@@ -30,12 +29,14 @@ use Rattle.rp_replica.specs.declared.events.Ended.{Ended}
 use Rattle.rp_replica.specs.declared.events.ReplicaEvent.TheVariants as events
 use Rattle.rp_base.specs.Ids.{same_id}
 use Rattle.rp_rangesafe.specs.Attempts.{IsPending, Waiting, Attempts}
+use Rattle.rp_base.proofs.ClientCountLaws.{counts_grow, one_more_counted, one_more_length}
+use Rattle.rp_base.proofs.Elements.{all_weaker}
 use Rattle.rp_base.proofs.IdLaws.{id_cases, same_is, not_same_apart}
 use Rattle.rp_refine.specs.Laws.{IsReached}
 use Rattle.rp_refine.specs.Runs.{Input, Run, begun, with_outcome, with_ended, left_by, next, play, AllLawful}
 use Rattle.rp_refine.specs.Runs as runs
 use Rattle.rp_refine.proofs.Following.{Shown, shown_reached, reached_begun, reached_next}
-use Rattle.rp_refine.proofs.Settled.{all_wait, all_weaker}
+use Rattle.rp_refine.proofs.Settled.{all_wait}
 use Rattle.rp_refine.proofs.Shadows.{told_pending}
 use Rattle.rp_refine.proofs.Telling.{listed_is_pending}
 use Rattle.rp_script.specs.Bounds.{IsBounded, IsTaken}
@@ -215,15 +216,6 @@ went_nowhere : (w : World) (f : runs.Outcomes) (line : ℕ) (text : List ℕ) �
 went_nowhere w f line text long k = record { replica = refl; clients = long; kept = k; stays = λ q h. h }
 
 -- counts grow
-grown_at : (xs : List ℕ) (c j : ℕ) → c < length xs → (b : Bool) → (j == c) ≡ b → get_or xs j 0 ≤ get_or (set xs c (get_or xs c 0 + 1)) j 0
-grown_at xs c j within true e =
-    let at = get_or-set_same xs c (get_or xs c 0 + 1) 0 within in
-    subst (λ i. get_or xs i 0 ≤ get_or (set xs c (get_or xs c 0 + 1)) i 0) (sym (eqb-true j c e)) (omega (arith, at))
-grown_at xs c j within false e =
-    let other : j ≢ c = grind (arith, nat_tests) in
-    let at = get_or-set_other xs c j (get_or xs c 0 + 1) 0 other in
-    omega (arith, at)
-
 grown_kept : (sent more : List ℕ) (es : Outcomes) (f : runs.Outcomes) → ((j : ℕ) → get_or sent j 0 ≤ get_or more j 0) → Kept sent es f → Kept more es f
 grown_kept sent more es f grows k = record {
   told = k.told;
@@ -232,7 +224,7 @@ grown_kept sent more es f grows k = record {
 }
 
 counted_kept : (w : World) (client : ℕ) (f : runs.Outcomes) → client - 1 < length w.sent → Kept w.sent w.outcomes f → Kept (counted w client).sent w.outcomes f
-counted_kept w client f within k = grown_kept w.sent (counted w client).sent w.outcomes f (λ j. grown_at w.sent (client - 1) j within (j == client - 1) refl) k
+counted_kept w client f within k = grown_kept w.sent (counted w client).sent w.outcomes f (λ j. counts_grow w.sent client j within) k
 
 -- a client's next command was not told anything, and has been sent from now on
 next_fresh : (w : World) (client : ℕ) → IsFresh w.sent (next_command w client)
@@ -240,7 +232,7 @@ next_fresh w client = omega arith
 
 next_sent : (w : World) (client : ℕ) → client - 1 < length w.sent → WasSent (counted w client).sent (next_command w client)
 next_sent w client within =
-    let at = get_or-set_same w.sent (client - 1) (get_or w.sent (client - 1) 0 + 1) 0 within in
+    let at = one_more_counted w.sent client within in
     omega (arith, at)
 
 -- an attempt that was not asked is no fresh one
@@ -262,7 +254,7 @@ told_goes w f line client request (Ok e) within long k =
     placed_goes w (worlds.with_outcome (took (counted w client) (admitted_by w.replica id request (Ok e))) id Pending) f
     (left_by f (events.Admit id request) (admitted_by w.replica id request (Ok e))) line id (nat_lt (length w.waiting) 16) (record {
       replica = refl;
-      clients = length-set w.sent (client - 1) _ ∙ long;
+      clients = one_more_length w.sent client ∙ long;
       kept = put_kept (counted w client).sent w.outcomes f id Pending (next_sent w client within) (counted_kept w client f within k);
       stays = λ q h. put_unasked w.outcomes f id Pending q (unasked_apart w.sent w.outcomes f id q k (next_fresh w client) h) h;
     })
@@ -270,7 +262,7 @@ told_goes w f line client request (Err refusal) within long k =
     let id = next_command w client in
     record {
       replica = refl;
-      clients = length-set w.sent (client - 1) _ ∙ long;
+      clients = one_more_length w.sent client ∙ long;
       kept = put_kept (counted w client).sent w.outcomes f id (Refused refusal) (next_sent w client within) (counted_kept w client f within k);
       stays = λ q h. put_unasked w.outcomes f id (Refused refusal) q (unasked_apart w.sent w.outcomes f id q k (next_fresh w client) h) h;
     }
@@ -284,7 +276,7 @@ sent_goes w f line client request false within long k =
     let none = k.fresh id (next_fresh w client) in
     record {
       replica = refl;
-      clients = length-set w.sent (client - 1) _ ∙ long;
+      clients = one_more_length w.sent client ∙ long;
       kept = alone_kept (counted w client).sent w.outcomes f id (next_sent w client within) none.0 (counted_kept w client f within k);
       stays = λ q h. (put_other w.outcomes id (Refused NoReplica) q (unasked_apart w.sent w.outcomes f id q k (next_fresh w client) h) ∙ h.0, h.1);
     }

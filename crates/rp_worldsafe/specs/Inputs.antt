@@ -20,8 +20,10 @@ where_present w range inputs = if has_replica w range then inputs else []
 
 -- the events of a line
 abbrev pub inputs_of : World → ScriptLine → List Input
-inputs_of w (lines.Send node range client request) = where_present w range (input (events.Admit (next_command w client) request) [] ∷ [])
-inputs_of w (lines.Flush node range) = where_present w range (input events.Collect w.waiting ∷ input events.Flush [] ∷ [])
+inputs_of w (lines.Send node range client request) =
+    where_present w range (input (events.Admit (next_command w client) request) [] ∷ [])
+inputs_of w (lines.Flush node range) =
+    where_present w range (input events.Collect w.waiting ∷ input events.Flush [] ∷ [])
 inputs_of w (lines.Apply node range) = where_present w range (input events.Apply [] ∷ [])
 inputs_of w (lines.Peek node range key) = where_present w range (input (events.Peek key) [] ∷ [])
 inputs_of w _ = []

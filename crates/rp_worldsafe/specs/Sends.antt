@@ -15,7 +15,8 @@ is_send_of client _ = false
 abbrev pub sends_of : ℕ → List NumberedLine → ℕ
 sends_of client ls = count_by (λ l. is_send_of client l.line) ls
 
--- the attempt is the first of a command that its client sends; a client's commands are numbered from 1
+-- the attempt is the first of a command that its client sends; a client's commands are numbered
+-- from 1
 pub record IsSentIn (ls : List NumberedLine) (id : CmdId) : Type 0 where
   pub first : id.attempt ≡ 1
   pub from_one : 1 ≤ id.seq

@@ -18,7 +18,8 @@ outcome_of w id = lookup (is_at (cmd_cmp id)) w.outcomes
 abbrev pub IsKept : World → CmdId × Outcome → Type 0
 IsKept w e = outcome_of w e.0 ≡ Some e.1
 
--- the node has refused the attempt since the range has no replica there, and the replica was not asked
+-- the node has refused the attempt since the range has no replica there, and the replica was not
+-- asked
 abbrev pub IsUnasked : World → Run → CmdId → Type 0
 IsUnasked w x id = (outcome_of w id ≡ Some (Refused NoReplica)) × (x.outcome id ≡ None)
 

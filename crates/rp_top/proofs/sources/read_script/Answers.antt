@@ -10,7 +10,7 @@ returns-then-n-eq0-clause-script g c =
     came_whole _ _ _ _ _ c.loop-n.invariant.came (rw c.if-n-eq0.true at c.in-Ok.ensures.comes) (c.in-Ok.ensures.end c.if-n-eq0.true (omega arith)) c.finish.ensures.gives
 
 pub returns-in-Err-clause-script : goal.returns-in-Err-clause-script
-returns-in-Err-clause-script g c = came_stopped _ _ _ _ _ _ c.loop-n.invariant.came c.in-Ok.ensures.comes c.in-Err.ensures.gives
+returns-in-Err-clause-script g c = came_stopped _ _ _ _ _ c.in-Err.stop c.loop-n.invariant.came c.in-Ok.ensures.comes c.in-Err.ensures.gives
 
 pub loop-n-preserved : goal.loop-n-preserved
 loop-n-preserved g c = record {
