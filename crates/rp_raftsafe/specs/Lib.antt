@@ -3,6 +3,7 @@ pub mod Safety
 pub mod Bounds
 pub mod Many
 pub mod Proposed
+pub mod Starts
 pub use Rattle.rp_raftlog.specs.LogState
 pub use Rattle.rp_raftstep.specs.RaftState
 pub use Rattle.rp_raftstep.specs.Step

@@ -5,6 +5,7 @@
 ghost use Rattle.rp_raftsafe.specs.Safety.{OneLeader, LogsMatch, LeaderComplete, CommitsAgree, OneList, AppendsFit, SentToOthers, OnlyProposed};
 ghost use Rattle.rp_raftsafe.specs.Bounds.{Bounded};
 ghost use Rattle.rp_raftsafe.specs.Many.{SeesOwn, StartsNowhere};
+ghost use Rattle.rp_raftsafe.specs.Starts.{StartUnread, StartsUnread, ShutUnread};
 
 /// Election safety (Raft 2014, section 5.2): in each term at most one node is ever leader, at one time
 /// or at two.
@@ -66,4 +67,13 @@ pub fn bounded<S>()
 pub fn sees_own<S>()
     ensures run { SeesOwn S }
     ensures start { StartsNowhere S }
+{}
+
+/// Only Begin reads the state that a range starts with: of one range and of nodes with several, what
+/// happens is the same with another start, if each event that begins a range has its start in both. So
+/// what a range that has not begun sees does not depend on its start.
+pub fn only_begin_reads_start<S>()
+    ensures one { StartUnread S }
+    ensures many { StartsUnread S }
+    ensures shut { ShutUnread S }
 {}
