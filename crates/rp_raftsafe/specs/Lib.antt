@@ -4,6 +4,7 @@ pub mod Bounds
 pub mod Many
 pub mod Proposed
 pub mod Starts
+pub mod Snapshots
 pub use Rattle.rp_raftlog.specs.LogState
 pub use Rattle.rp_raftstep.specs.RaftState
 pub use Rattle.rp_raftstep.specs.Step

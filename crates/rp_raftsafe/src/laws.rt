@@ -6,6 +6,7 @@ ghost use Rattle.rp_raftsafe.specs.Safety.{OneLeader, LogsMatch, LeaderComplete,
 ghost use Rattle.rp_raftsafe.specs.Bounds.{Bounded};
 ghost use Rattle.rp_raftsafe.specs.Many.{SeesOwn, StartsNowhere};
 ghost use Rattle.rp_raftsafe.specs.Starts.{StartUnread, StartsUnread, ShutUnread};
+ghost use Rattle.rp_raftsafe.specs.Snapshots.{TakesAbove, StepTakesAbove, SnapsWereApplied};
 
 /// Election safety (Raft 2014, section 5.2): in each term at most one node is ever leader, at one time
 /// or at two.
@@ -76,4 +77,17 @@ pub fn only_begin_reads_start<S>()
     ensures one { StartUnread S }
     ensures many { StartsUnread S }
     ensures shut { ShutUnread S }
+{}
+
+/// A snapshot that a Raft event takes in is the one that its message brings, and is above the commit
+/// index (Raft 2014, section 7). No other event takes one in.
+pub fn takes_above_commit<S>()
+    ensures message { TakesAbove S }
+    ensures step { StepTakesAbove S }
+{}
+
+/// A snapshot that was sent has the index up to which its sender had applied its log before one of the
+/// events, and the state that it had there (Raft 2014, section 7).
+pub fn snaps_were_applied<S>()
+    ensures { SnapsWereApplied S }
 {}
