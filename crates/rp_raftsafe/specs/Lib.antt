@@ -5,6 +5,7 @@ pub mod Many
 pub mod Proposed
 pub mod Starts
 pub mod Snapshots
+pub mod Parcels
 pub use Rattle.rp_raftlog.specs.LogState
 pub use Rattle.rp_raftstep.specs.RaftState
 pub use Rattle.rp_raftstep.specs.Step

@@ -7,6 +7,7 @@ ghost use Rattle.rp_raftsafe.specs.Bounds.{Bounded};
 ghost use Rattle.rp_raftsafe.specs.Many.{SeesOwn, StartsNowhere};
 ghost use Rattle.rp_raftsafe.specs.Starts.{StartUnread, StartsUnread, ShutUnread};
 ghost use Rattle.rp_raftsafe.specs.Snapshots.{TakesAbove, StepTakesAbove, SnapsWereApplied};
+ghost use Rattle.rp_raftsafe.specs.Parcels.{ParcelsAreMessages, ViewsOfHosts};
 
 /// Election safety (Raft 2014, section 5.2): in each term at most one node is ever leader, at one time
 /// or at two.
@@ -90,4 +91,11 @@ pub fn takes_above_commit<S>()
 /// events, and the state that it had there (Raft 2014, section 7).
 pub fn snaps_were_applied<S>()
     ensures { SnapsWereApplied S }
+{}
+
+/// A parcel that a node has sent is a message of its range; and what a range sees of a node is what
+/// the node has of it.
+pub fn parcels_are_messages<S>()
+    ensures message { ParcelsAreMessages S }
+    ensures view { ViewsOfHosts S }
 {}
