@@ -8,6 +8,7 @@ ghost use Rattle.rp_raftsafe.specs.Many.{SeesOwn, StartsNowhere};
 ghost use Rattle.rp_raftsafe.specs.Starts.{StartUnread, StartsUnread, ShutUnread};
 ghost use Rattle.rp_raftsafe.specs.Snapshots.{TakesAbove, StepTakesAbove, SnapsWereApplied};
 ghost use Rattle.rp_raftsafe.specs.Parcels.{ParcelsAreMessages, ViewsOfHosts};
+ghost use Rattle.rp_raftsafe.specs.Allowed.{EventsAllowed};
 
 /// Election safety (Raft 2014, section 5.2): in each term at most one node is ever leader, at one time
 /// or at two.
@@ -98,4 +99,10 @@ pub fn snaps_were_applied<S>()
 pub fn parcels_are_messages<S>()
     ensures message { ParcelsAreMessages S }
     ensures view { ViewsOfHosts S }
+{}
+
+/// In every world of a range each event may be planned by the code, and then extended by a Propose, as
+/// long as the bound that the events set stays below the largest number of 64 bits.
+pub fn events_allowed<S>()
+    ensures { EventsAllowed S }
 {}
