@@ -9,7 +9,7 @@ ParcelsAreMessages S =
     (w : Hosts S) (from number : ℕ) (parcel : Parcel S)
     → parcel_of (host w from) number ≡ Some parcel
     → message_of (site (view parcel.range w) from) (number_in parcel.range (host w from).sent number)
-      ≡ Some (parcel.to, parcel.message)
+    ≡ Some (parcel.to, parcel.message)
 
 -- a range sees of a node what the node has of it
 abbrev pub ViewsOfHosts : Type 0 → Type 0

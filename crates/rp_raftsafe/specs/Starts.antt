@@ -58,4 +58,4 @@ ShutUnread S =
     (ranges : ℕ → Range S) (range : ℕ) (start : S) (events : List ManyEvent)
     → All (BeginsNot range) events → (w : Hosts S)
     → view range (run_in ranges events w)
-      ≡ view range (run_in (with_start ranges range start) events w)
+    ≡ view range (run_in (with_start ranges range start) events w)
