@@ -90,7 +90,7 @@ starts_unread_holds S ranges others but = all
         }
 
 -- a range that has not begun
-with_start_but : {S : Type 0} (ranges : ℕ → Range S) (range : ℕ) (start : S) (r : ℕ) → IsButStart (ranges r) (with_start ranges range start r)
+pub with_start_but : {S : Type 0} (ranges : ℕ → Range S) (range : ℕ) (start : S) (r : ℕ) → IsButStart (ranges r) (with_start ranges range start r)
 with_start_but {S} ranges range start r =
     cond_both (eqb r range) (record (ranges r) { start = start }) (ranges r) (λ (z : Range S). z ≡ record (ranges r) { start = z.start }) (λ _. refl) (λ _. refl)
 

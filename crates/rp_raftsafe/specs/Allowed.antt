@@ -12,7 +12,7 @@ use Rattle.rp_raftsafe.specs.Safety.{IsLive}
 abbrev pub IsShort : {S : Type 0} → Range S → List Event → Type 0
 IsShort g events = bound_after g events + 1 < 2 ^ 64
 
--- the event may be planned, and then extended by a Propose of these payloads
+-- each event of the replica may be planned, and a tick or a message then extended by a Propose
 pub record IsAllowed {S : Type 0} (g : Range S) (events : List Event) (node : ℕ) (r : Replica S)
     : Type 0 where
   pub tick_fits : IsShort g events → Allows {S = S} r.raft Tick
