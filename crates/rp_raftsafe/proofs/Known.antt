@@ -3,7 +3,7 @@ use Rattle.std.proofs.Common.{◌≡◌, ℕ, zero, suc, ◌+◌, ◌-◌, ◌<�
 use Rattle.std.specs.Prelude.{fold, All, Contains}
 use Rattle.std.proofs.lemmas.Bool.{cases_lt}
 use Rattle.std.proofs.lemmas.List.Elements.{All-weaker, All-contains_itself, Contains-append_left, Contains-append_right}
-use Rattle.std.proofs.lemmas.List.{get_or_past, drop-take, take_all, length-replicate, take-append-le, drop-append-le, get_or-replicate, get_or_append_left, get_or_default}
+use Rattle.std.proofs.lemmas.List.{get_or_past, drop-take, drop_all, take_all, length-replicate, take-append-le, drop-append-le, get_or-replicate, get_or_append_left, get_or_default}
 use Rattle.rp_raftlog.specs.declared.entries.Entry.{Entry}
 use Rattle.rp_raftlog.specs.LogState.{entry_at}
 use Rattle.rp_raftsafe.specs.World.{Range, IsRange, start_term, Replica, Status, Absent, Live, Removed, Site, World, site, Event, happens, run, nowhere, world_after}
@@ -325,9 +325,15 @@ start_has {S} g P range = record {
 events_have : {S : Type 0} (g : Range S) (range : IsRange g) (events : List Event) → KnownHas g (WasProposed events) (world_after g events) (known_events g range events).list
 events_have g range events = known_has g (WasProposed events) (inl refl) (nowhere g) range (known_start g range) events (λ x has. inr has) (start_has g (WasProposed events) range)
 
+-- before the first event the list is what stands before the range's first entry
+known_nothing : {S : Type 0} (g : Range S) (range : IsRange g) → drop g.base (known_events g range []).list ≡ []
+unfolding known_after known_start
+known_nothing g range = drop_all g.base (front g) (omega (arith, length-replicate {A = Entry} g.base (record { term = 1; payload = [] })))
+
 pub one_list_holds : (S : Type 0) → OneList S
 one_list_holds S g range = record {
   committed = λ events. drop g.base (known_events g range events).list;
+  empty = known_nothing g range;
   grows = λ early late.
       let longer : IsPrefixOf (known_events g range early).list (known_events g range (early ++ late)).list = known_grows g (nowhere g) range (known_start g range) early late in
       (longer.0, sym (drop-append-le g.base (known_events g range early).list longer.0 (known_events g range early).long) ∙ ap (drop g.base) longer.1);

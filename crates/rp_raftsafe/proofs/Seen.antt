@@ -11,7 +11,7 @@ use Rattle.rp_raftsafe.specs.Many.{Parcel, Host, Hosts, no_host, host, with_host
 use Rattle.rp_raftsafe.proofs.Worlds.{run-append}
 
 -- the message of a range that a parcel is
-parcel_is : {S : Type 0} (range : ℕ) (sent : List (Parcel S)) (i : ℕ) (p : Parcel S) → slice_get sent i ≡ Some p → p.range ≡ range
+pub parcel_is : {S : Type 0} (range : ℕ) (sent : List (Parcel S)) (i : ℕ) (p : Parcel S) → slice_get sent i ≡ Some p → p.range ≡ range
     → (j : ℕ) × (number_in range sent (suc i) ≡ suc j) × (slice_get (sent_of range sent) j ≡ Some (p.to, p.message))
 parcel_is {S} range [] i p at own = absurd (none_some at)
   where
@@ -78,7 +78,7 @@ turned_other range r h t ne =
     two : {S : Type 0} (s s' : Status S) (l l' : List (ℕ × Message S)) → s ≡ s' → l ≡ l' → ◌≡◌ {A = Site S} (record { status = s; sent = l }) (record { status = s'; sent = l' })
     two s s' l l' e f = cc
 
-view_site : {S : Type 0} (range : ℕ) (w : Hosts S) (node : ℕ) → site (view range w) node ≡ view_host range (host w node)
+pub view_site : {S : Type 0} (range : ℕ) (w : Hosts S) (node : ℕ) → site (view range w) node ≡ view_host range (host w node)
 view_site range w zero = refl
 view_site {S} range w (suc place) = at w place
   where

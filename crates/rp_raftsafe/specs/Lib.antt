@@ -3,6 +3,10 @@ pub mod Safety
 pub mod Bounds
 pub mod Many
 pub mod Proposed
+pub mod Starts
+pub mod Snapshots
+pub mod Parcels
+pub mod Allowed
 pub use Rattle.rp_raftlog.specs.LogState
 pub use Rattle.rp_raftstep.specs.RaftState
 pub use Rattle.rp_raftstep.specs.Step

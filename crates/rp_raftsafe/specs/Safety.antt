@@ -1,5 +1,5 @@
 -- What Raft keeps of the world of one range, after each schedule and at two times of one run.
-use Rattle.std.specs.Prelude.{◌≡◌, ℕ, ◌-◌, ◌<◌, ◌≤◌, Some, List, ◌++◌, take, slice_get, fold, All}
+use Rattle.std.specs.Prelude.{◌≡◌, ℕ, ◌-◌, ◌<◌, ◌≤◌, Some, List, [], ◌++◌, take, slice_get, fold, All}
 use Rattle.rp_raftlog.specs.declared.entries.Entry.{Entry}
 use Rattle.rp_raftlog.specs.LogState.{LogState, last_index, entry_at, term_at}
 use Rattle.rp_raftstep.specs.declared.heads.Role.TheVariants.{Leader}
@@ -86,6 +86,8 @@ pub record IsShown {S : Type 0} (g : Range S) (list : List Entry) (r : Replica S
 -- a committed list, which the schedule determines and which only grows, and which each replica shows
 pub record OneListOf {S : Type 0} (g : Range S) : Type 0 where
   pub committed : List Event → List Entry
+  -- nothing is committed before the first event
+  pub empty : committed [] ≡ []
   pub grows : (early late : List Event) → IsPrefixOf (committed early) (committed (early ++ late))
   pub shown : (events : List Event) (p : ℕ) (r : Replica S) → IsLive (world_after g events) p r → IsShown g (committed events) r
   -- each entry of it is Nothing, or was proposed

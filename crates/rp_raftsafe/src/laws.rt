@@ -5,6 +5,10 @@
 ghost use Rattle.rp_raftsafe.specs.Safety.{OneLeader, LogsMatch, LeaderComplete, CommitsAgree, OneList, AppendsFit, SentToOthers, OnlyProposed};
 ghost use Rattle.rp_raftsafe.specs.Bounds.{Bounded};
 ghost use Rattle.rp_raftsafe.specs.Many.{SeesOwn, StartsNowhere};
+ghost use Rattle.rp_raftsafe.specs.Starts.{StartUnread, StartsUnread, ShutUnread};
+ghost use Rattle.rp_raftsafe.specs.Snapshots.{TakesAbove, StepTakesAbove, SnapsWereApplied};
+ghost use Rattle.rp_raftsafe.specs.Parcels.{ParcelsAreMessages, ViewsOfHosts};
+ghost use Rattle.rp_raftsafe.specs.Allowed.{EventsAllowed};
 
 /// Election safety (Raft 2014, section 5.2): in each term at most one node is ever leader, at one time
 /// or at two.
@@ -66,4 +70,39 @@ pub fn bounded<S>()
 pub fn sees_own<S>()
     ensures run { SeesOwn S }
     ensures start { StartsNowhere S }
+{}
+
+/// Only Begin reads the state that a range starts with: of one range and of nodes with several, what
+/// happens is the same with another start, if each event that begins a range has its start in both. So
+/// what a range that has not begun sees does not depend on its start.
+pub fn only_begin_reads_start<S>()
+    ensures one { StartUnread S }
+    ensures many { StartsUnread S }
+    ensures shut { ShutUnread S }
+{}
+
+/// A snapshot that a Raft event takes in is the one that its message brings, and is above the commit
+/// index (Raft 2014, section 7). No other event takes one in.
+pub fn takes_above_commit<S>()
+    ensures message { TakesAbove S }
+    ensures step { StepTakesAbove S }
+{}
+
+/// A snapshot that was sent has the index up to which its sender had applied its log before one of the
+/// events, and the state that it had there (Raft 2014, section 7).
+pub fn snaps_were_applied<S>()
+    ensures { SnapsWereApplied S }
+{}
+
+/// A parcel that a node has sent is a message of its range; and what a range sees of a node is what
+/// the node has of it.
+pub fn parcels_are_messages<S>()
+    ensures message { ParcelsAreMessages S }
+    ensures view { ViewsOfHosts S }
+{}
+
+/// In every world of a range each event may be planned by the code, and then extended by a Propose, as
+/// long as the bound that the events set stays below the largest number of 64 bits.
+pub fn events_allowed<S>()
+    ensures { EventsAllowed S }
 {}
