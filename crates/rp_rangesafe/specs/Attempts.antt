@@ -46,13 +46,7 @@ pub record Attempt : Type 0 where
 -- it was admitted
 abbrev pub IsBorn : Stage → Type 0
 IsBorn Unborn = ⊥
-IsBorn Waiting = Unit {0}
-IsBorn (Proposed own) = Unit {0}
-IsBorn (Success reply) = Unit {0}
-IsBorn Refused = Unit {0}
-IsBorn (Overtaken own passed) = Unit {0}
-IsBorn (Removed own) = Unit {0}
-IsBorn (Restarted own) = Unit {0}
+IsBorn _ = Unit {0}
 
 -- the attempt was admitted at this node
 abbrev pub IsBornAt : Attempt → ℕ → Type 0
@@ -60,58 +54,37 @@ IsBornAt a node = IsBorn a.stage × (a.node ≡ node)
 
 -- it has not ended, and holds its latches
 abbrev pub IsPending : Stage → Type 0
-IsPending Unborn = ⊥
 IsPending Waiting = Unit {0}
 IsPending (Proposed own) = Unit {0}
-IsPending (Success reply) = ⊥
-IsPending Refused = ⊥
-IsPending (Overtaken own passed) = ⊥
-IsPending (Removed own) = ⊥
-IsPending (Restarted own) = ⊥
+IsPending _ = ⊥
 
 -- it has ended
 abbrev pub IsEnded : Stage → Type 0
 IsEnded Unborn = ⊥
 IsEnded Waiting = ⊥
 IsEnded (Proposed own) = ⊥
-IsEnded (Success reply) = Unit {0}
-IsEnded Refused = Unit {0}
-IsEnded (Overtaken own passed) = Unit {0}
-IsEnded (Removed own) = Unit {0}
-IsEnded (Restarted own) = Unit {0}
+IsEnded _ = Unit {0}
 
 -- it has ended, and nothing of it can be taken any more
 abbrev pub IsClosed : Stage → Type 0
-IsClosed Unborn = ⊥
-IsClosed Waiting = ⊥
-IsClosed (Proposed own) = ⊥
 IsClosed (Success reply) = Unit {0}
 IsClosed Refused = Unit {0}
 IsClosed (Overtaken own passed) = Unit {0}
-IsClosed (Removed own) = ⊥
-IsClosed (Restarted own) = ⊥
+IsClosed _ = ⊥
 
 -- the one maximum under which it can still be taken
 abbrev pub IsOpen : Stage → ℕ → Type 0
-IsOpen Unborn max = ⊥
-IsOpen Waiting max = ⊥
 IsOpen (Proposed own) max = max ≡ own
-IsOpen (Success reply) max = ⊥
-IsOpen Refused max = ⊥
-IsOpen (Overtaken own passed) max = ⊥
 IsOpen (Removed own) max = max ≡ own
 IsOpen (Restarted own) max = max ≡ own
+IsOpen _ max = ⊥
 
 -- no place of it is known at its node
 abbrev pub IsUntaken : Stage → Type 0
-IsUntaken Unborn = Unit {0}
-IsUntaken Waiting = Unit {0}
-IsUntaken (Proposed own) = Unit {0}
 IsUntaken (Success reply) = ⊥
-IsUntaken Refused = Unit {0}
 IsUntaken (Overtaken own passed) = ⊥
-IsUntaken (Removed own) = Unit {0}
 IsUntaken (Restarted own) = ⊥
+IsUntaken _ = Unit {0}
 
 -- the number is one of these
 abbrev pub IsAmong : List ℕ → ℕ → Type 0

@@ -85,14 +85,7 @@ pub record MayBegin (w : Ranges) (id : CmdId) : Type 0 where
 -- an admission begins an attempt
 abbrev pub Begins : Ranges → Event → Type 0
 Begins w (Admit id node body) = MayBegin w id
-Begins w (Flush id max) = Unit {0}
-Begins w (Return id) = Unit {0}
-Begins w (Refuse id) = Unit {0}
-Begins w (Commit p) = Unit {0}
-Begins w (Apply node) = Unit {0}
-Begins w (Snapshot node to) = Unit {0}
-Begins w (Remove node) = Unit {0}
-Begins w (Restart node) = Unit {0}
+Begins w _ = Unit {0}
 
 -- a step is lawful in a range that there is
 pub record IsLawfulIn (w : Ranges) (range : ℕ) (e : Event) : Type 0 where
@@ -117,21 +110,13 @@ right_with s key (Err fault) = None
 
 -- the right range of a request: only a split has one
 abbrev pub right_by_request : AppliedState → Request → Option AppliedState
-right_by_request s (Put key value) = None
-right_by_request s (Add key by) = None
-right_by_request s (CPut key expect value) = None
-right_by_request s (Del key) = None
-right_by_request s (Wipe span) = None
-right_by_request s (Move from to by) = None
 right_by_request s (Split key) = right_with s key (split_of s.desc key)
+right_by_request s _ = None
 
 -- the right range of a command by its verdict: only one that is taken opens it
 abbrev pub right_by : AppliedState → Command → Verdict → Option AppliedState
 right_by s c Took = right_by_request s c.request
-right_by s c (OldLease now) = None
-right_by s c (OldIndex lai) = None
-right_by s c LeaseMoved = None
-right_by s c verdicts.Nothing = None
+right_by s c _ = None
 
 -- what an entry opens in a state
 abbrev pub right_of : AppliedState → Payload → Option AppliedState
