@@ -1,3 +1,4 @@
+//! Entries of a log.
 ghost use Rattle.std.specs.Prelude.{◌≡◌, ◌==◌, ◌+◌, ◌≤◌, length, drop, max, vec_len, vec_capacity, IfOk};
 ghost use Rattle.std.specs.List.{prefix_len, zip};
 ghost use Rattle.rp_raftlog.specs.LogState.{edited, overlay, same_terms};

@@ -1,3 +1,4 @@
+//! The log of a replica: a base, and the entries behind it.
 ghost use Rattle.std.specs.Prelude.{◌≡◌, ◌+◌, ◌<◌, ◌≤◌, ◌^◌, [], ◌∷◌, length, option_copied, if◌then◌else◌, IfOk, OnOk, OnErr};
 ghost use Rattle.rp_raftlog.specs.LogState.{accepted, accepted_to, appended, cut, entry_at, last_index, last_term, log_at, matches, suffix, term_at};
 

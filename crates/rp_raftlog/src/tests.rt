@@ -1,3 +1,4 @@
+//! Calls of a log, each compared with what it must give.
 ghost use Rattle.std.specs.Prelude.{◌≡◌, IfOk};
 
 use crate::{Entries, Entry, Log, Mismatch, copies};
