@@ -1,8 +1,7 @@
 //! Several replicas play over a list of messages.
 
-ghost use Rattle.std.specs.Prelude.{◌≡◌, ◌<◌, ◌≤◌, true};
-ghost use Rattle.rp_raftlog.specs.LogState.{last_index};
-ghost use Rattle.rp_raftstep.specs.Conditions.{Allows, CanRise, MessageFits};
+ghost use Rattle.std.specs.Prelude.{◌≡◌, ◌<◌, true};
+ghost use Rattle.rp_raftstep.specs.Conditions.{CanRise, MessageFits};
 ghost use Rattle.rp_raft.specs.Plans.{CanExtend};
 
 use crate::plans::{LogEdit, Messages};
