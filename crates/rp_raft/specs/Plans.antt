@@ -29,7 +29,8 @@ edited log (Resets index term) = log_at index term
 abbrev pub EditFits : LogState → LogEdit → Type 0
 EditFits log Stays = Unit {0}
 EditFits log (Appends entries) = last_index log + length entries < 2 ^ 64
-EditFits log (Accepts prev_index prev_term entries) = (prev_index + length entries < 2 ^ 64) × (matches log prev_index prev_term ≡ true)
+EditFits log (Accepts prev_index prev_term entries) =
+    (prev_index + length entries < 2 ^ 64) × (matches log prev_index prev_term ≡ true)
 EditFits log (Cuts to) = (log.base ≤ to) × (to ≤ last_index log)
 EditFits log (Resets index term) = Unit {0}
 
@@ -53,7 +54,8 @@ IsNoCut (Resets index term) = Unit {0}
 abbrev pub IsSendable : LogEdit → Head → Due → Type 0
 IsSendable Stays head due = Unit {0}
 IsSendable (Appends entries) head due = Unit {0}
-IsSendable (Accepts prev_index prev_term entries) head due = (is_leader head.role ≡ false) × (due ≡ Nobody)
+IsSendable (Accepts prev_index prev_term entries) head due =
+    (is_leader head.role ≡ false) × (due ≡ Nobody)
 IsSendable (Cuts to) head due = due ≡ Nobody
 IsSendable (Resets index term) head due = (is_leader head.role ≡ false) × (due ≡ Nobody)
 
@@ -94,11 +96,22 @@ abbrev pub quiet_draft : {S : Type 0} → Head → RaftDraft S
 quiet_draft head = record { head = head; edit = Stays; messages = []; due = Nobody; taken = None }
 
 abbrev pub answered_draft : {S : Type 0} → Head → ℕ → Message S → RaftDraft S
-answered_draft head to message = record { head = head; edit = Stays; messages = (to, message) ∷ []; due = Nobody; taken = None }
+answered_draft head to message = record {
+  head = head;
+  edit = Stays;
+  messages = (to, message) ∷ [];
+  due = Nobody;
+  taken = None;
+}
 
 -- what a draft means over the log that it was made of
 abbrev pub draft_of : {S : Type 0} → LogState → RaftDraft S → Draft S
-draft_of log d = record { state = leads_to d.head log d.edit; replies = d.messages; due = d.due; taken = d.taken }
+draft_of log d = record {
+  state = leads_to d.head log d.edit;
+  replies = d.messages;
+  due = d.due;
+  taken = d.taken;
+}
 
 pub record DraftFits {S : Type 0} (log : LogState) (d : RaftDraft S) : Type 0 where
   pub whole : IsNoCut d.edit
@@ -144,7 +157,8 @@ pub record PlanFits {S : Type 0} (st : RaftState) (spare : ℕ) (p : RaftPlan S)
   pub replies : p.replies ≤ length p.draft.messages
 
 -- made in this state, the plan drafts that and does this
-pub record Makes {S : Type 0} (st : RaftState) (p : RaftPlan S) (draft : Draft S) (done : Done S) : Type 0 where
+pub record Makes {S : Type 0} (st : RaftState) (p : RaftPlan S) (draft : Draft S) (done : Done S)
+    : Type 0 where
   pub drafts : drafted_by st p ≡ draft
   pub does : done_by st p ≡ done
   pub whole : IsNoCut p.draft.edit
@@ -152,11 +166,14 @@ pub record Makes {S : Type 0} (st : RaftState) (p : RaftPlan S) (draft : Draft S
 -- made in this state, the plan is one of this event
 abbrev pub Plans : {S : Type 0} → ℕ → S → RaftState → RaftEvent S → RaftPlan S → Type 0
 Plans applied snapshot st Tick p = Makes st p (tick st) (step applied snapshot st Tick)
-Plans applied snapshot st (Receive from message) p = Makes st p (received st from message) (step applied snapshot st (Receive from message))
-Plans applied snapshot st (Propose payloads) p = Makes st p (propose st payloads) (step applied snapshot st (Propose payloads))
+Plans applied snapshot st (Receive from message) p =
+    Makes st p (received st from message) (step applied snapshot st (Receive from message))
+Plans applied snapshot st (Propose payloads) p =
+    Makes st p (propose st payloads) (step applied snapshot st (Propose payloads))
 Plans applied snapshot st (Cut to) p = done_by st p ≡ step applied snapshot st (Cut to)
 
 -- what the plan of any event but a Cut asks for to be extended by these payloads
-pub record CanExtend {S : Type 0} (st : RaftState) (p : RaftPlan S) (payloads : List (List ℕ)) : Type 0 where
+pub record CanExtend {S : Type 0} (st : RaftState) (p : RaftPlan S) (payloads : List (List ℕ))
+    : Type 0 where
   pub whole : IsNoCut p.draft.edit
   pub room : CanAppend (drafted_by st p).state payloads

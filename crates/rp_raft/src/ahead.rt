@@ -1,6 +1,6 @@
 //! The log that a leader's event leaves: entries behind the present one, which stays as it is.
 
-ghost use Rattle.std.specs.Prelude.{◌≡◌, ◌+◌, ◌-◌, ◌<◌, ◌≤◌, ◌^◌, ◌++◌, length, take, drop, IfOk, OnOk};
+ghost use Rattle.std.specs.Prelude.{◌≡◌, ◌+◌, ◌-◌, ◌<◌, ◌≤◌, ◌^◌, ◌++◌, take, drop, IfOk, OnOk};
 ghost use Rattle.rp_raft.specs.Plans.{CanHold};
 ghost use Rattle.rp_raftlog.specs.LogState.{appended, last_index, suffix, term_at};
 

@@ -1,7 +1,6 @@
 //! How a leader's commit index moves on (Raft 2014, sections 5.3 and 5.4.2).
 
-ghost use Rattle.std.specs.Prelude.{◌≡◌, ◌+◌, ◌<◌, ◌≤◌, ◌^◌, count_by, length, max, nat_le, take};
-ghost use Rattle.rp_raftlog.specs.LogState.{last_index};
+ghost use Rattle.std.specs.Prelude.{◌≡◌, ◌<◌, ◌≤◌, count_by, max, nat_le, take};
 ghost use Rattle.rp_raftstep.specs.RaftState.{is_majority, with_node};
 ghost use Rattle.rp_raftstep.specs.Step.{advanced, committable, is_committable, matched_by};
 ghost use Rattle.rp_raft.specs.Plans.{CanHold, ahead};
@@ -66,7 +65,8 @@ pub(crate) fn advanced(head: Head, log: &Log, added: &[Entry]) -> Head
     requires nodes { head.nodes ≤ 5 }
     requires hold { CanHold log.now.log added.now }
     ensures same { result ≡ record head { commit = result.commit } }
-    ensures state { ahead result log.now.log added.now ≡ advanced (ahead head log.now.log added.now) }
+    ensures state { ahead result log.now.log added.now
+        ≡ advanced (ahead head log.now.log added.now) }
 {
     if head.role != Role::Leader {
         return head;

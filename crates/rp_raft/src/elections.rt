@@ -1,8 +1,8 @@
 //! Ticks and votes (Raft 2014, section 5.2).
 
-ghost use Rattle.std.specs.Prelude.{◌≡◌, ◌+◌, ◌<◌, ◌≤◌, ◌^◌, ◌++◌, ◌∷◌, [], map, filter, not, ◌==◌, nat_lt, nat_le, IfOk, OnOk};
+ghost use Rattle.std.specs.Prelude.{◌≡◌, ◌+◌, ◌<◌, ◌≤◌, ◌^◌, ◌++◌, ◌∷◌, [], filter, not, ◌==◌, IfOk, OnOk};
 ghost use Rattle.rp_raftlog.specs.LogState.{last_index, last_term};
-ghost use Rattle.rp_raftstep.specs.RaftState.{is_leader, nodes_to};
+ghost use Rattle.rp_raftstep.specs.RaftState.{nodes_to};
 ghost use Rattle.rp_raftstep.specs.Conditions.{CanRise};
 ghost use Rattle.rp_raftstep.specs.Step.{elected, is_up_to_date, on_vote, on_vote_reply, requests, stand, tick, tick_leading};
 ghost use Rattle.rp_raft.specs.Held.{IsSound};
@@ -48,7 +48,8 @@ impl<S: Drop> Raft<S> {
     fn elected(&self, head: Head) -> Result<RaftDraft<S>, NoMemory>
         requires sound { IsSound (with_head self.now.raft head) }
         requires last { last_index self.now.raft.log + 1 < 2 ^ 64 }
-        ensures { IfOk result (λ d. Drafts self.now.raft.log d (elected (with_head self.now.raft head))) }
+        ensures { IfOk result (λ d. Drafts self.now.raft.log d
+            (elected (with_head self.now.raft head))) }
     {
         if !is_elected(head) {
             return Ok(quiet(self.alloc, head));

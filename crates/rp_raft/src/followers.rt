@@ -75,7 +75,8 @@ impl<S: Drop> Raft<S> {
         requires sound { IsSound (with_head self.now.raft head) }
         requires index { prev_index + length entries < 2 ^ 64 }
         ensures { IfOk result (λ d. Drafts self.now.raft.log d
-            (on_append (with_head self.now.raft head) from term prev_index prev_term entries commit)) }
+            (on_append (with_head self.now.raft head) from term prev_index prev_term entries
+            commit)) }
     {
         if term < head.term {
             let known = head.commit;

@@ -1,6 +1,6 @@
 //! What a leader does with answers and payloads (Raft 2014, section 5.3).
 
-ghost use Rattle.std.specs.Prelude.{◌≡◌, ◌+◌, ◌<◌, ◌^◌, ◌++◌, map, IfOk, OnOk};
+ghost use Rattle.std.specs.Prelude.{◌+◌, ◌<◌, ◌^◌, IfOk};
 ghost use Rattle.rp_raftlog.specs.LogState.{last_index};
 ghost use Rattle.rp_raftstep.specs.Step.{on_append_reply, on_forward, on_match, on_mismatch};
 ghost use Rattle.rp_raft.specs.Held.{IsSound};
@@ -18,7 +18,8 @@ impl<S: Drop> Raft<S> {
     fn plan_mismatch(&self, head: Head, from: NodeId, index: u64) -> RaftDraft<S>
         requires sound { IsSound (with_head self.now.raft head) }
         requires last { last_index self.now.raft.log + 1 < 2 ^ 64 }
-        ensures { Drafts self.now.raft.log result (on_mismatch (with_head self.now.raft head) from index) }
+        ensures { Drafts self.now.raft.log result
+            (on_mismatch (with_head self.now.raft head) from index) }
     {
         let last = self.log.last().0;
         let mut next = head.next;
@@ -33,7 +34,8 @@ impl<S: Drop> Raft<S> {
     fn plan_match(&self, head: Head, from: NodeId, index: u64) -> RaftDraft<S>
         requires sound { IsSound (with_head self.now.raft head) }
         requires last { last_index self.now.raft.log + 1 < 2 ^ 64 }
-        ensures { Drafts self.now.raft.log result (on_match (with_head self.now.raft head) from index) }
+        ensures { Drafts self.now.raft.log result
+            (on_match (with_head self.now.raft head) from index) }
     {
         let last = self.log.last().0;
         let known = head.matched[place(from)].max(index);

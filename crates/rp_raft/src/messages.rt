@@ -20,7 +20,8 @@ impl<S: Drop> Raft<S> {
     ) -> Result<RaftDraft<S>, NoMemory>
         requires rise { CanRise self.now.raft }
         requires fits { MessageFits message }
-        ensures { IfOk result (λ d. Drafts self.now.raft.log d (received self.now.raft from message)) }
+        ensures { IfOk result (λ d. Drafts self.now.raft.log d
+            (received self.now.raft from message)) }
     {
         match message {
             Message::Vote {

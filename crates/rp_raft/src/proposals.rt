@@ -1,7 +1,6 @@
 //! Payloads that are proposed, behind what an event did before.
 
-ghost use Rattle.std.specs.Prelude.{◌≡◌, ◌+◌, ◌<◌, ◌^◌, ◌++◌, false, true, if◌then◌else◌, length, map, nat_lt, IfOk, OnOk};
-ghost use Rattle.rp_raftlog.specs.LogState.{last_index};
+ghost use Rattle.std.specs.Prelude.{◌≡◌, ◌+◌, ◌<◌, ◌++◌, false, true, if◌then◌else◌, map, nat_lt, IfOk, OnOk};
 ghost use Rattle.rp_raftstep.specs.declared.messages.Message.TheVariants.{Forward};
 ghost use Rattle.rp_raftstep.specs.declared.heads.Due.TheVariants.{Everyone};
 ghost use Rattle.rp_raftstep.specs.RaftState.{is_leader};

@@ -10,8 +10,8 @@ use rp_raftstep::{Head, Role};
 use std::alloc::Global;
 use std::marker::{Model, PhantomData};
 
-/// One replica's part in Raft. `S` is the type of snapshots. Contracts see its state, and apart from
-/// it the spare room: how many entries its log takes without memory.
+/// One replica's part in Raft. `S` is the type of snapshots. Contracts see its state, and apart
+/// from it the spare room: how many entries its log takes without memory.
 #[derive(Drop)]
 pub struct Raft<S> {
     pub(crate) head: Head,
@@ -25,7 +25,10 @@ impl<S> Model for Raft<S> {
 
     ghost Value = { Held };
 
-    ghost view = { λ r. record { raft = record { head = r.head; log = r.log.log }; spare = r.log.spare } };
+    ghost view = { λ r. record {
+      raft = record { head = r.head; log = r.log.log };
+      spare = r.log.spare;
+    } };
 
     ghost invariant = { λ r. IsSound (record { head = r.head; log = r.log.log }) };
 }
@@ -52,8 +55,8 @@ fn follower(node: NodeId, nodes: u8, term: u64, base: u64) -> Head
 }
 
 impl<S> Raft<S> {
-    /// A replica at the start of a range: each node knows the leader of term 1 and has voted for it.
-    /// It takes no memory.
+    /// A replica at the start of a range: each node knows the leader of term 1 and has voted for
+    /// it. It takes no memory.
     pub fn start(
         alloc: Global,
         node: NodeId,
@@ -136,7 +139,8 @@ impl<S> Raft<S> {
         }
     }
 
-    /// The replica after a restart: term, vote and log stay, and of the commit index what is applied.
+    /// The replica after a restart: term, vote and log stay, and of the commit index what is
+    /// applied.
     pub fn restart(&mut self, applied: u64)
         ensures raft { self.new.raft ≡ restarted applied self.old.raft }
         ensures room { self.old.spare ≤ self.new.spare }

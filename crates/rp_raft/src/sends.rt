@@ -1,7 +1,6 @@
 //! What a leader sends, from the state that the event leaves.
 
-ghost use Rattle.std.specs.Prelude.{◌≡◌, ◌+◌, ◌<◌, ◌≤◌, ◌^◌, ◌++◌, IfOk, OnOk};
-ghost use Rattle.rp_raftlog.specs.LogState.{last_index};
+ghost use Rattle.std.specs.Prelude.{◌≡◌, ◌+◌, ◌<◌, ◌≤◌, ◌++◌, IfOk, OnOk};
 ghost use Rattle.rp_raftstep.specs.Step.{due_peers, sends_among, to_peer};
 ghost use Rattle.rp_raft.specs.Plans.{ahead};
 

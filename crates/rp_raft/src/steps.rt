@@ -1,6 +1,6 @@
 //! An event in two phases: it is planned, with all memory that it takes, and committed.
 
-ghost use Rattle.std.specs.Prelude.{◌≡◌, ◌+◌, ◌<◌, ◌≤◌, ◌^◌, ◌++◌, IfOk, OnOk};
+ghost use Rattle.std.specs.Prelude.{◌≡◌, ◌+◌, ◌<◌, ◌≤◌, ◌++◌, IfOk};
 ghost use Rattle.rp_raftlog.specs.LogState.{last_index};
 ghost use Rattle.rp_raftstep.specs.Conditions.{Allows, CanRise};
 ghost use Rattle.rp_raftstep.specs.Step.{advanced, cut_away, due_peers, sends_among, sent, step_then, then_proposed};
@@ -58,8 +58,10 @@ impl<S: Drop> Raft<S> {
     /// The head that the event leaves. The messages that are made last come behind the replies.
     fn finish<M: MakeSnap<S>>(&self, draft: &mut RaftDraft<S>, snap: &M) -> Result<Head, NoMemory>
         requires { DraftFits self.now.raft.log draft.old }
-        ensures same { IfOk result (λ after. after ≡ record draft.old.head { commit = after.commit }) }
-        ensures state { IfOk result (λ after. ahead after self.now.raft.log (behind_of draft.old.edit)
+        ensures same { IfOk result (λ after. after
+            ≡ record draft.old.head { commit = after.commit }) }
+        ensures state { IfOk result (λ after. ahead after self.now.raft.log
+            (behind_of draft.old.edit)
             ≡ advanced (ahead draft.old.head self.now.raft.log (behind_of draft.old.edit))) }
         ensures draft { IfOk result (λ after. draft.new ≡ record draft.old {
           messages = draft.old.messages
@@ -147,7 +149,8 @@ impl<S: Drop> Raft<S> {
         ensures room { self.old.spare ≤ self.new.spare }
         ensures plan { IfOk result (λ p. Makes self.old.raft p
             (then_proposed (drafted_by self.old.raft plan) payloads)
-            (step_then (M.index snap.now) (M.snapshot snap.now) (drafted_by self.old.raft plan) payloads)) }
+            (step_then (M.index snap.now) (M.snapshot snap.now) (drafted_by self.old.raft plan)
+            payloads)) }
         ensures fits { IfOk result (λ p. PlanFits self.new.raft self.new.spare p) }
     {
         let draft = self.behind(draft_back(plan), payloads)?;
