@@ -39,11 +39,16 @@ fn key(text: &str) -> Result<Key, Fail> {
 /// A command under this sequence, with this maximum, that sets a key.
 fn put(alloc: Global, key: Key, value: u64, seq: u64, max: u64) -> Result<Payload, NoMemory> {
     let mut batch = Batch::new(alloc);
-    let value = Value::Number(value);
-    batch.push(Op::Set { key, value })?;
+    batch.push(Op::Set {
+        key,
+        value: Value::Number(value),
+    })?;
     Ok(Payload::Write(Command {
         id: ID,
-        request: Request::Put { key, value },
+        request: Request::Put {
+            key,
+            value: Value::Number(value),
+        },
         batch,
         reply: Reply::Old(None),
         seq: LeaseSeq::new(seq),
