@@ -1,5 +1,5 @@
 -- Lists in pieces of one size.
-use Rattle.std.proofs.Common.{◌≡◌, ℕ, zero, suc, ◌+◌, ◌-◌, ◌*◌, ◌^◌, ◌<◌, ◌≤◌, List, [], ◌∷◌, ◌++◌, length, take, drop, get_or, set, refl, sym, ap, ap₂, subst, ◌∙◌, arith, take-append-drop, length-take, length-drop, length-append, mul-zero, mul-suc, drop-drop, take-take, take_all, get_or-take, get_or-drop}
+use Rattle.std.proofs.Common.{◌≡◌, ℕ, zero, suc, ◌+◌, ◌-◌, ◌*◌, ◌<◌, ◌≤◌, List, [], ◌∷◌, ◌++◌, length, take, drop, get_or, set, refl, sym, ap, ap₂, subst, ◌∙◌, arith, take-append-drop, length-take, length-drop, length-append, mul-zero, mul-suc, drop-drop, take-take, take_all, get_or-take, get_or-drop}
 use Rattle.std.proofs.lemmas.List.{drop_all, drop-take, take-append-le, drop-append-le, nil_from_length}
 use Rattle.rp_raftlog.specs.Pieces.{pieces, joined}
 
@@ -51,11 +51,11 @@ set-pieces size (suc n) (suc k) xs ys h before after =
     let f : size * suc (suc k) ≡ size + size * suc k = omega (arith, mul-suc size (suc k)) in
     let front : take size xs ≡ take size ys = sym (take-take size (size * suc k) xs (omega arith)) ∙ ap (take size) before ∙ take-take size (size * suc k) ys (omega arith) in
     let before2 : take (size * k) (drop size xs) ≡ take (size * k) (drop size ys) =
-        sym (drop-take size (size * k) xs) ∙ ap (drop size) (subst (λ m. take m xs ≡ take m ys) e before) ∙ drop-take size (size * k) ys in
+    sym (drop-take size (size * k) xs) ∙ ap (drop size) (subst (λ m. take m xs ≡ take m ys) e before) ∙ drop-take size (size * k) ys in
     let after2 : drop (size * suc k) (drop size xs) ≡ drop (size * suc k) (drop size ys) =
-        drop-drop (size * suc k) size xs ∙ subst (λ m. drop m xs ≡ drop m ys) f after ∙ sym (drop-drop (size * suc k) size ys) in
+    drop-drop (size * suc k) size xs ∙ subst (λ m. drop m xs ≡ drop m ys) f after ∙ sym (drop-drop (size * suc k) size ys) in
     let here : take size (drop (size * suc k) ys) ≡ take size (drop (size * k) (drop size ys)) =
-        ap (take size) (ap (λ m. drop m ys) e ∙ sym (drop-drop (size * k) size ys)) in
+    ap (take size) (ap (λ m. drop m ys) e ∙ sym (drop-drop (size * k) size ys)) in
     ap₂ (λ p ps. p ∷ ps) front (ap (set (pieces size n (drop size xs)) k) here ∙ set-pieces size n k (drop size xs) (drop size ys) (omega arith) before2 after2)
 
 -- the piece with the last item, or the empty one behind it
@@ -76,7 +76,7 @@ pushed size k s x d cut lt low high =
     let long : length ys ≡ length xs + 1 = length-append xs (x ∷ []) in
     let wide : size * suc k ≡ size * k + size = mul-suc size k in
     let v : get_or s k d ++ x ∷ [] ≡ take size (drop (size * k) ys) =
-        ap (λ l. l ++ x ∷ []) (last_piece size k s d cut lt high) ∙ sym (drop-append-le (size * k) xs (x ∷ []) low) ∙ sym (take_all size (drop (size * k) ys) (omega (arith, length-drop (size * k) ys))) in
+    ap (λ l. l ++ x ∷ []) (last_piece size k s d cut lt high) ∙ sym (drop-append-le (size * k) xs (x ∷ []) low) ∙ sym (take_all size (drop (size * k) ys) (omega (arith, length-drop (size * k) ys))) in
     ap (λ l. set l k (get_or s k d ++ x ∷ [])) cut ∙ ap (set (pieces size (length s) xs) k) v
     ∙ set-pieces size (length s) k xs ys lt (sym (take-append-le (size * k) xs (x ∷ []) low))
     (drop_all (size * suc k) xs (omega arith) ∙ sym (drop_all (size * suc k) ys (omega arith)))
@@ -91,8 +91,8 @@ popped size k r s d cut lt long small =
     let short : length ys ≡ size * k + r = omega (arith, length-take (size * k + r) xs) in
     let wide : size * suc k ≡ size * k + size = mul-suc size k in
     let v : take r (get_or s k d) ≡ take size (drop (size * k) ys) =
-        ap (λ l. take r (get_or l k d)) cut ∙ ap (take r) (get_or-pieces size (length s) k xs d lt) ∙ take-take r size (drop (size * k) xs) (omega arith)
-        ∙ sym (drop-take (size * k) r xs) ∙ sym (take_all size (drop (size * k) ys) (omega (arith, length-drop (size * k) ys))) in
+    ap (λ l. take r (get_or l k d)) cut ∙ ap (take r) (get_or-pieces size (length s) k xs d lt) ∙ take-take r size (drop (size * k) xs) (omega arith)
+    ∙ sym (drop-take (size * k) r xs) ∙ sym (take_all size (drop (size * k) ys) (omega (arith, length-drop (size * k) ys))) in
     ap (λ l. set l k (take r (get_or s k d))) cut ∙ ap (set (pieces size (length s) xs) k) v
     ∙ set-pieces size (length s) k xs ys lt (sym (take-take (size * k) (size * k + r) xs (omega arith)))
     (drop_all (size * suc k) xs (omega arith) ∙ sym (drop_all (size * suc k) ys (omega arith)))
@@ -109,5 +109,5 @@ pub in_piece : {X : Type 0} (size k r : ℕ) (s : List (List X)) (d : List X) �
     → size * k + r < length (joined s) → r < length (get_or s k d)
 in_piece size k r s d cut lt small within =
     let e : length (get_or s k d) ≡ length (take size (drop (size * k) (joined s))) =
-        ap (λ l. length (get_or l k d)) cut ∙ ap length (get_or-pieces size (length s) k (joined s) d lt) in
+    ap (λ l. length (get_or l k d)) cut ∙ ap length (get_or-pieces size (length s) k (joined s) d lt) in
     omega (arith, length-take size (drop (size * k) (joined s)), length-drop (size * k) (joined s))

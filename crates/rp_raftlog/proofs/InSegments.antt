@@ -1,5 +1,5 @@
 -- What calls leave of segments.
-use Rattle.std.proofs.Common.{◌≡◌, ℕ, suc, ◌+◌, ◌-◌, ◌*◌, ◌/◌, ◌%◌, ◌^◌, ◌<◌, ◌≤◌, List, [], ◌∷◌, ◌++◌, length, take, drop, get_or, set, refl, sym, ap, ap₂, subst, ◌∙◌, arith, length-take, length-drop, drop-drop, get_or-drop}
+use Rattle.std.proofs.Common.{◌≡◌, ℕ, suc, ◌+◌, ◌-◌, ◌*◌, ◌/◌, ◌%◌, ◌^◌, ◌<◌, ◌≤◌, List, [], ◌∷◌, ◌++◌, length, take, drop, get_or, set, sym, ap, ap₂, ◌∙◌, arith, length-take, length-drop, drop-drop, get_or-drop}
 use Rattle.std.proofs.lemmas.List.{drop-take, drop-append-le, length_push}
 use Rattle.rp_raftlog.specs.declared.entries.Entry.{Entry}
 use Rattle.rp_raftlog.specs.Pieces.{pieces, joined, AreSegments}
@@ -40,7 +40,7 @@ pub has_room : (s : List (List Entry)) (first end : ℕ) (old : List Entry) → 
 has_room s first end old a less e =
     let h = a.held in
     let l : length old ≡ length (drop (64 * (end / 64)) (joined s)) =
-        ap length (e ∙ last_piece 64 (end / 64) s old a.cut (omega arith) (omega arith)) in
+    ap length (e ∙ last_piece 64 (end / 64) s old a.cut (omega arith) (omega arith)) in
     omega (arith, length-drop (64 * (end / 64)) (joined s))
 
 -- an entry behind the last

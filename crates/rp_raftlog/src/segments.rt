@@ -1,6 +1,7 @@
 //! Entries in segments: what goes in front goes a segment at a time, and what stays is not moved.
-ghost use Rattle.std.specs.Prelude.{◌≡◌, ◌+◌, ◌-◌, ◌*◌, ◌<◌, ◌≤◌, [], ◌∷◌, ◌++◌, length, take, drop, slice_get, slice_index_or, option_copied, IfOk, IfSome, OnOk, OnErr};
+ghost use Rattle.std.specs.Prelude.{◌≡◌, ◌+◌, ◌-◌, ◌<◌, ◌≤◌, [], ◌∷◌, ◌++◌, length, take, drop, slice_get, slice_index_or, option_copied, IfOk, OnOk, OnErr};
 ghost use Rattle.std.specs.VecDeque.{deque_len};
+ghost use Rattle.rp_raftlog.specs.Pieces.{segment};
 
 use crate::entries::{Entries, Entry};
 use rp_base::{NoMemory, Seq};
@@ -20,12 +21,13 @@ struct Segment {
 impl Model for Segment {
     ghost use Rattle.std.specs.Prelude.{List, ◌≤◌, vec_len, vec_capacity};
     ghost use Rattle.rp_raftlog.specs.declared.entries.Entry.{Entry};
+    ghost use Rattle.rp_raftlog.specs.Pieces.{segment};
 
     ghost Value = { List Entry };
 
     ghost view = { λ s. s.entries.items };
 
-    ghost invariant = { λ s. 64 ≤ vec_capacity s.entries };
+    ghost invariant = { λ s. segment ≤ vec_capacity s.entries };
 }
 
 impl Segment {
@@ -47,7 +49,7 @@ impl Segment {
 
     /// Puts an entry behind the last, without memory.
     fn push(&mut self, entry: Entry)
-        requires { length self.old < 64 }
+        requires { length self.old < segment }
         ensures { self.new ≡ self.old ++ entry ∷ [] }
     {
         self.entries.push_reserved(entry);
@@ -83,13 +85,13 @@ pub(crate) struct Segments {
 impl Model for Segments {
     ghost use Rattle.std.specs.Prelude.{◌-◌, ◌*◌, drop};
     ghost use Rattle.std.specs.VecDeque.{deque_len};
-    ghost use Rattle.rp_raftlog.specs.Pieces.{Stored, AreSegments, joined};
+    ghost use Rattle.rp_raftlog.specs.Pieces.{Stored, AreSegments, joined, segment};
 
     ghost Value = { Stored };
 
     ghost view = { λ s. record {
       entries = drop s.first (joined s.segments.items);
-      spare = 64 * deque_len s.segments - s.end;
+      spare = segment * deque_len s.segments - s.end;
     } };
 
     ghost invariant = { λ s. AreSegments s.segments.items s.first s.end };
@@ -155,7 +157,7 @@ impl Segments {
     /// Adds an empty segment.
     fn add_segment(&mut self) -> Result<(), NoMemory>
         ensures entries { self.new.entries ≡ self.old.entries }
-        ensures ok { OnOk result (self.new.spare ≡ self.old.spare + 64) }
+        ensures ok { OnOk result (self.new.spare ≡ self.old.spare + segment) }
         ensures err { OnErr result (self.new.spare ≡ self.old.spare) }
     {
         if self.segments.len() >= usize::MAX / SEGMENT {

@@ -1,5 +1,4 @@
-use Rattle.std.proofs.Common.{◌≡◌, ◌+◌, ◌≤◌, ◌⊎◌, inl, inr, length, drop, sym, ap, ◌∙◌, arith}
-use Rattle.rp_raftlog.specs.LogState.{same_terms}
+use Rattle.std.proofs.Common.{◌+◌, ◌≤◌, ◌⊎◌, length, arith}
 use Rattle.rp_raftlog.proofs.Overlays.{same_end}
 use Rattle.rp_raftlog.proofs.overlay.same_terms.Goals as goal
 

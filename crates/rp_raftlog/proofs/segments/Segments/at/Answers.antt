@@ -1,4 +1,4 @@
-use Rattle.std.proofs.Common.{◌≡◌, ap, arith}
+use Rattle.std.proofs.Common.{ap, arith}
 use Rattle.rp_raftlog.proofs.InSegments.{below, in_segment, entry_at_index}
 use Rattle.rp_raftlog.proofs.segments.Segments.at.Goals as goal
 

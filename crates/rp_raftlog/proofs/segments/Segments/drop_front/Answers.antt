@@ -1,4 +1,4 @@
-use Rattle.std.proofs.Common.{◌≡◌, drop, ap, ◌∙◌}
+use Rattle.std.proofs.Common.{ap}
 use Rattle.rp_raftlog.proofs.InSegments.{without_first, within}
 use Rattle.rp_raftlog.proofs.segments.Segments.drop_front.Goals as goal
 

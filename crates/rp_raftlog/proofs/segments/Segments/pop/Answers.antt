@@ -1,4 +1,4 @@
-use Rattle.std.proofs.Common.{◌≡◌, ap}
+use Rattle.std.proofs.Common.{ap}
 use Rattle.rp_raftlog.proofs.InSegments.{without_last, within_one}
 use Rattle.rp_raftlog.proofs.segments.Segments.pop.Goals as goal
 

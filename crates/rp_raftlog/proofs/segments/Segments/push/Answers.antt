@@ -1,4 +1,4 @@
-use Rattle.std.proofs.Common.{◌≡◌, ◌<◌, ◌*◌, length, ap, arith}
+use Rattle.std.proofs.Common.{ap, arith}
 use Rattle.rp_raftlog.proofs.InSegments.{has_room, with_entry}
 use Rattle.rp_raftlog.proofs.segments.Segments.push.Goals as goal
 
