@@ -80,10 +80,6 @@ pub record IsPlacedWith (w : World) (id : CmdId) (reply : Reply) : Type 0 where
 abbrev pub body_of : Command → Body
 body_of c = record { request = c.request; batch = c.batch; reply = c.reply }
 
--- table, description and lease of an applied state
-abbrev pub shown : AppliedState → items.State
-shown s = record { table = s.table; desc = s.desc; lease = s.lease }
-
 -- the items of so many entries of the list
 abbrev pub items_to : World → ℕ → List Place
 items_to w i = applied (records_of w.start (take i w.log))
