@@ -4,7 +4,6 @@ use Rattle.rp_base.specs.declared.ids.CmdId.{CmdId}
 use Rattle.rp_request.specs.declared.commands.Command.{Command}
 use Rattle.rp_request.specs.declared.outcomes.Reply.{Reply}
 use Rattle.rp_request.specs.declared.items.Place.{Place}
-use Rattle.rp_request.specs.Items as items
 use Rattle.rp_request.specs.Records.{applied}
 use Rattle.rp_request.specs.Applied.{AppliedState, records_of, IsBlocked}
 use Rattle.rp_request.specs.Onward.{IsOnward}

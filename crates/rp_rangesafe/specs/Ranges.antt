@@ -1,25 +1,14 @@
 -- The ranges together: commands with further attempts after a refusal, and right ranges that a
 -- split opens.
-use Rattle.std.specs.Prelude.{◌≡◌, ℕ, ◌-◌, ◌<◌, Bool, true, ◌==◌, if◌then◌else◌, ◌⊎◌, List, [], ◌∷◌, length, Option, None, Some, Result, Ok, Err}
+use Rattle.std.specs.Prelude.{◌≡◌, ℕ, ◌<◌, Bool, true, ◌==◌, if◌then◌else◌, ◌⊎◌, List, [], ◌∷◌, length, Option, None, Some}
 use Rattle.rp_base.specs.Ids.{same_id}
-use Rattle.rp_base.specs.Splits.{split_of}
 use Rattle.rp_base.specs.declared.ids.CmdId.{CmdId}
-use Rattle.rp_base.specs.declared.ranges.Desc.{Desc}
-use Rattle.rp_base.specs.declared.ranges.SplitFault.{SplitFault}
-use Rattle.rp_request.specs.declared.commands.Payload.{Payload}
-use Rattle.rp_request.specs.declared.commands.Payload.TheVariants.{Nothing, Write, Lease}
 use Rattle.rp_request.specs.declared.commands.Command.{Command}
-use Rattle.rp_request.specs.declared.requests.Request.{Request}
-use Rattle.rp_request.specs.declared.requests.Request.TheVariants.{Put, Add, CPut, Del, Wipe, Move, Split}
 use Rattle.rp_request.specs.declared.items.Place.{Place}
 use Rattle.rp_request.specs.declared.outcomes.Reply.{Reply}
-use Rattle.rp_base.specs.Tables.{from_on}
 use Rattle.rp_request.specs.Attempts.{previous}
 use Rattle.rp_request.specs.States.{first_applied, right_of}
-use Rattle.rp_request.specs.Applied.{AppliedState, command_verdict}
-use Rattle.rp_request.specs.declared.verdicts.Verdict.{Verdict}
-use Rattle.rp_request.specs.declared.verdicts.Verdict.TheVariants.{Took, OldLease, OldIndex, LeaseMoved}
-use Rattle.rp_request.specs.declared.verdicts.Verdict.TheVariants as verdicts
+use Rattle.rp_request.specs.Applied.{AppliedState}
 use Rattle.rp_rangesafe.specs.Attempts.{Refused}
 use Rattle.rp_rangesafe.specs.World.{World, begin, state_at, Event, Admit, Flush, Return, Refuse, Commit, Apply, Snapshot, Remove, Restart, Lawful, happens, with_node}
 use Rattle.rp_rangesafe.specs.Places.{IsPlace, items_to}
