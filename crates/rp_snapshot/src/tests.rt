@@ -30,8 +30,14 @@ fn one_put(alloc: Global) -> Result<Snapshot, Fail> {
 fn a_snapshot_is_a_copy(rt: HostRuntime) -> Result<(), Fail> {
     let snapshot = one_put(rt.alloc())?.copy()?;
     let (desc, lease) = (snapshot.desc(), snapshot.lease());
-    assert_eq!(rt; (desc.id.get(), desc.level, desc.start, desc.end), (0, 0, 0, u128::MAX));
-    assert_eq!(rt; (lease.holder.get(), lease.seq.get(), lease.expires.get()), (1, 1, 40));
+    assert_eq!(rt;
+        (desc.id.get(), desc.level, desc.start, desc.end),
+        (0, 0, 0, u128::MAX)
+    );
+    assert_eq!(rt;
+        (lease.holder.get(), lease.seq.get(), lease.expires.get()),
+        (1, 1, 40)
+    );
     assert_eq!(rt; (snapshot.lai().get(), snapshot.rows()), (1, 1));
     let (parted, leased, lai, table) = snapshot.into_parts();
     assert_eq!(rt; (parted, leased, lai.get()), (desc, lease, 1));
@@ -44,6 +50,9 @@ fn passes_through_threads(rt: HostRuntime) -> Result<(), Fail> {
     let snapshot = one_put(rt.alloc())?;
     let (snapshot, rows) = join(&rt, move || snapshot, || 1);
     assert_eq!(rt; snapshot.rows(), rows);
-    assert_eq!(rt; snapshot.table().row(0), (Key::read(b"a")?, Value::Number(5)));
+    assert_eq!(rt;
+        snapshot.table().row(0),
+        (Key::read(b"a")?, Value::Number(5))
+    );
     Ok(())
 }

@@ -36,8 +36,14 @@ fn right_of_m(alloc: Global) -> Result<RightStart, Fail> {
 fn range_0_starts_empty(rt: HostRuntime) -> Result<(), Fail> {
     let start = first(rt.alloc());
     let (desc, lease) = (start.desc(), start.lease());
-    assert_eq!(rt; (desc.id.get(), desc.level, desc.start, desc.end), (0, 0, 0, u128::MAX));
-    assert_eq!(rt; (lease.holder.get(), lease.seq.get(), lease.expires.get()), (1, 1, 40));
+    assert_eq!(rt;
+        (desc.id.get(), desc.level, desc.start, desc.end),
+        (0, 0, 0, u128::MAX)
+    );
+    assert_eq!(rt;
+        (lease.holder.get(), lease.seq.get(), lease.expires.get()),
+        (1, 1, 40)
+    );
     assert_eq!(rt; start.table().len(), 0);
     Ok(())
 }
@@ -48,8 +54,14 @@ fn range_1_starts_at_m(rt: HostRuntime) -> Result<(), Fail> {
     let (start, one) = join(&rt, move || start, || 1);
     let (desc, lease, table) = start.into_parts();
     let m = Key::read(b"m")?.bound();
-    assert_eq!(rt; (desc.id.get(), desc.level, desc.start, desc.end), (one, 1, m, u128::MAX));
-    assert_eq!(rt; (lease.holder.get(), lease.seq.get(), lease.expires.get()), (1, 1, 40));
+    assert_eq!(rt;
+        (desc.id.get(), desc.level, desc.start, desc.end),
+        (one, 1, m, u128::MAX)
+    );
+    assert_eq!(rt;
+        (lease.holder.get(), lease.seq.get(), lease.expires.get()),
+        (1, 1, 40)
+    );
     assert_eq!(rt; table.len(), 1);
     assert_eq!(rt; table.row(0), (Key::read(b"z")?, Value::Number(9)));
     Ok(())
