@@ -1,8 +1,7 @@
 -- Lines of clients' commands: send, admit, again, draw, publish (this project's script).
-use Rattle.std.specs.Prelude.{ℕ, ◌+◌, Bool, true, false, not, ◌&&◌, if◌then◌else◌, List, [], ◌∷◌, Option, None, Some, Result, Ok, Err}
+use Rattle.std.specs.Prelude.{ℕ, ◌+◌, Bool, true, false, not, ◌&&◌, if◌then◌else◌, Option, None, Some, Ok}
 use Rattle.std.specs.Option.{option_map_or}
 use Rattle.rp_base.specs.declared.ids.CmdId.{CmdId}
-use Rattle.rp_base.specs.declared.items.Item.{Item}
 use Rattle.rp_base.specs.declared.items.Item.TheVariants as items
 use Rattle.rp_bufcore.specs.Buffers.{Buffer, buffer_of, can_draw}
 use Rattle.rp_request.specs.declared.requests.Request.{Request}
@@ -14,8 +13,8 @@ use Rattle.rp_events.specs.Nodes.{Status, Absent, Live, Removed, seat}
 use Rattle.rp_events.specs.Worlds.{World, node_of}
 use Rattle.rp_events.specs.Lawful.{was_refused}
 use Rattle.rp_events.specs.Buffered.{buffers_at}
-use Rattle.rp_lines.specs.Players.{Draw, Undrawn, Drawn, Published, Booked, Player, Played, and_then, did, last_answer, noted, booked, booking_of, latest_of, next_command, counted}
-use Rattle.rp_lines.specs.Notes.{full_text, not_refused_text, nothing_text}
+use Rattle.rp_lines.specs.Players.{Draw, Undrawn, Drawn, Published, Booked, Player, Played, and_then, did, last_answer, noted, booked, booking_of, next_command, counted}
+use Rattle.rp_report.specs.Notes.{full_text, not_refused_text, nothing_text}
 
 -- the buffer of a node and a range
 abbrev pub buffer_at : Player → (node range : ℕ) → Buffer

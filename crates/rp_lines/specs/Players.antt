@@ -1,11 +1,11 @@
 -- A world that plays the lines of a script: the nodes with their buffers, the book of what clients sent,
 -- and what lines have told (this project).
-use Rattle.std.specs.Prelude.{ℕ, zero, suc, ◌+◌, ◌/◌, Bool, nat_lt, ◌==◌, if◌then◌else◌, List, [], ◌∷◌, ◌++◌, length, replicate, sum_by, Option, None, Some, Result, Ok, Err}
-use Rattle.std.specs.Option.{option_map, option_map_or}
+use Rattle.std.specs.Prelude.{ℕ, ◌+◌, ◌-◌, ◌/◌, ◌&&◌, nat_lt, ◌==◌, slice_get, if◌then◌else◌, List, [], ◌∷◌, ◌++◌, length, replicate, sum_by, Option, Result, Ok, Err}
+use Rattle.std.specs.Option.{option_map_or}
 use Rattle.std.specs.BTreeMap.{insert_entry, is_at}
 use Rattle.std.specs.FinMap.{entries}
 use Rattle.std.specs.Map.{lookup}
-use Rattle.std.specs.List.{filter, last}
+use Rattle.std.specs.List.{filter}
 use Rattle.rp_base.specs.ClientCounts.{no_counts, count_of, one_more_of}
 use Rattle.rp_base.specs.Ids.{cmd_cmp}
 use Rattle.rp_base.specs.declared.ids.CmdId.{CmdId}
@@ -21,9 +21,12 @@ use Rattle.rp_events.specs.declared.answers.EventAnswer.{EventAnswer}
 use Rattle.rp_events.specs.declared.answers.EventAnswer.TheVariants as answers
 use Rattle.rp_events.specs.declared.parcels.Parcel.{Parcel}
 use Rattle.rp_events.specs.declared.world_events.WorldEvent.{WorldEvent}
-use Rattle.rp_events.specs.Nodes.{Node}
 use Rattle.rp_events.specs.Worlds.{World, node_of}
 use Rattle.rp_events.specs.Buffered.{Buffered, first_buffered, buffered_step}
+
+-- the last of a list
+abbrev pub last_of : {A : Type 0} → List A → Option A
+last_of xs = slice_get xs (length xs - 1)
 
 -- how far an attempt has come in its buffer
 pub data Draw : Type 0 where
@@ -132,7 +135,7 @@ did e p =
 -- what the node answered to its last event
 abbrev pub last_answer : Player → (node : ℕ) → EventAnswer
 last_answer p node =
-    option_map_or (λ n. option_map_or (λ e. e.answer) (last n.journal) answers.Done)
+    option_map_or (λ n. option_map_or (λ e. e.answer) (last_of n.journal) answers.Done)
     (node_of p.world.nodes node) answers.Done
 
 -- a line has this to tell
@@ -149,7 +152,7 @@ booking_of p id = lookup (is_at (cmd_cmp id)) p.book
 
 -- the last attempt that the book has of a command
 abbrev pub latest_of : (client seq : ℕ) → Book → Option (CmdId × Booked)
-latest_of client seq book = last (filter (λ e. e.0.client == client && e.0.seq == seq) book)
+latest_of client seq book = last_of (filter (λ e. e.0.client == client && e.0.seq == seq) book)
 
 -- the first attempt of a client's next command; and the client has sent one more
 abbrev pub next_command : Player → (client : ℕ) → CmdId

@@ -1,5 +1,5 @@
 -- The lines of a script, one after another, as what they make of a world (this project's script).
-use Rattle.std.specs.Prelude.{ℕ, not, if◌then◌else◌, List, [], ◌∷◌, Option, None, Some, Result, Ok, Err}
+use Rattle.std.specs.Prelude.{ℕ, if◌then◌else◌, List, [], ◌∷◌, Ok}
 use Rattle.rp_base.specs.declared.items.Item.TheVariants as items
 use Rattle.rp_base.specs.declared.leases.LeaseAsk.{LeaseAsk}
 use Rattle.rp_bufcore.specs.Buffers.{can_draw}
@@ -18,7 +18,7 @@ use Rattle.rp_events.specs.Buffered.{has_live}
 use Rattle.rp_lines.specs.Players.{Player, Played, and_then, did, last_answer, noted, latest_of}
 use Rattle.rp_lines.specs.Commands.{buffer_at, sends, admits, tries_again, draws_latest, publishes_latest}
 use Rattle.rp_lines.specs.Settling.{delivers, ticks, settles}
-use Rattle.rp_lines.specs.Notes.{full_text, absent_text, nothing_text, not_holder_text, held_text, peek_text}
+use Rattle.rp_report.specs.Notes.{full_text, absent_text, nothing_text, not_holder_text, held_text, peek_text}
 
 -- an ask is put in the buffer, where there is room; else the line is told
 abbrev pub puts_ask : (line node range : ℕ) → LeaseAsk → Player → Played

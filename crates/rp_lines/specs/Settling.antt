@@ -1,5 +1,5 @@
 -- Lines that move the world on: deliver, tick, settle (this project's script).
-use Rattle.std.specs.Prelude.{ℕ, zero, suc, ◌+◌, ◌-◌, Bool, true, false, not, ◌&&◌, ◌||◌, ◌==◌, if◌then◌else◌, List, [], ◌∷◌, ◌++◌, length, map, replicate, slice_index_or, slice_set, Option, None, Some, Result, Ok, Err}
+use Rattle.std.specs.Prelude.{ℕ, zero, suc, ◌+◌, ◌-◌, Bool, false, ◌&&◌, ◌==◌, if◌then◌else◌, List, [], ◌∷◌, length, slice_index_or, slice_set, Option, None, Some, Ok}
 use Rattle.std.specs.Option.{option_map_or}
 use Rattle.std.specs.List.{list_any}
 use Rattle.rp_base.specs.Ids.{same_id}
@@ -11,11 +11,11 @@ use Rattle.rp_workers.specs.Losses.{is_lost}
 use Rattle.rp_events.specs.declared.parcels.Parcel.{Parcel}
 use Rattle.rp_events.specs.declared.world_events.WorldEvent.TheVariants as events
 use Rattle.rp_events.specs.Nodes.{Status, Absent, Live, Removed, seat, parcel_of, range_numbers}
-use Rattle.rp_events.specs.Worlds.{World, node_of, sent_by}
+use Rattle.rp_events.specs.Worlds.{node_of, sent_by}
 use Rattle.rp_events.specs.Buffered.{has_live}
-use Rattle.rp_lines.specs.Players.{Draw, Undrawn, Drawn, Published, Booked, Player, Played, and_then, did, noted, booking_of, latest_of}
+use Rattle.rp_lines.specs.Players.{Draw, Undrawn, Drawn, Published, Booked, Player, Played, and_then, did, noted, latest_of}
 use Rattle.rp_lines.specs.Commands.{buffer_at, publishes, draws_and_publishes, is_waiting}
-use Rattle.rp_lines.specs.Notes.{nothing_text}
+use Rattle.rp_report.specs.Notes.{nothing_text}
 
 -- the numbers of a sender's messages that were handled
 abbrev pub handled_of : Player → (sender : ℕ) → List ℕ
