@@ -6,8 +6,6 @@ mod batches;
 mod machines;
 mod pieces;
 mod states;
-#[cfg(test)]
-mod tests;
 
 pub use pieces::Piece;
 pub use rp_request::Verdict;

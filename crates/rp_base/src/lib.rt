@@ -14,8 +14,6 @@ mod numbers;
 mod ranges;
 mod short_texts;
 mod spans;
-#[cfg(test)]
-mod tests;
 mod texts;
 mod values;
 

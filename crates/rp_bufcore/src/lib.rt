@@ -5,8 +5,6 @@
 mod buffers;
 mod ends;
 pub mod laws;
-#[cfg(test)]
-mod tests;
 
 pub use buffers::{Full, NotDrawn, PlainBuf, Slot};
 pub use ends::{BufferEnd, PlainEnd};

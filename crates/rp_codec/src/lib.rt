@@ -8,8 +8,6 @@ mod faults;
 mod fields;
 pub mod laws;
 mod reading;
-#[cfg(test)]
-mod tests;
 mod texts;
 mod writing;
 

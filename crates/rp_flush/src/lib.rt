@@ -3,8 +3,6 @@
 
 mod assigns;
 pub mod laws;
-#[cfg(test)]
-mod tests;
 mod waits;
 
 pub use assigns::{Assigned, assign};

@@ -7,8 +7,6 @@ mod schedules;
 mod sinks;
 mod sources;
 mod tapes;
-#[cfg(test)]
-mod tests;
 
 pub use devices::{Failed, Sink, Source, put_all};
 pub use sinks::{MemorySink, SoundSink, StdSink};

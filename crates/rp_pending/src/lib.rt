@@ -7,8 +7,6 @@ mod lists;
 mod proposals;
 mod refreshes;
 mod slots;
-#[cfg(test)]
-mod tests;
 
 pub use lists::Pending;
 pub use proposals::{Proposal, Stage};

@@ -9,8 +9,6 @@ mod flushes;
 pub mod laws;
 mod plans;
 mod replicas;
-#[cfg(test)]
-mod tests;
 mod waits;
 
 pub use events::{Effects, Ended, EventAnswer, Outcomes, ReplicaEvent};

@@ -15,6 +15,3 @@ pub use summaries::write_summary;
 pub use texts::{push_range_line, push_replica_lines, write_text};
 pub use views::{RangeView, ReplicaView, Row, View};
 pub use words::{push_spaced, push_spaced_key, push_value_or_none};
-
-#[cfg(test)]
-mod tests;

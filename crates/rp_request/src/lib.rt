@@ -9,8 +9,6 @@ pub mod laws;
 mod notes;
 mod outcomes;
 mod requests;
-#[cfg(test)]
-mod tests;
 mod verdicts;
 
 pub use commands::{Batch, Command, Op, Payload, WaitList, Waiting};

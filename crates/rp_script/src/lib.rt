@@ -10,11 +10,7 @@ mod lines;
 mod readers;
 mod requests;
 mod scripts;
-#[cfg(test)]
-mod source_tests;
 mod sources;
-#[cfg(test)]
-mod tests;
 mod words;
 
 pub use built::Forms;

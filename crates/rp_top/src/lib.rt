@@ -12,6 +12,3 @@ mod stops;
 pub use calls::{run_call, top_call};
 pub use rp_script::LineKind;
 pub use statuses::{Form, Status};
-
-#[cfg(test)]
-mod tests;

@@ -6,8 +6,6 @@ pub mod laws;
 mod notes;
 mod plays;
 mod runs;
-#[cfg(test)]
-mod tests;
 mod views;
 mod widths;
 mod worlds;

@@ -1,15 +1,15 @@
-//! Tests: each public call on a view or a value that is not empty.
+//! Texts of views and of values that are not empty.
 ghost use Rattle.std.specs.Prelude.{IfOk};
 ghost use Rattle.rp_report.specs.Shown.{IsShownDesc, IsShownOutcome, IsShownView};
 
-use crate::{
-    RangeView, ReplicaView, Row, View, push_outcome, push_range_line, push_refusal,
-    push_replica_lines, push_reply, push_request, push_spaced, push_spaced_key, push_value_or_none,
-    write_summary, write_text,
-};
 use rp_base::{
     CmdId, Desc, Key, Lease, LeaseIndex, LeaseSeq, NodeId, RangeId, Seq, ShortText, Text, Tick,
     Value,
+};
+use rp_report::{
+    RangeView, ReplicaView, Row, View, push_outcome, push_range_line, push_refusal,
+    push_replica_lines, push_reply, push_request, push_spaced, push_spaced_key, push_value_or_none,
+    write_summary, write_text,
 };
 use rp_request::{Ambiguity, End, Outcome, Place, Record, Refusal, Reply, ReplyLine, Request, Why};
 use std::alloc::Global;
@@ -133,23 +133,21 @@ fn one_text(alloc: Global) -> Result<View, Fail>
     ranged(view, first_range(records, replicas))
 }
 
-#[test]
-fn a_text_is_reported(rt: HostRuntime) -> Result<(), Fail> {
-    let mut out = Text::new(rt.alloc());
-    write_text(&one_text(rt.alloc())?, &mut out)?;
-    let text =
-        "nodes 1\nreply 1.1 1 ok none\nreply 1.2 1 refused is-text a\nrange 0 ^ ~ level 0 lease 1 1 40\npass 1 nothing\nplace 2 write 1.1 1 put a 'hi under 1 ok none\nnode 1 live term 1 applied 2 lai 1\nrow a 'hi\nend\n";
-    assert!(rt; out.as_str() == text);
-    Ok(())
-}
+const ONE_TEXT: &str = "\
+nodes 1\nreply 1.1 1 ok none\nreply 1.2 1 refused is-text a\n\
+range 0 ^ ~ level 0 lease 1 1 40\npass 1 nothing\n\
+place 2 write 1.1 1 put a 'hi under 1 ok none\nnode 1 live term 1 applied 2 lai 1\n\
+row a 'hi\nend\n\
+commands 2\nattempts 2\nok 1\nrefused 1\nambiguous 0\npending 0\nranges 1\nplaces 1\n\
+passed 1\nmessages 0\n";
 
 #[test]
-fn a_text_is_summed_up(rt: HostRuntime) -> Result<(), Fail> {
+fn a_text_is_reported_and_summed_up(rt: HostRuntime) -> Result<(), Fail> {
+    let view = one_text(rt.alloc())?;
     let mut out = Text::new(rt.alloc());
-    write_summary(&one_text(rt.alloc())?, &mut out)?;
-    let text =
-        "commands 2\nattempts 2\nok 1\nrefused 1\nambiguous 0\npending 0\nranges 1\nplaces 1\npassed 1\nmessages 0\n";
-    assert!(rt; out.as_str() == text);
+    write_text(&view, &mut out)?;
+    write_summary(&view, &mut out)?;
+    assert!(rt; out.as_str() == ONE_TEXT);
     Ok(())
 }
 
@@ -189,7 +187,8 @@ fn lines_of_a_range_are_written(rt: HostRuntime) -> Result<(), Fail> {
     push_range_line(&mut out, &whole(), &first_lease())?;
     push_replica_lines(&mut out, &replicas)?;
     let text =
-        "range 0 ^ ~ level 0 lease 1 1 40\nnode 1 live term 1 applied 2 lai 1\nrow a 'hi\nnode 2 removed applied 3\n";
+        "range 0 ^ ~ level 0 lease 1 1 40\nnode 1 live term 1 applied 2 lai 1\nrow a 'hi\n\
+node 2 removed applied 3\n";
     assert!(rt; out.as_str() == text);
     Ok(())
 }

@@ -1,24 +1,12 @@
-//! Calls of each form, with and without faults.
+//! The adapters over the system, with and without faults.
 ghost use Rattle.std.specs.Prelude.{◌≤◌, IfOk};
 
-use crate::{
-    Failed, MemorySink, MemorySource, Sink, SoundSink, SoundSource, Source, StdSink, StdSource,
-    put_all,
-};
-use rp_base::{Bytes, Calls, Seq};
+use rp_outside::{Failed, Sink, Source, StdSink, StdSource, put_all};
 use std::alloc::Global;
 use std::io::{self, ErrorKind, Read, Write};
 use std::test::Fail;
 
 const TEXT: &[u8; 10] = b"0123456789";
-
-fn text(alloc: Global) -> Result<Bytes, Fail> {
-    Ok(Seq::from_vec(TEXT.to_vec(alloc)?))
-}
-
-fn calls(alloc: Global, numbers: &[u64]) -> Result<Calls, Fail> {
-    Ok(Seq::from_vec(numbers.to_vec(alloc)?))
-}
 
 /// What one read into a buffer of three bytes gives, or `!` for a fault.
 fn one_read<S: Source>(source: &mut S, out: &mut Vec<u8>) -> Result<(), Fail> {
@@ -40,77 +28,10 @@ fn is_read<S: Source>(alloc: Global, source: &mut S, want: &[u8]) -> Result<bool
 }
 
 #[test]
-fn a_sound_source(rt: HostRuntime) -> Result<(), Fail> {
-    let mut source = SoundSource::new(text(rt.alloc())?, 2);
-    assert!(rt; is_read(rt.alloc(), &mut source, TEXT)?);
-    assert!(rt; source.left().is_empty());
-    Ok(())
-}
-
-#[test]
-fn a_source_of_which_two_calls_fail(rt: HostRuntime) -> Result<(), Fail> {
-    let mut source = MemorySource::new(text(rt.alloc())?, 2, calls(rt.alloc(), &[2, 5])?);
-    assert!(rt; is_read(rt.alloc(), &mut source, b"01!2345!6789")?);
-    assert!(rt; source.left().is_empty());
-    assert!(rt; source.faults() == 2);
-    Ok(())
-}
-
-#[test]
 fn a_reader_of_the_system(rt: HostRuntime) -> Result<(), Fail> {
     let mut source = StdSource::new(TEXT.as_slice());
     assert!(rt; is_read(rt.alloc(), &mut source, TEXT)?);
     assert!(rt; source.faults() == 0);
-    Ok(())
-}
-
-#[test]
-fn a_sound_sink(rt: HostRuntime) -> Result<(), Fail> {
-    let mut sink = SoundSink::new(rt.alloc(), 4);
-    assert!(rt; sink.make_room(6) == Ok(()));
-    assert!(rt; put_all(&mut sink, b"012345") == Ok(()));
-    assert!(rt; sink.make_room(4) == Ok(()));
-    assert!(rt; put_all(&mut sink, b"6789") == Ok(()));
-    assert!(rt; sink.bytes().is_some_and(|bytes| bytes == TEXT.as_slice()));
-    Ok(())
-}
-
-#[test]
-fn a_sound_sink_without_room(rt: HostRuntime) -> Result<(), Fail> {
-    let mut sink = SoundSink::new(rt.alloc(), 4);
-    assert!(rt; put_all(&mut sink, TEXT) == Ok(()));
-    assert!(rt; sink.bytes().is_none());
-    Ok(())
-}
-
-#[test]
-fn a_sink_of_which_a_later_call_fails(rt: HostRuntime) -> Result<(), Fail> {
-    let mut sink = MemorySink::new(rt.alloc(), 4, calls(rt.alloc(), &[4])?);
-    assert!(rt; sink.make_room(6) == Ok(()));
-    assert!(rt; put_all(&mut sink, b"012345") == Ok(()));
-    assert!(rt; sink.make_room(4) == Ok(()));
-    assert!(rt; sink.write(b"6789") == Ok(4));
-    assert!(rt; sink.bytes() == TEXT.as_slice());
-    assert!(rt; sink.faults() == 0);
-    Ok(())
-}
-
-#[test]
-fn a_sink_of_which_a_call_fails(rt: HostRuntime) -> Result<(), Fail> {
-    let mut sink = MemorySink::new(rt.alloc(), 4, calls(rt.alloc(), &[3])?);
-    assert!(rt; sink.make_room(10) == Ok(()));
-    assert!(rt; put_all(&mut sink, TEXT) == Err(Failed));
-    assert!(rt; sink.bytes() == b"01234567".as_slice());
-    assert!(rt; sink.faults() == 1);
-    Ok(())
-}
-
-#[test]
-fn a_sink_without_room(rt: HostRuntime) -> Result<(), Fail> {
-    let mut sink = MemorySink::new(rt.alloc(), 4, calls(rt.alloc(), &[])?);
-    assert!(rt; put_all(&mut sink, TEXT) == Err(Failed));
-    assert!(rt; sink.bytes().is_empty());
-    assert!(rt; sink.faults() == 1);
     Ok(())
 }
 

@@ -1,6 +1,6 @@
 //! Draws, publications and collects.
-use crate::{BufferEnd, PlainBuf, PlainEnd};
 use rp_base::{BUFFER_CAPACITY, CmdId, Grown, Item, RangeId};
+use rp_bufcore::{BufferEnd, PlainBuf, PlainEnd};
 use std::alloc::Global;
 use std::test::Fail;
 
@@ -45,35 +45,6 @@ fn a_drawn_place_keeps_the_buffer_closed(rt: HostRuntime) -> Result<(), Fail> {
     assert!(rt; gives(rt.alloc(), &mut buffer, &[item(8)])?);
     assert!(rt; buffer.draw().is_ok_and(|place| place == 0));
     Ok(())
-}
-
-#[test]
-fn items_are_given_in_the_order_of_places(rt: HostRuntime) -> Result<(), Fail> {
-    let mut buffer = PlainBuf::new();
-    assert!(rt; buffer.draw().is_ok());
-    assert!(rt; buffer.draw().is_ok());
-    assert!(rt; buffer.publish(1, item(1)).is_ok());
-    assert!(rt; buffer.publish(0, item(2)).is_ok());
-    assert!(rt; gives(rt.alloc(), &mut buffer, &[item(2), item(1)])?);
-    assert!(rt; gives(rt.alloc(), &mut buffer, &[])?);
-    Ok(())
-}
-
-#[test]
-fn sixteen_places(rt: HostRuntime) {
-    let mut buffer = PlainBuf::new();
-    for place in 0..16 {
-        assert!(rt;
-            buffer
-                .publish(place, item(1))
-                .is_err_and(|fault| fault.place == place)
-        );
-        assert!(rt; buffer.draw().is_ok_and(|drawn| drawn == place));
-        assert!(rt; buffer.publish(place, item(1)).is_ok());
-        assert!(rt; buffer.publish(place, item(2)).is_err());
-    }
-    assert!(rt; buffer.draw().is_err_and(|fault| fault.count == 16));
-    assert!(rt; buffer.publish(16, item(1)).is_err());
 }
 
 #[test]

@@ -1,8 +1,8 @@
 //! Scripts that are read from bytes.
-use crate::{
+use rp_base::{Seq, Which};
+use rp_script::{
     Forms, LineKind, NumberedLine, ScriptFault, ScriptLine, ScriptReader, ScriptStop, read_lines,
 };
-use rp_base::{Seq, Which};
 use std::test::Fail;
 
 /// Every form of line, and two lines that are skipped.

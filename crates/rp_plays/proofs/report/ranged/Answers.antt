@@ -1,6 +1,6 @@
 use Rattle.std.proofs.lemmas.List.Elements.{All-push}
 use Rattle.rp_report.specs.Shown.{IsShownRange}
-use Rattle.rp_report.proofs.tests.ranged.Goals as goal
+use Rattle.rp_plays.proofs.report.ranged.Goals as goal
 
 pub returns : goal.returns
 returns c = record {

@@ -1,7 +1,7 @@
 //! Lines that are taken and refused.
-use crate::{LineFault, LineKind, Script, ScriptLine};
 use rp_base::{Key, NodeId, RangeId, Value};
 use rp_request::Request;
+use rp_script::{LineFault, LineKind, Script, ScriptLine};
 use std::test::Fail;
 
 /// What the first line of a script that is refused is refused for.

@@ -1,19 +1,12 @@
-//! Flushes of worked inboxes.
-use crate::{Assigned, WaitList, assign};
+//! A flush of a worked inbox.
+use crate::samples::attempt;
 use rp_base::{
     CmdId, Grown, Item, Items, Lease, LeaseAsk, LeaseIndex, LeaseSeq, NodeId, Seq, Tick,
 };
+use rp_flush::{Assigned, WaitList, assign};
 use rp_request::Waiting;
 use std::alloc::Global;
 use std::test::Fail;
-
-fn id(seq: u32) -> CmdId {
-    CmdId {
-        client: 1,
-        seq,
-        attempt: 1,
-    }
-}
 
 fn ask(expires: u64) -> Result<LeaseAsk, Fail> {
     Ok(LeaseAsk {
@@ -28,7 +21,7 @@ fn waiting(alloc: Global, parts: &[(u32, u64)]) -> Result<WaitList, Fail> {
     let mut list = Seq::new(alloc);
     for part in parts {
         list.push(Waiting {
-            id: id(part.0),
+            id: attempt(part.0),
             seq: LeaseSeq::new(part.1),
         })?;
     }
@@ -69,62 +62,26 @@ fn gives(flushed: &Assigned, writes: &[(CmdId, LeaseIndex)], refused: &[CmdId]) 
 }
 
 #[test]
-fn lease_asks_go_first(rt: HostRuntime) -> Result<(), Fail> {
-    let (first, second) = (ask(40)?, ask(41)?);
-    let items = [
-        Item::Write(id(2)),
-        Item::Lease(first),
-        Item::Write(id(1)),
-        Item::Lease(second),
-    ];
-    let list = waiting(rt.alloc(), &[(1, 3), (2, 3)])?;
-    let flushed = flush(rt.alloc(), &items, &list, 7, 4)?;
-    assert!(rt; flushed.leases.as_slice() == [first, second].as_slice());
-    assert!(rt;
-        gives(
-            &flushed,
-            &[(id(2), LeaseIndex::new(8)), (id(1), LeaseIndex::new(9))],
-            &[]
-        )
-    );
-    assert!(rt; flushed.last.get() == 9);
-    Ok(())
-}
-
-#[test]
 fn a_command_is_settled_once(rt: HostRuntime) -> Result<(), Fail> {
+    let ask = ask(40)?;
     let items = [
-        Item::Write(id(1)),
-        Item::Write(id(2)),
-        Item::Write(id(1)),
-        Item::Write(id(9)),
-        Item::Write(id(2)),
-        Item::Write(id(3)),
+        Item::Write(attempt(1)),
+        Item::Write(attempt(2)),
+        Item::Write(attempt(1)),
+        Item::Lease(ask),
+        Item::Write(attempt(9)),
+        Item::Write(attempt(2)),
+        Item::Write(attempt(3)),
     ];
     let list = waiting(rt.alloc(), &[(3, 3), (2, 2), (1, 3)])?;
     let flushed = flush(rt.alloc(), &items, &list, 4, 7)?;
     assert!(rt;
         gives(
             &flushed,
-            &[(id(1), LeaseIndex::new(8)), (id(3), LeaseIndex::new(9))],
-            &[id(2)]
+            &[(attempt(1), LeaseIndex::new(8)), (attempt(3), LeaseIndex::new(9))],
+            &[attempt(2)]
         )
     );
-    assert!(rt; flushed.last.get() == 9);
-    assert!(rt; flushed.leases.len() == 0);
-    Ok(())
-}
-
-#[test]
-fn without_an_index_the_last_stays(rt: HostRuntime) -> Result<(), Fail> {
-    let items = [
-        Item::Write(id(2)),
-        Item::Lease(ask(40)?),
-        Item::Write(id(9)),
-    ];
-    let list = waiting(rt.alloc(), &[(2, 2)])?;
-    let flushed = flush(rt.alloc(), &items, &list, 7, 4)?;
-    assert!(rt; gives(&flushed, &[], &[id(2)]));
-    assert!(rt; flushed.last.get() == 4);
+    assert!(rt; flushed.last.get() == 9 && flushed.leases.as_slice() == [ask].as_slice());
     Ok(())
 }

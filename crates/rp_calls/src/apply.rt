@@ -2,9 +2,10 @@
 ghost use Rattle.std.specs.Prelude.{IsTrue};
 ghost use Rattle.rp_request.specs.Applicable.{Fits};
 
-use crate::{ApplyState, Verdict, check};
+use crate::samples::{attempt, key};
+use rp_apply::{ApplyState, Verdict, check};
 use rp_base::{
-    CmdId, Key, Lease, LeaseAsk, LeaseIndex, LeaseSeq, NoMemory, NodeId, RangeId, Tick, Value,
+    Key, Lease, LeaseAsk, LeaseIndex, LeaseSeq, NoMemory, NodeId, RangeId, Tick, Value,
 };
 use rp_range::{first_desc, first_lease, split_at};
 use rp_request::{Batch, Command, Op, Payload, Place, Record, Reply, Request, Why};
@@ -12,12 +13,6 @@ use rp_table::Table;
 use std::alloc::Global;
 use std::test::Fail;
 use std::thread::join;
-
-const ID: CmdId = CmdId {
-    client: 1,
-    seq: 1,
-    attempt: 1,
-};
 
 /// The first range, without keys, at index 0.
 fn fresh(alloc: Global) -> ApplyState {
@@ -32,10 +27,6 @@ fn fresh(alloc: Global) -> ApplyState {
     )
 }
 
-fn key(text: &str) -> Result<Key, Fail> {
-    Ok(Key::read(text.as_bytes())?)
-}
-
 /// A command under this sequence, with this maximum, that sets a key.
 fn put(alloc: Global, key: Key, value: u64, seq: u64, max: u64) -> Result<Payload, NoMemory> {
     let mut batch = Batch::new(alloc);
@@ -44,7 +35,7 @@ fn put(alloc: Global, key: Key, value: u64, seq: u64, max: u64) -> Result<Payloa
         value: Value::Number(value),
     })?;
     Ok(Payload::Write(Command {
-        id: ID,
+        id: attempt(1),
         request: Request::Put {
             key,
             value: Value::Number(value),
@@ -60,7 +51,7 @@ fn put(alloc: Global, key: Key, value: u64, seq: u64, max: u64) -> Result<Payloa
 fn took(key: Key, value: u64, seq: u64) -> Record {
     let value = Value::Number(value);
     Record::Took(Place::Write {
-        id: ID,
+        id: attempt(1),
         request: Request::Put { key, value },
         seq: LeaseSeq::new(seq),
         reply: Reply::Old(None),
@@ -70,7 +61,7 @@ fn took(key: Key, value: u64, seq: u64) -> Record {
 /// A command under sequence 1 that splits, with this maximum.
 fn split(alloc: Global, key: Key, max: u64) -> Payload {
     Payload::Write(Command {
-        id: ID,
+        id: attempt(1),
         request: Request::Split { key },
         batch: Batch::new(alloc),
         reply: Reply::Set,
@@ -143,32 +134,11 @@ fn a_command_applies_once(rt: HostRuntime) -> Result<(), Fail> {
     ] {
         assert!(rt; apply(&mut state, payload) == Some(want));
     }
+    let (state, ()) = join(&rt, move || state, || ());
     assert!(rt; lastly(&state, Record::Passed(Why::OldIndex), took(a, 2, 1)));
     assert!(rt; state.index() == 3 && state.lai() == LeaseIndex::new(1));
     assert!(rt; state.before() == 0 && state.records().len() == 3);
     assert!(rt; state.table().len() == 1 && state.table().get(a) == Some(Value::Number(2)));
-    Ok(())
-}
-
-#[test]
-fn a_lower_index_is_passed(rt: HostRuntime) -> Result<(), Fail> {
-    let mut state = fresh(rt.alloc());
-    let (a, b) = (key("a")?, key("b")?);
-    let second = put(rt.alloc(), b, 2, 1, 2)?;
-    let first = put(rt.alloc(), a, 1, 1, 1)?;
-    let again = put(rt.alloc(), a, 1, 1, 3)?;
-    let passed = Verdict::OldIndex {
-        lai: LeaseIndex::new(2),
-    };
-    assert!(rt; apply(&mut state, &second) == Some(Verdict::Took));
-    assert!(rt; apply(&mut state, &first) == Some(passed));
-    assert!(rt; state.table().get(a) == None);
-    assert!(rt; apply(&mut state, &again) == Some(Verdict::Took));
-    assert!(rt; state.lai() == LeaseIndex::new(3));
-    assert!(rt;
-        state.table().get(a) == Some(Value::Number(1))
-            && state.table().get(b) == Some(Value::Number(2))
-    );
     Ok(())
 }
 
@@ -207,7 +177,7 @@ fn a_split_keeps_the_left_part(rt: HostRuntime) -> Result<(), Fail> {
     assert!(rt; desc.level == 1 && desc.start == 0 && desc.end == m.bound());
     assert!(rt; state.table().len() == 0 && state.lai() == LeaseIndex::new(2));
     let item = Record::Took(Place::Split {
-        id: ID,
+        id: attempt(1),
         key: m,
         right,
         seq: LeaseSeq::new(1),
@@ -233,17 +203,5 @@ fn a_snapshot_keeps_records(rt: HostRuntime) -> Result<(), Fail> {
     let piece = state.earlier().first().ok_or("a piece")?;
     assert!(rt; piece.before() == 0);
     assert!(rt; piece.as_slice().first() == Some(&Record::Passed(Why::Nothing)));
-    Ok(())
-}
-
-#[test]
-fn passes_through_threads(rt: HostRuntime) -> Result<(), Fail> {
-    let mut state = fresh(rt.alloc());
-    let a = key("a")?;
-    let command = put(rt.alloc(), a, 5, 1, 1)?;
-    assert!(rt; apply(&mut state, &command) == Some(Verdict::Took));
-    let (state, seven) = join(&rt, move || state, || 7);
-    assert!(rt; state.table().get(a) == Some(Value::Number(5)));
-    assert!(rt; seven == 7);
     Ok(())
 }
