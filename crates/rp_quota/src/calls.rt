@@ -56,11 +56,13 @@ impl Quota {
         requires of { IsShareOf self.now share.old }
         requires most { units ≤ capacity_of self.now }
         ensures same { IsSame share.old share.new }
+        ensures parts { (known_by share.new).parts ≡ (known_by share.old).parts }
         ensures takes { Takes (known_by share.old) units result (known_by share.new) }
     {
         let shared = &self.table.shared;
         let loaded = shared.load::<Load>(&mut share.seat, FREE);
-        if loaded < units {
+        let low = loaded < units;
+        if low {
             return Err(QuotaFault::Low { free: loaded });
         }
         let rest = loaded - units;
@@ -77,6 +79,7 @@ impl Quota {
         requires of { IsShareOf self.now share.old }
         requires held { units ≤ (known_by share.old).units }
         ensures same { IsSame share.old share.new }
+        ensures parts { (known_by share.new).parts ≡ (known_by share.old).parts }
         ensures fewer { (known_by share.new).units + units ≡ (known_by share.old).units }
         ensures kept { known_by share.new
             ≡ holding (known_by share.old).parts (known_by share.new).units (known_by share.old).looks }
