@@ -3,6 +3,8 @@
 
 mod entries;
 mod logs;
+mod overlay;
+mod segments;
 #[cfg(test)]
 mod tests;
 

@@ -2,7 +2,9 @@
 ghost use Rattle.std.specs.Prelude.{◌≡◌, ◌+◌, ◌<◌, ◌≤◌, ◌^◌, [], ◌∷◌, length, option_copied, if◌then◌else◌, IfOk, OnOk, OnErr};
 ghost use Rattle.rp_raftlog.specs.LogState.{accepted, accepted_to, appended, cut, entry_at, last_index, last_term, log_at, matches, suffix, term_at};
 
-use crate::entries::{Entries, Entry, after_first, copies, put_over};
+use crate::entries::{Entries, Entry};
+use crate::overlay::{after_first, append_all, put_over};
+use crate::segments::Segments;
 use rp_base::NoMemory;
 use std::alloc::Global;
 use std::error::Error;
@@ -29,18 +31,18 @@ impl Error for Mismatch {}
 pub struct Log {
     base: u64,
     base_term: u64,
-    entries: Vec<Entry>,
+    entries: Segments,
 }
 
 impl Model for Log {
-    ghost use Rattle.std.specs.Prelude.{◌+◌, ◌-◌, ◌<◌, ◌^◌, vec_len, vec_capacity};
+    ghost use Rattle.std.specs.Prelude.{◌+◌, ◌<◌, ◌^◌, length};
     ghost use Rattle.rp_raftlog.specs.Held.{Held};
 
     ghost Value = { Held };
 
-    ghost view = { λ l. record { log = record { base = l.base; base_term = l.base_term; entries = l.entries.items }; spare = vec_capacity l.entries - vec_len l.entries } };
+    ghost view = { λ l. record { log = record { base = l.base; base_term = l.base_term; entries = l.entries.entries }; spare = l.entries.spare } };
 
-    ghost invariant = { λ l. l.base + vec_len l.entries < 2 ^ 64 };
+    ghost invariant = { λ l. l.base + length l.entries.entries < 2 ^ 64 };
 }
 
 impl Log {
@@ -51,7 +53,7 @@ impl Log {
         Log {
             base: index,
             base_term: term,
-            entries: Vec::new(alloc),
+            entries: Segments::new(alloc),
         }
     }
 
@@ -69,7 +71,7 @@ impl Log {
         ensures term { result.1 ≡ last_term self.now.log }
     {
         let index = self.base + self.entries.len() as u64;
-        match self.entries.last() {
+        match self.entries.get(self.entries.len().saturating_sub(1)) {
             Some(entry) => (index, entry.term),
             None => (index, self.base_term),
         }
@@ -101,8 +103,7 @@ impl Log {
         ensures room { OnOk result (n ≤ self.new.spare) }
         ensures kept { self.old.spare ≤ self.new.spare }
     {
-        self.entries.reserve(n)?;
-        Ok(())
+        self.entries.make_room(n)
     }
 
     /// Puts an entry behind the last, without memory.
@@ -112,7 +113,7 @@ impl Log {
         ensures log { self.new.log ≡ appended self.old.log (entry ∷ []) }
         ensures spare { self.old.spare ≤ self.new.spare + 1 }
     {
-        self.entries.push_reserved(entry);
+        self.entries.push(entry);
     }
 
     /// Puts entries behind the last, without memory.
@@ -122,8 +123,7 @@ impl Log {
         ensures log { self.new.log ≡ appended self.old.log entries }
         ensures spare { self.old.spare ≤ self.new.spare + length entries }
     {
-        let mut entries = entries.into_vec();
-        self.entries.append(&mut entries).unwrap();
+        append_all(&mut self.entries, entries.into_vec());
     }
 
     /// Copies of the first `most` entries from the index `from` on.
@@ -132,8 +132,7 @@ impl Log {
         requires within { from ≤ last_index self.now.log + 1 }
         ensures { IfOk result (λ entries. entries ≡ suffix self.now.log from most) }
     {
-        let rest = &self.entries[(from - self.base - 1) as usize..];
-        copies(*self.entries.allocator(), &rest[..most.min(rest.len())])
+        self.entries.copies((from - self.base - 1) as usize, most)
     }
 
     /// Takes a leader's entries after an index and a term in, without memory. `Mismatch` exactly where
@@ -180,7 +179,7 @@ impl Log {
         ensures spare { self.old.spare ≤ self.new.spare }
     {
         let term = self.term_at(to).unwrap();
-        self.entries.drain(..(to - self.base) as usize);
+        self.entries.drop_front((to - self.base) as usize);
         self.base = to;
         self.base_term = term;
     }
@@ -190,7 +189,7 @@ impl Log {
         ensures log { self.new.log ≡ log_at index term }
         ensures spare { self.old.spare ≤ self.new.spare }
     {
-        self.entries.clear();
+        self.entries.drop_front(self.entries.len());
         self.base = index;
         self.base_term = term;
     }

@@ -159,6 +159,30 @@ fn refuses_entries_that_do_not_follow(rt: HostRuntime) -> Result<(), Fail> {
     Ok(())
 }
 
+/// A log of 130 entries of term 1, which stand in three segments.
+fn long_log(alloc: Global) -> Result<Log, Fail>
+    ensures { IfOk result (λ log. log.log.base ≡ 10) }
+{
+    let mut log = Log::at(alloc, 10, 1);
+    for byte in 0..130u8 {
+        let taken = accept(alloc, &mut log, 10 + u32::from(byte), 1, &[(1, byte)])?;
+        let _ = taken.ok().ok_or("they match")?;
+    }
+    Ok(log)
+}
+
+#[test]
+fn segments_are_one_log(rt: HostRuntime) -> Result<(), Fail> {
+    let mut log = long_log(rt.alloc())?;
+    assert!(rt; log.last() == (140, 1));
+    assert!(rt; are(&log.suffix(74, 2)?, &[(1, 63), (1, 64)]));
+    log.cut_front(80);
+    assert!(rt; log.entry_at(81).is_some_and(|first| is(first, (1, 70))));
+    assert!(rt; accept(rt.alloc(), &mut log, 100, 1, &[(2, 7)])? == Ok(101));
+    assert!(rt; log.last() == (101, 2));
+    Ok(())
+}
+
 #[test]
 fn cuts_and_resets(rt: HostRuntime) -> Result<(), Fail> {
     let mut log = log(rt.alloc(), &[(1, 5), (2, 6), (3, 7)])?;

@@ -5,7 +5,7 @@ use Rattle.rp_raftlog.proofs.logs.Log.accept.Goals as goal
 
 pub put_over-requires-clause-place : goal.put_over-requires-clause-place
 put_over-requires-clause-place c =
-    let within = matched_within c.self.inside.base c.self.inside.base_term c.self.inside.entries.items c.args.prev_index c.args.prev_term
+    let within = matched_within c.self.inside.base c.self.inside.base_term c.self.inside.entries.entries c.args.prev_index c.args.prev_term
     (ap (λ h. matches h.log c.args.prev_index c.args.prev_term) c.self.view_is ∙ sym c.matches.ensures ∙ c.if-not-matches.false) in
     omega (arith, c.saturating_sub-place.ensures, within)
 
