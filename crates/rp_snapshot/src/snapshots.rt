@@ -7,9 +7,9 @@ use rp_table::Table;
 use std::alloc::Global;
 use std::marker::Model;
 
-/// A copy of what a replica has applied: the range's description, its lease, the lease applied index
-/// and the table. At which index that was, the message says that carries it. Contracts see the
-/// applied state.
+/// A copy of what a replica has applied: the range's description, its lease, the lease applied
+/// index and the table. The index of the log stands in the message that carries it. Contracts see
+/// the applied state.
 #[derive(Drop)]
 pub struct Snapshot {
     desc: Desc,
@@ -27,7 +27,12 @@ impl Model for Snapshot {
 
     ghost coded = { Prim.hlevel (codes, table_code) };
 
-    ghost view = { λ s. record { desc = s.desc; lease = s.lease; lai = s.lai; table = s.table.map } };
+    ghost view = { λ s. record {
+      desc = s.desc;
+      lease = s.lease;
+      lai = s.lai;
+      table = s.table.map;
+    } };
 }
 
 /// A snapshot of this applied state. The copy of the table has that table's allocator.
@@ -81,12 +86,14 @@ impl Snapshot {
         (desc, lease, lai, table)
     }
 
+    /// The range's description.
     pub fn desc(&self) -> Desc
         ensures { result ≡ self.now.desc }
     {
         self.desc
     }
 
+    /// The range's lease.
     pub fn lease(&self) -> Lease
         ensures { result ≡ self.now.lease }
     {
@@ -100,6 +107,7 @@ impl Snapshot {
         self.lai
     }
 
+    /// The rows.
     pub fn table(&self) -> &Table
         ensures { result.now.map ≡ self.now.table }
     {

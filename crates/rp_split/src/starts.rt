@@ -27,7 +27,12 @@ impl Model for RightStart {
 
     ghost coded = { Prim.hlevel (codes, table_code) };
 
-    ghost view = { λ s. record { desc = s.desc; lease = s.lease; lai = 0; table = s.table.map } };
+    ghost view = { λ s. record {
+      desc = s.desc;
+      lease = s.lease;
+      lai = 0;
+      table = s.table.map;
+    } };
 }
 
 /// The start of the first range: all keys, the first lease, and no row. It takes no memory.
@@ -46,8 +51,8 @@ pub fn first(alloc: Global) -> RightStart
     }
 }
 
-/// The start of the right range where a range splits at the key: a copy of the part of its table from
-/// the key on, the right description and its present lease. The copy has the table's allocator.
+/// The start of the right range where a range splits at the key: a copy of the part of its table
+/// from the key on, the right description and its present lease. The copy has the table's allocator.
 pub fn trigger(
     _alloc: Global,
     table: &Table,
@@ -84,18 +89,21 @@ impl RightStart {
         (desc, lease, table)
     }
 
+    /// The range's description.
     pub fn desc(&self) -> Desc
         ensures { result ≡ self.now.desc }
     {
         self.desc
     }
 
+    /// The range's lease.
     pub fn lease(&self) -> Lease
         ensures { result ≡ self.now.lease }
     {
         self.lease
     }
 
+    /// The rows.
     pub fn table(&self) -> &Table
         ensures { result.now.map ≡ self.now.table }
     {
