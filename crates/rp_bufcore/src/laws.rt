@@ -1,5 +1,6 @@
 //! Laws of the buffer machine over any list of events. No program calls these functions.
 ghost use Rattle.rp_bufcore.specs.Events.{EachGivenOnce, GivenByTheNext, NothingLeft, StaysSound};
+ghost use Rattle.rp_bufcore.specs.Steps.{CollectIsSteps};
 
 /// A published item is given once or still waits: it is never given twice.
 #[tactic(auto, using(crate::proofs::Running::each_given_once))]
@@ -21,4 +22,10 @@ pub fn a_collect_leaves_nothing()
 /// A buffer keeps its places, and those that are not drawn are free.
 pub fn places_that_are_not_drawn_are_free()
     ensures { StaysSound }
+{}
+
+/// A collect is a close, then a taking of each place in order, then a reopening where each drawn
+/// place is taken. Others may draw and publish between these steps.
+pub fn a_collect_is_its_steps()
+    ensures { CollectIsSteps }
 {}

@@ -28,7 +28,8 @@ use Rattle.rp_request.specs.declared.verdicts.Verdict.TheVariants as verdicts
 use Rattle.rp_request.proofs.Numbers.{after_further, records_further}
 use Rattle.rp_rangesafe.specs.Along.{entry, state, Takes}
 use Rattle.rp_rangesafe.specs.World.{World, state_at, IsEvaluated}
-use Rattle.rp_rangesafe.specs.Places.{shown, items_to, body_of}
+use Rattle.rp_rangesafe.specs.Places.{items_to, body_of}
+use Rattle.rp_request.specs.States.{shown}
 
 -- the state after so many entries, by the list
 pub state_is : (b : AppliedState) (log : List Payload) (i : ℕ) → i ≤ length log → after_all b (take i log) ≡ state b (entry log) i

@@ -18,7 +18,8 @@ use Rattle.rp_request.specs.Applied.{AppliedState, command_verdict, asked, writt
 use Rattle.rp_rangesafe.specs.Along.{entry}
 use Rattle.rp_rangesafe.specs.World.{World, state_at, begin, Event, Admit, Flush, Return, Refuse, Commit, Apply, Snapshot, Remove, Restart, Lawful, AllLawful, happens, run}
 use Rattle.rp_rangesafe.specs.Places.{IsReached}
-use Rattle.rp_rangesafe.specs.Ranges.{Ranges, first_applied, AreReached}
+use Rattle.rp_rangesafe.specs.Ranges.{Ranges, AreReached}
+use Rattle.rp_request.specs.States.{first_applied}
 use Rattle.rp_rangesafe.proofs.OneRange.{numbers_rise}
 use Rattle.rp_rangesafe.proofs.Whole.{whole_reached}
 use Rattle.rp_rangesafe.proofs.Rights.{IsOrigin, Opens, opens_it, sources_reached, left_below}

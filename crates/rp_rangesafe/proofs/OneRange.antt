@@ -10,7 +10,8 @@ use Rattle.rp_request.specs.Applied.{IsBlocked}
 use Rattle.rp_rangesafe.specs.Attempts.{Stage, Unborn, Success, Refused, Overtaken, Restarted, Attempt, IsEnded, IsOpen, IsUntaken, IsAmong}
 use Rattle.rp_rangesafe.specs.Along.{entry, state, Takes}
 use Rattle.rp_rangesafe.specs.World.{World, state_at, here}
-use Rattle.rp_rangesafe.specs.Places.{IsReached, IsLater, IsFurther, IsPlace, IsDeadByStage, IsDeadForGood, HasNever, IsPlacedWith, IsLawfulPlace, shown, items_to}
+use Rattle.rp_rangesafe.specs.Places.{IsReached, IsLater, IsFurther, IsPlace, IsDeadByStage, IsDeadForGood, HasNever, IsPlacedWith, IsLawfulPlace, items_to}
+use Rattle.rp_request.specs.States.{shown}
 use Rattle.rp_rangesafe.proofs.Numbers.{onward, one_holder, timely_at, blocked_never}
 use Rattle.rp_rangesafe.proofs.One.{Good, one_place, never, place_open, born_with}
 use Rattle.rp_rangesafe.proofs.Worlds.{extends_itself, Sound}

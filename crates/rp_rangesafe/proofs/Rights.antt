@@ -24,8 +24,10 @@ use Rattle.rp_request.specs.declared.verdicts.Verdict.TheVariants.{Took, OldLeas
 use Rattle.rp_request.specs.declared.verdicts.Verdict.TheVariants as verdicts
 use Rattle.rp_rangesafe.specs.Along.{entry}
 use Rattle.rp_rangesafe.specs.World.{World, begin, state_at, Admit, Flush, Return, Refuse, Commit, Apply, Snapshot, Remove, Restart, happens, with_node}
-use Rattle.rp_rangesafe.specs.Places.{shown, items_to}
-use Rattle.rp_rangesafe.specs.Ranges.{Ranges, first_applied, at_first, Step, In, Turn_away, IsLawfulIn, IsLawful, right_with, right_by_request, right_by, right_of, with_right, within, after_event, after_step, AreLawful, after_steps, AreReached, lists}
+use Rattle.rp_rangesafe.specs.Places.{items_to}
+use Rattle.rp_request.specs.States.{shown}
+use Rattle.rp_rangesafe.specs.Ranges.{Ranges, at_first, Step, In, Turn_away, IsLawfulIn, IsLawful, with_right, within, after_event, after_step, AreLawful, after_steps, AreReached, lists}
+use Rattle.rp_request.specs.States.{first_applied, right_with, right_by_request, right_by, right_of}
 use Rattle.rp_rangesafe.proofs.Tables.{node_same, at_with_node}
 use Rattle.rp_rangesafe.proofs.Runs.{later_start, later_longer, later_entry, later_state}
 use Rattle.rp_rangesafe.proofs.Folds.{one_more}

@@ -11,7 +11,8 @@ use Rattle.rp_request.specs.Applied.{AppliedState, written, after, desc_after, l
 use Rattle.rp_rangesafe.specs.Along.{entry}
 use Rattle.rp_rangesafe.specs.World.{World, begin, state_at, Admit, Flush, Return, Refuse, Commit, Apply, Snapshot, Remove, Restart, happens, with_node}
 use Rattle.rp_rangesafe.specs.Places.{IsLater}
-use Rattle.rp_rangesafe.specs.Ranges.{Ranges, first_applied, at_first, Step, In, Turn_away, IsLawfulIn, IsLawful, right_of, with_right, within, after_event, after_step, AreLawful, after_steps, AreReached}
+use Rattle.rp_rangesafe.specs.Ranges.{Ranges, at_first, Step, In, Turn_away, IsLawfulIn, IsLawful, with_right, within, after_event, after_step, AreLawful, after_steps, AreReached}
+use Rattle.rp_request.specs.States.{first_applied, right_of}
 use Rattle.rp_rangesafe.proofs.Tables.{node_same, at_with_node}
 use Rattle.rp_rangesafe.proofs.OneRange.{numbers_rise}
 use Rattle.rp_rangesafe.proofs.Whole.{Whole, Onto, whole_first, whole_step, onto_step, onto_in, onto_right, whole_in, whole_reached}

@@ -8,7 +8,9 @@ use Rattle.rp_request.specs.Applied.{AppliedState}
 use Rattle.rp_rangesafe.specs.Attempts.{Unborn, Refused, Attempt, IsBorn, IsEnded}
 use Rattle.rp_rangesafe.specs.World.{World, begin, state_at, Event, Admit, Flush, Return, Refuse, Commit, Apply, Snapshot, Remove, Restart, Lawful, happens, with_node}
 use Rattle.rp_rangesafe.specs.Places.{IsReached, IsLater}
-use Rattle.rp_rangesafe.specs.Ranges.{Owner, Nobody, Turned, At, Ranges, first_applied, at_first, Step, In, Turn_away, IsMade, IsRefusedAt, IsRefused, previous, MayBegin, IsLawfulIn, IsLawful, right_of, with_right, with_owner, within, after_event, after_step, AreLawful, after_steps, AreReached, AreLater}
+use Rattle.rp_rangesafe.specs.Ranges.{Owner, Nobody, Turned, At, Ranges, at_first, Step, In, Turn_away, IsMade, IsRefusedAt, IsRefused, MayBegin, IsLawfulIn, IsLawful, with_right, with_owner, within, after_event, after_step, AreLawful, after_steps, AreReached, AreLater}
+use Rattle.rp_request.specs.Attempts.{previous}
+use Rattle.rp_request.specs.States.{first_applied, right_of}
 use Rattle.rp_rangesafe.proofs.Tables.{node_other, at_with_node}
 use Rattle.rp_rangesafe.proofs.Growth.{Admits, made_before}
 use Rattle.rp_rangesafe.proofs.Runs.{later_itself, later_further, later_reached, later_grown}

@@ -4,7 +4,6 @@ use Rattle.rp_base.specs.declared.ids.CmdId.{CmdId}
 use Rattle.rp_request.specs.declared.commands.Command.{Command}
 use Rattle.rp_request.specs.declared.outcomes.Reply.{Reply}
 use Rattle.rp_request.specs.declared.items.Place.{Place}
-use Rattle.rp_request.specs.Items as items
 use Rattle.rp_request.specs.Records.{applied}
 use Rattle.rp_request.specs.Applied.{AppliedState, records_of, IsBlocked}
 use Rattle.rp_request.specs.Onward.{IsOnward}
@@ -79,10 +78,6 @@ pub record IsPlacedWith (w : World) (id : CmdId) (reply : Reply) : Type 0 where
 -- what a command carries of its evaluation
 abbrev pub body_of : Command → Body
 body_of c = record { request = c.request; batch = c.batch; reply = c.reply }
-
--- table, description and lease of an applied state
-abbrev pub shown : AppliedState → items.State
-shown s = record { table = s.table; desc = s.desc; lease = s.lease }
 
 -- the items of so many entries of the list
 abbrev pub items_to : World → ℕ → List Place

@@ -1,24 +1,14 @@
 -- The ranges together: commands with further attempts after a refusal, and right ranges that a
 -- split opens.
-use Rattle.std.specs.Prelude.{◌≡◌, ℕ, ◌-◌, ◌<◌, Bool, true, ◌==◌, if◌then◌else◌, ◌⊎◌, List, [], ◌∷◌, length, Option, None, Some, Result, Ok, Err}
+use Rattle.std.specs.Prelude.{◌≡◌, ℕ, ◌<◌, Bool, true, ◌==◌, if◌then◌else◌, ◌⊎◌, List, [], ◌∷◌, length, Option, None, Some}
 use Rattle.rp_base.specs.Ids.{same_id}
-use Rattle.rp_base.specs.Splits.{split_of}
 use Rattle.rp_base.specs.declared.ids.CmdId.{CmdId}
-use Rattle.rp_base.specs.declared.ranges.Desc.{Desc}
-use Rattle.rp_base.specs.declared.ranges.SplitFault.{SplitFault}
-use Rattle.rp_request.specs.declared.commands.Payload.{Payload}
-use Rattle.rp_request.specs.declared.commands.Payload.TheVariants.{Nothing, Write, Lease}
 use Rattle.rp_request.specs.declared.commands.Command.{Command}
-use Rattle.rp_request.specs.declared.requests.Request.{Request}
-use Rattle.rp_request.specs.declared.requests.Request.TheVariants.{Put, Add, CPut, Del, Wipe, Move, Split}
 use Rattle.rp_request.specs.declared.items.Place.{Place}
 use Rattle.rp_request.specs.declared.outcomes.Reply.{Reply}
-use Rattle.rp_base.specs.Tables.{from_on}
-use Rattle.rp_request.specs.Starts.{first_state}
-use Rattle.rp_request.specs.Applied.{AppliedState, command_verdict}
-use Rattle.rp_request.specs.declared.verdicts.Verdict.{Verdict}
-use Rattle.rp_request.specs.declared.verdicts.Verdict.TheVariants.{Took, OldLease, OldIndex, LeaseMoved}
-use Rattle.rp_request.specs.declared.verdicts.Verdict.TheVariants as verdicts
+use Rattle.rp_request.specs.Attempts.{previous}
+use Rattle.rp_request.specs.States.{first_applied, right_of}
+use Rattle.rp_request.specs.Applied.{AppliedState}
 use Rattle.rp_rangesafe.specs.Attempts.{Refused}
 use Rattle.rp_rangesafe.specs.World.{World, begin, state_at, Event, Admit, Flush, Return, Refuse, Commit, Apply, Snapshot, Remove, Restart, Lawful, happens, with_node}
 use Rattle.rp_rangesafe.specs.Places.{IsPlace, items_to}
@@ -34,15 +24,6 @@ pub record Ranges : Type 0 where
   pub range : ℕ → World
   pub opened : ℕ → Bool
   pub owner : CmdId → Owner
-
--- the state that range 0 starts from
-abbrev pub first_applied : AppliedState
-first_applied = record {
-  desc = first_state.desc;
-  lease = first_state.lease;
-  lai = 0;
-  table = first_state.table;
-}
 
 -- at first there is range 0, and no attempt was made
 abbrev pub at_first : Ranges
@@ -73,10 +54,6 @@ IsRefusedAt w id (At range) = ((w.range range).attempt id).stage ≡ Refused
 abbrev pub IsRefused : Ranges → CmdId → Type 0
 IsRefused w id = IsRefusedAt w id (w.owner id)
 
--- the attempt before this one
-abbrev pub previous : CmdId → CmdId
-previous id = record { client = id.client; seq = id.seq; attempt = id.attempt - 1 }
-
 -- an attempt may be made once: the first of its command, or the one after a refused one
 pub record MayBegin (w : Ranges) (id : CmdId) : Type 0 where
   pub new : w.owner id ≡ Nobody
@@ -97,32 +74,6 @@ pub record IsLawfulIn (w : Ranges) (range : ℕ) (e : Event) : Type 0 where
 abbrev pub IsLawful : Ranges → Step → Type 0
 IsLawful w (In range e) = IsLawfulIn w range e
 IsLawful w (Turn_away id) = MayBegin w id
-
--- the right range of a split, as it starts in this state
-abbrev pub right_with : AppliedState → ℕ → Result (Desc × Desc) SplitFault → Option AppliedState
-right_with s key (Ok parts) = Some (record {
-  desc = parts.1;
-  lease = s.lease;
-  lai = 0;
-  table = from_on s.table key;
-})
-right_with s key (Err fault) = None
-
--- the right range of a request: only a split has one
-abbrev pub right_by_request : AppliedState → Request → Option AppliedState
-right_by_request s (Split key) = right_with s key (split_of s.desc key)
-right_by_request s _ = None
-
--- the right range of a command by its verdict: only one that is taken opens it
-abbrev pub right_by : AppliedState → Command → Verdict → Option AppliedState
-right_by s c Took = right_by_request s c.request
-right_by s c _ = None
-
--- what an entry opens in a state
-abbrev pub right_of : AppliedState → Payload → Option AppliedState
-right_of s Nothing = None
-right_of s (Write c) = right_by s c (command_verdict s c)
-right_of s (Lease ask) = None
 
 -- a right range starts, where its number is not taken
 abbrev pub with_right : Ranges → Option AppliedState → Ranges

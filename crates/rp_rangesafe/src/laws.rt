@@ -17,8 +17,10 @@ ghost use Rattle.rp_request.specs.Applied.{AppliedState, item, records_of, after
 ghost use Rattle.rp_rangesafe.specs.Attempts.{Body, Unborn, Success, Refused, Overtaken, Restarted, IsBorn, IsBornAt, IsEnded, IsAmong, IsLast, IsOpen};
 ghost use Rattle.rp_rangesafe.specs.Along.{entry};
 ghost use Rattle.rp_rangesafe.specs.World.{World, state_at, here, Event, Admit, Apply, Restart, MayCommit, Lawful, admitted, happens};
-ghost use Rattle.rp_rangesafe.specs.Places.{HappensAt, IsReached, IsLater, IsFurther, IsPlace, IsDeadByStage, IsDeadForGood, HasNever, IsPlacedWith, IsLawfulPlace, shown, items_to};
-ghost use Rattle.rp_rangesafe.specs.Ranges.{Ranges, At, IsMade, AreReached, AreLater, IsRefused, IsTheOnePlace, HasNowhere, lists, right_of};
+ghost use Rattle.rp_rangesafe.specs.Places.{HappensAt, IsReached, IsLater, IsFurther, IsPlace, IsDeadByStage, IsDeadForGood, HasNever, IsPlacedWith, IsLawfulPlace, items_to};
+ghost use Rattle.rp_request.specs.States.{shown};
+ghost use Rattle.rp_rangesafe.specs.Ranges.{Ranges, At, IsMade, AreReached, AreLater, IsRefused, IsTheOnePlace, HasNowhere, lists};
+ghost use Rattle.rp_request.specs.States.{right_of};
 
 /// Along a range's list the lease applied index, the lease sequence and the level of its
 /// description never fall, and it keeps its number.

@@ -28,7 +28,8 @@ use Rattle.rp_rangesafe.specs.Attempts.{Body, Attempt, IsBorn, IsPending, with_a
 use Rattle.rp_rangesafe.specs.Along.{entry}
 use Rattle.rp_rangesafe.specs.World.{World, here, IsEvaluated, MayAdmit, happens}
 use Rattle.rp_rangesafe.specs.World as machine
-use Rattle.rp_rangesafe.specs.Ranges.{Owner, Turned, At, Ranges, Turn_away, IsRefused, IsRefusedAt, previous, MayBegin, with_owner, after_step}
+use Rattle.rp_rangesafe.specs.Ranges.{Owner, Turned, At, Ranges, Turn_away, IsRefused, IsRefusedAt, MayBegin, with_owner, after_step}
+use Rattle.rp_request.specs.Attempts.{previous}
 use Rattle.rp_rangesafe.proofs.Numbers.{onward}
 use Rattle.rp_rangesafe.proofs.Tables.{at_attempt}
 use Rattle.rp_refine.specs.Runs.{Run, IsRefusal, MayAsk, left_by}

@@ -34,7 +34,8 @@ use Rattle.rp_rangesafe.specs.Attempts.{Stage, Unborn, Waiting, Proposed, Succes
 use Rattle.rp_rangesafe.specs.Along.{entry, state}
 use Rattle.rp_rangesafe.specs.World.{World, here, happens, by_verdict, after_entry, with_node}
 use Rattle.rp_rangesafe.specs.World as machine
-use Rattle.rp_rangesafe.specs.Ranges.{Owner, At, Ranges, first_applied}
+use Rattle.rp_rangesafe.specs.Ranges.{Owner, At, Ranges}
+use Rattle.rp_request.specs.States.{first_applied}
 use Rattle.rp_base.proofs.IdLaws.{id_cases}
 use Rattle.rp_rangesafe.proofs.Tables.{at_same, at_other, at_nodes, node_same}
 use Rattle.rp_rangesafe.proofs.Folds.{state_is}

@@ -29,7 +29,8 @@ use Rattle.rp_rangesafe.specs.Attempts.{Body, Stage, Waiting, Proposed, Refused,
 use Rattle.rp_rangesafe.specs.World.{World, here, Event, Refuse, Commit, Lawful, AllLawful, happens, run}
 use Rattle.rp_rangesafe.specs.World as machine
 use Rattle.rp_rangesafe.specs.Places.{IsLater}
-use Rattle.rp_rangesafe.specs.Ranges.{Owner, Ranges, first_applied}
+use Rattle.rp_rangesafe.specs.Ranges.{Owner, Ranges}
+use Rattle.rp_request.specs.States.{first_applied}
 use Rattle.rp_rangesafe.proofs.Tables.{at_same, at_other}
 use Rattle.rp_rangesafe.proofs.Runs.{later_state}
 use Rattle.rp_refine.specs.Runs.{Outcomes, Run, with_outcome, with_ended, left_by}

@@ -4,7 +4,8 @@ use Rattle.rp_base.specs.declared.ids.CmdId.{CmdId}
 use Rattle.rp_request.specs.Applied.{AppliedState}
 use Rattle.rp_rangesafe.specs.Attempts.{Body}
 use Rattle.rp_rangesafe.specs.World.{World, begin, state_at, Event, Admit, Flush, Return, Refuse, Commit, Apply, Snapshot, Remove, Restart, Lawful, AllLawful, happens, run, with_node}
-use Rattle.rp_rangesafe.specs.Ranges.{At, Ranges, at_first, Step, In, MayBegin, IsLawful, right_of, with_right, with_owner, within, after_step, AreLawful, after_steps, AreReached, AreLater}
+use Rattle.rp_rangesafe.specs.Ranges.{At, Ranges, at_first, Step, In, MayBegin, IsLawful, with_right, with_owner, within, after_step, AreLawful, after_steps, AreReached, AreLater}
+use Rattle.rp_request.specs.States.{right_of}
 use Rattle.rp_rangesafe.proofs.Tables.{node_same, node_other}
 
 are_lawful_further : (w : Ranges) (xs ys : List Step) → AreLawful w xs → AreLawful (after_steps w xs) ys → AreLawful w (xs ++ ys)

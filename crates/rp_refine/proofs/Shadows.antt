@@ -16,7 +16,8 @@ use Rattle.rp_base.specs.Ids.{same_id}
 use Rattle.rp_rangesafe.specs.Attempts.{Stage, Unborn, Success, Refused, Attempt, Attempts, IsBorn, IsPending, with_attempt}
 use Rattle.rp_rangesafe.specs.World.{World, here, Event, AllLawful, happens, run}
 use Rattle.rp_rangesafe.specs.World as machine
-use Rattle.rp_rangesafe.specs.Ranges.{Owner, Nobody, Turned, At, Ranges, first_applied, AreLater, with_owner}
+use Rattle.rp_rangesafe.specs.Ranges.{Owner, Nobody, Turned, At, Ranges, AreLater, with_owner}
+use Rattle.rp_request.specs.States.{first_applied}
 use Rattle.rp_base.proofs.IdLaws.{same_is, not_same_apart, id_cases}
 use Rattle.rp_rangesafe.proofs.Tables.{at_same, at_other}
 use Rattle.rp_rangesafe.proofs.Growth.{Admits, grown_run, made_before}

@@ -41,8 +41,10 @@ use Rattle.rp_rangesafe.specs.Attempts.{Stage, Unborn, Waiting, Proposed, Succes
 use Rattle.rp_rangesafe.specs.Along.{entry, state, Takes}
 use Rattle.rp_rangesafe.specs.World.{World, IsEvaluated, state_at}
 use Rattle.rp_rangesafe.specs.Places as machine
-use Rattle.rp_rangesafe.specs.Places.{shown, items_to, body_of}
-use Rattle.rp_rangesafe.specs.Ranges.{Owner, Turned, At, Ranges, first_applied, IsRefused, IsRefusedAt}
+use Rattle.rp_rangesafe.specs.Places.{items_to, body_of}
+use Rattle.rp_request.specs.States.{shown}
+use Rattle.rp_rangesafe.specs.Ranges.{Owner, Turned, At, Ranges, IsRefused, IsRefusedAt}
+use Rattle.rp_request.specs.States.{first_applied}
 use Rattle.rp_rangesafe.proofs.Folds.{state_of_entries}
 use Rattle.rp_rangesafe.proofs.Joint.{range_reached, range_goes_on, one_place_of_all, refused_nowhere, place_recorded}
 use Rattle.rp_rangesafe.proofs.Once.{placed_born, once_in_each}

@@ -18,7 +18,7 @@ use Rattle.rp_request.specs.Applied.{command_verdict}
 use Rattle.rp_replica.proofs.Carrying.{read_back}
 use Rattle.rp_replica.specs.declared.events.ReplicaEvent.TheVariants.{Admit, Collect, Flush, Apply}
 use Rattle.rp_replica.specs.Applications.{next_payload, applied_where}
-use Rattle.rp_rangesafe.specs.Ranges.{first_applied}
+use Rattle.rp_request.specs.States.{first_applied}
 use Rattle.rp_refine.specs.Runs.{Input, Run, begun, with_outcome, left_by, AllLawful, next, play}
 
 abbrev one : CmdId

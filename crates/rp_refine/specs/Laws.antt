@@ -20,7 +20,7 @@ use Rattle.rp_replica.specs.Applications.{payload_of}
 use Rattle.rp_rangesafe.specs.Along.{entry, state, Takes}
 use Rattle.rp_rangesafe.specs.World.{IsEvaluated}
 use Rattle.rp_rangesafe.specs.Places.{body_of}
-use Rattle.rp_rangesafe.specs.Ranges.{first_applied}
+use Rattle.rp_request.specs.States.{first_applied}
 use Rattle.rp_refine.specs.Runs.{Input, Run, begun, AllLawful, play}
 
 -- a run as it can be: lawful events lead to it from the start

@@ -19,7 +19,8 @@ use Rattle.rp_replica.specs.Replicas.{Replica, Done, started}
 use Rattle.rp_replica.specs.Allows.{MayFlush}
 use Rattle.rp_replica.specs.Events.{event}
 use Rattle.rp_base.specs.Ids.{same_id}
-use Rattle.rp_rangesafe.specs.Ranges.{first_applied, previous}
+use Rattle.rp_request.specs.Attempts.{previous}
+use Rattle.rp_request.specs.States.{first_applied}
 
 -- an event, with the tick and the round of the node, and what the buffer gave
 pub record Input : Type 0 where

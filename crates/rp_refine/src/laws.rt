@@ -16,8 +16,8 @@ ghost use Rattle.rp_pending.specs.Proposals.{proposal_of};
 ghost use Rattle.rp_request.specs.Applied.{item, after_all, records_of};
 ghost use Rattle.rp_replica.specs.Carried.{AllCarry};
 ghost use Rattle.rp_replica.specs.Allows.{Allows, MayApplyNext, MayFlush};
-ghost use Rattle.rp_rangesafe.specs.Places.{shown};
-ghost use Rattle.rp_rangesafe.specs.Ranges.{first_applied};
+ghost use Rattle.rp_request.specs.States.{shown};
+ghost use Rattle.rp_request.specs.States.{first_applied};
 ghost use Rattle.rp_refine.specs.Runs.{Input, Run, begun, next, Lawful, IsRefusal};
 ghost use Rattle.rp_refine.specs.Laws.{IsReached, IsLater, payloads, records, items, state_after, IsEntryOf, IsPlace, IsLawfulPlace, IsTheOnePlace, HasNever, HaveDistinctIds, hold_of};
 

@@ -6,3 +6,4 @@ pub mod Report
 pub mod Summary
 pub mod Widths
 pub mod InTexts
+pub mod Notes

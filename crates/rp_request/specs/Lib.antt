@@ -10,5 +10,8 @@ pub mod Items
 pub mod Onward
 pub mod Places
 pub mod Records
+pub mod Requests
 pub mod Starts
 pub mod Texts
+pub mod States
+pub mod Attempts

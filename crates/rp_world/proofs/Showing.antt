@@ -55,7 +55,7 @@ use Rattle.rp_replica.specs.declared.plans.Turn.{Turn}
 use Rattle.rp_replica.specs.declared.plans.Turn.TheVariants as turns
 use Rattle.rp_script.specs.declared.lines.ScriptLine.{ScriptLine}
 use Rattle.rp_script.specs.declared.lines.ScriptLine.TheVariants as lines
-use Rattle.rp_world.specs.Notes.{absent_text, full_text}
+use Rattle.rp_report.specs.Notes.{absent_text, full_text}
 use Rattle.rp_world.specs.Playing.{applied, asked, collected, flushed, happens, has_replica, noted, peeked, played, told}
 use Rattle.rp_world.specs.Shows.{IsShownEntry, IsShowing}
 use Rattle.rp_world.specs.Sound.{IsGiven, IsSound}

@@ -33,7 +33,7 @@ use Rattle.rp_world.specs.Allows.{MayPlay, MaySend}
 use Rattle.rp_script.specs.Built.{unbuilt_in}
 use Rattle.rp_script.specs.Bounds.{IsTaken}
 use Rattle.rp_script.specs.declared.built.Forms.TheVariants.{OneNode}
-use Rattle.rp_world.specs.Notes.{absent_text, full_text}
+use Rattle.rp_report.specs.Notes.{absent_text, full_text}
 use Rattle.rp_world.specs.Playing.{applied, asked, collected, flushed, happens, has_replica, noted, peeked, played, played_all, told}
 use Rattle.rp_world.specs.Sound.{IsSent, IsGiven, IsWrite, IsSoundReplica, IsSound, FlushFits}
 use Rattle.rp_replica.specs.Writes.{WritesFit}

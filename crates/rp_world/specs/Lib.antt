@@ -1,4 +1,3 @@
-pub mod Notes
 pub mod Worlds
 pub mod Playing
 pub mod Views

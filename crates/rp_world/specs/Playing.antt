@@ -14,7 +14,7 @@ use Rattle.rp_replica.specs.declared.events.ReplicaEvent.TheVariants as events
 use Rattle.rp_script.specs.declared.lines.NumberedLine.{NumberedLine}
 use Rattle.rp_script.specs.declared.lines.ScriptLine.{ScriptLine}
 use Rattle.rp_script.specs.declared.lines.ScriptLine.TheVariants as lines
-use Rattle.rp_world.specs.Notes.{full_text, absent_text, nothing_text, peek_text}
+use Rattle.rp_report.specs.Notes.{full_text, absent_text, nothing_text, peek_text}
 use Rattle.rp_world.specs.Worlds.{World, with_outcome, with_note, took, next_command, counted}
 
 -- an event of the replica: there are no ticks and no rounds yet

@@ -1,7 +1,7 @@
 //! The texts of notes.
 ghost use Rattle.std.specs.Prelude.{◌≡◌, ◌++◌, codes, OnOk, IfOk};
 ghost use Rattle.rp_report.specs.Words.{spaced, spaced_key, value_or_none};
-ghost use Rattle.rp_world.specs.Notes.{peek_text};
+ghost use Rattle.rp_report.specs.Notes.{peek_text};
 
 use rp_base::{Key, NoMemory, Text, Value, push_word};
 use rp_report::{push_spaced, push_spaced_key, push_value_or_none};

@@ -5,7 +5,7 @@ ghost use Rattle.rp_replica.specs.Allows.{MayFlush, MayApply};
 ghost use Rattle.rp_replica.specs.Writes.{WritesFit};
 ghost use Rattle.rp_world.specs.Sound.{FlushFits};
 ghost use Rattle.rp_world.specs.Allows.{MayPlay, MaySend};
-ghost use Rattle.rp_world.specs.Notes.{absent_text};
+ghost use Rattle.rp_report.specs.Notes.{absent_text};
 ghost use Rattle.rp_world.specs.Worlds.{with_note};
 ghost use Rattle.rp_replica.specs.declared.events.ReplicaEvent.TheVariants as events;
 ghost use Rattle.rp_world.specs.Playing.{placed, told, asked, sent, flushed, collected, noted, applied, peeked, happens, played};

@@ -44,7 +44,7 @@ use Rattle.rp_script.specs.declared.built.Forms.TheVariants.{OneNode}
 use Rattle.rp_script.specs.declared.lines.NumberedLine.{NumberedLine}
 use Rattle.rp_script.specs.declared.lines.ScriptLine.{ScriptLine}
 use Rattle.rp_script.specs.declared.lines.ScriptLine.TheVariants as lines
-use Rattle.rp_world.specs.Notes.{absent_text, full_text}
+use Rattle.rp_report.specs.Notes.{absent_text, full_text}
 use Rattle.rp_world.specs.Playing.{applied, asked, collected, has_replica, happens, noted, peeked, played, played_all}
 use Rattle.rp_world.specs.Playing as playing
 use Rattle.rp_base.specs.Ids.{cmd_cmp}

@@ -15,8 +15,8 @@ use Rattle.rp_request.specs.declared.outcomes.Reply.{Reply}
 use Rattle.rp_pending.specs.Proposals.{proposal_of}
 use Rattle.rp_request.specs.Applied.{after_all, records_of}
 use Rattle.rp_replica.specs.Carried.{AllCarry}
-use Rattle.rp_rangesafe.specs.Places.{shown}
-use Rattle.rp_rangesafe.specs.Ranges.{first_applied}
+use Rattle.rp_request.specs.States.{shown}
+use Rattle.rp_request.specs.States.{first_applied}
 use Rattle.rp_refine.specs.Laws.{payload, IsPlace, IsLawfulPlace, IsTheOnePlace}
 use Rattle.rp_refine.specs.Runs.{IsRefusal}
 use Rattle.rp_script.specs.declared.lines.NumberedLine.{NumberedLine}

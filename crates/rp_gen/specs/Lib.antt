@@ -1,0 +1,4 @@
+pub mod Draws
+pub mod Words
+pub mod Ranges
+pub mod Scripts

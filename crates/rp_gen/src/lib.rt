@@ -1,0 +1,12 @@
+//! Large scripts, made from a number: the same number and size give the same script.
+#![tactic(auto)]
+
+mod drafts;
+mod holders;
+mod ranges;
+mod scripts;
+#[cfg(test)]
+mod tests;
+mod words;
+
+pub use scripts::make;

@@ -1,0 +1,8 @@
+//! What the workers do that carry messages between the nodes: here, which messages are lost.
+#![tactic(auto)]
+
+mod losses;
+#[cfg(test)]
+mod tests;
+
+pub use losses::lost;
