@@ -14,6 +14,8 @@ mod eval;
 #[cfg(test)]
 mod flush;
 #[cfg(test)]
+mod generator;
+#[cfg(test)]
 mod latch;
 #[cfg(test)]
 mod outside;
@@ -28,4 +30,10 @@ mod request;
 #[cfg(test)]
 mod samples;
 #[cfg(test)]
+mod snapshot;
+#[cfg(test)]
+mod split;
+#[cfg(test)]
 mod table;
+#[cfg(test)]
+mod workers;

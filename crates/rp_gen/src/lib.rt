@@ -5,8 +5,6 @@ mod drafts;
 mod holders;
 mod ranges;
 mod scripts;
-#[cfg(test)]
-mod tests;
 mod words;
 
 pub use scripts::make;

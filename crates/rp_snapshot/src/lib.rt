@@ -3,7 +3,5 @@
 #![tactic(auto)]
 
 mod snapshots;
-#[cfg(test)]
-mod tests;
 
 pub use snapshots::{Snapshot, make};

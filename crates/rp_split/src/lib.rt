@@ -3,7 +3,5 @@
 #![tactic(auto)]
 
 mod starts;
-#[cfg(test)]
-mod tests;
 
 pub use starts::{RightStart, first, trigger};

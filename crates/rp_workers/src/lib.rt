@@ -2,7 +2,5 @@
 #![tactic(auto)]
 
 mod losses;
-#[cfg(test)]
-mod tests;
 
 pub use losses::lost;

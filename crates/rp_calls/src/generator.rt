@@ -1,5 +1,5 @@
 //! A script beside the one that a program of its own made.
-use crate::make;
+use rp_gen::make;
 use std::test::Fail;
 
 const FIVE: &str = concat!(

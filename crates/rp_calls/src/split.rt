@@ -2,9 +2,10 @@
 ghost use Rattle.std.specs.Prelude.{IsTrue, IsOk};
 ghost use Rattle.rp_base.specs.Splits.{split_of};
 
-use crate::{RightStart, first, trigger};
+use crate::samples::key;
 use rp_base::{Desc, Key, Value};
-use rp_range::split_at;
+use rp_range::{first_desc, first_lease, split_at};
+use rp_split::{RightStart, first, trigger};
 use rp_table::Table;
 use std::alloc::Global;
 use std::test::Fail;
@@ -21,11 +22,10 @@ fn may_split(desc: Desc, key: Key) -> bool
 fn right_of_m(alloc: Global) -> Result<RightStart, Fail> {
     let mut table = Table::new(alloc);
     table.make_room(2)?;
-    table.write_one(Key::read(b"z")?, Value::Number(9));
-    table.make_room(1)?;
-    table.write_one(Key::read(b"a")?, Value::Number(1));
+    table.write_one(key("z")?, Value::Number(9));
+    table.write_one(key("a")?, Value::Number(1));
     let (desc, lease, _empty) = first(alloc).into_parts();
-    let m = Key::read(b"m")?;
+    let m = key("m")?;
     if !may_split(desc, m) {
         return Err("range 0 splits at m".into());
     }
@@ -33,36 +33,19 @@ fn right_of_m(alloc: Global) -> Result<RightStart, Fail> {
 }
 
 #[test]
-fn range_0_starts_empty(rt: HostRuntime) -> Result<(), Fail> {
+fn range_0_starts_empty(rt: HostRuntime) {
     let start = first(rt.alloc());
-    let (desc, lease) = (start.desc(), start.lease());
-    assert_eq!(rt;
-        (desc.id.get(), desc.level, desc.start, desc.end),
-        (0, 0, 0, u128::MAX)
-    );
-    assert_eq!(rt;
-        (lease.holder.get(), lease.seq.get(), lease.expires.get()),
-        (1, 1, 40)
-    );
-    assert_eq!(rt; start.table().len(), 0);
-    Ok(())
+    assert!(rt; start.desc() == first_desc() && start.lease() == first_lease());
+    assert!(rt; start.table().len() == 0);
 }
 
 #[test]
 fn range_1_starts_at_m(rt: HostRuntime) -> Result<(), Fail> {
     let start = right_of_m(rt.alloc())?;
-    let (start, one) = join(&rt, move || start, || 1);
+    let (start, ()) = join(&rt, move || start, || ());
     let (desc, lease, table) = start.into_parts();
-    let m = Key::read(b"m")?.bound();
-    assert_eq!(rt;
-        (desc.id.get(), desc.level, desc.start, desc.end),
-        (one, 1, m, u128::MAX)
-    );
-    assert_eq!(rt;
-        (lease.holder.get(), lease.seq.get(), lease.expires.get()),
-        (1, 1, 40)
-    );
-    assert_eq!(rt; table.len(), 1);
-    assert_eq!(rt; table.row(0), (Key::read(b"z")?, Value::Number(9)));
+    assert!(rt; desc.id.get() == 1 && desc.level == 1 && desc.start == key("m")?.bound());
+    assert!(rt; desc.end == u128::MAX && lease == first_lease());
+    assert!(rt; table.len() == 1 && table.get(key("z")?) == Some(Value::Number(9)));
     Ok(())
 }
