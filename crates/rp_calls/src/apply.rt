@@ -4,9 +4,7 @@ ghost use Rattle.rp_request.specs.Applicable.{Fits};
 
 use crate::samples::{attempt, key};
 use rp_apply::{ApplyState, Verdict, check};
-use rp_base::{
-    Key, Lease, LeaseAsk, LeaseIndex, LeaseSeq, NoMemory, NodeId, RangeId, Tick, Value,
-};
+use rp_base::{Key, Lease, LeaseAsk, LeaseIndex, LeaseSeq, NoMemory, NodeId, RangeId, Tick, Value};
 use rp_range::{first_desc, first_lease, split_at};
 use rp_request::{Batch, Command, Op, Payload, Place, Record, Reply, Request, Why};
 use rp_table::Table;

@@ -124,12 +124,12 @@ fn writes_words_and_numbers(rt: HostRuntime) -> Result<(), Fail> {
 
 #[test]
 fn shows_bounds(rt: HostRuntime) -> Result<(), Fail> {
-    let key = key("0123456789abcdef")?;
+    let (m, long) = (key("m")?, key("0123456789abcdef")?);
     let mut out = Text::new(rt.alloc());
     push_bound(&mut out, 0)?;
     push_bound(&mut out, u128::MAX)?;
-    push_bound(&mut out, 0x6d << 120)?;
-    push_key(&mut out, key)?;
+    push_bound(&mut out, m.bound())?;
+    push_key(&mut out, long)?;
     assert!(rt; out.as_str() == "^~m0123456789abcdef");
     Ok(())
 }

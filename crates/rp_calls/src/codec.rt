@@ -114,7 +114,12 @@ fn a_split_comes_back(rt: HostRuntime) -> Result<(), Fail> {
     let key = key("a")?;
     let right = RangeId::new(4).ok_or("a range")?;
     let op = Op::Remove { key };
-    let split = command(rt.alloc(), &Request::Split { key }, &Reply::Range(right), &op)?;
+    let split = command(
+        rt.alloc(),
+        &Request::Split { key },
+        &Reply::Range(right),
+        &op,
+    )?;
     let bytes = encode(rt.alloc(), &split)?;
     assert!(rt; is_read(rt.alloc(), bytes.as_slice()));
     Ok(())

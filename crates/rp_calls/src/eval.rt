@@ -84,7 +84,12 @@ fn writes_and_replies(rt: HostRuntime) -> Result<(), Fail> {
         (cput(b, None), set(b, 4), None, Reply::Set),
         (cput(t, text), set(t, 4), None, Reply::Set),
         (Request::Del { key: b }, remove(b), None, Reply::Old(None)),
-        (Request::Wipe { span }, remove(a), remove(c), Reply::Count(3)),
+        (
+            Request::Wipe { span },
+            remove(a),
+            remove(c),
+            Reply::Count(3),
+        ),
         (moved(c, a, 2), set(c, 5), set(a, 7), Reply::Now(5)),
         (moved(a, a, 2), set(a, 5), None, Reply::Now(5)),
         (moved(b, b, 0), set(b, 0), None, Reply::Now(0)),
@@ -106,9 +111,18 @@ fn refusals(rt: HostRuntime) -> Result<(), Fail> {
     for (request, fault) in [
         (add(a, most), EvalFault::Overflow { actual: 5 }),
         (moved(a, m, 1), EvalFault::Overflow { actual: most }),
-        (cput(a, None), EvalFault::ConditionFailed { actual: Some(five) }),
-        (cput(b, Some(zero)), EvalFault::ConditionFailed { actual: None }),
-        (cput(t, Some(five)), EvalFault::ConditionFailed { actual: text }),
+        (
+            cput(a, None),
+            EvalFault::ConditionFailed { actual: Some(five) },
+        ),
+        (
+            cput(b, Some(zero)),
+            EvalFault::ConditionFailed { actual: None },
+        ),
+        (
+            cput(t, Some(five)),
+            EvalFault::ConditionFailed { actual: text },
+        ),
         (moved(a, m, 6), EvalFault::Short { actual: 5 }),
         (moved(a, a, 6), EvalFault::Short { actual: 5 }),
         (moved(b, a, 1), EvalFault::Short { actual: 0 }),
@@ -132,7 +146,10 @@ fn splits(rt: HostRuntime) -> Result<(), Fail> {
     let (left, _) = parts(left, "f")?;
     let (left, _) = parts(left, "c")?;
     let table = Table::new(rt.alloc());
-    let (fourth, own_start) = (Request::Split { key: key("b")? }, Request::Split { key: key("m")? });
+    let (fourth, own_start) = (
+        Request::Split { key: key("b")? },
+        Request::Split { key: key("m")? },
+    );
     let limit = EvalFault::SplitLimit { level: 3 };
     assert!(rt; fault_of(rt.alloc(), &table, left, fourth) == Some(limit));
     assert!(rt; fault_of(rt.alloc(), &table, right, own_start) == Some(EvalFault::NotInside));

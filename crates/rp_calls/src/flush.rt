@@ -78,7 +78,10 @@ fn a_command_is_settled_once(rt: HostRuntime) -> Result<(), Fail> {
     assert!(rt;
         gives(
             &flushed,
-            &[(attempt(1), LeaseIndex::new(8)), (attempt(3), LeaseIndex::new(9))],
+            &[
+                (attempt(1), LeaseIndex::new(8)),
+                (attempt(3), LeaseIndex::new(9))
+            ],
             &[attempt(2)]
         )
     );

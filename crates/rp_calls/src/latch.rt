@@ -20,27 +20,28 @@ fn one(text: &str) -> Result<Spans, Fail> {
     })
 }
 
-/// Whether the spans are refused, as they meet this span of an attempt.
-fn is_held(latches: &mut Latches, spans: Spans, by: CmdId, held: Span) -> bool {
-    latches.hold(attempt(3), spans) == Err(Held { by, held })
+/// Whether the oldest hold that the whole key space meets is this attempt's, of this span.
+fn is_oldest(latches: &Latches, by: CmdId, held: Span) -> bool {
+    let whole = Spans {
+        first: Span::whole(),
+        second: None,
+    };
+    latches.conflict(whole) == Some(Held { by, held })
 }
 
 #[test]
 fn holds_and_frees(rt: HostRuntime) -> Result<(), Fail> {
     let (a, b) = (one("a")?, one("b")?);
-    let whole = Spans {
-        first: Span::whole(),
-        second: None,
-    };
     let mut latches = Latches::new(rt.alloc());
-    latches.make_room(3)?;
-    assert!(rt; latches.hold(attempt(1), a).is_ok() && latches.hold(attempt(2), b).is_ok());
+    latches.make_room(2)?;
+    assert!(rt; latches.hold(attempt(1), a).is_ok());
+    assert!(rt; latches.hold(attempt(2), b).is_ok());
     let (mut latches, ()) = join(&rt, move || latches, || ());
-    assert!(rt; is_held(&mut latches, whole, attempt(1), a.first));
+    assert!(rt; is_oldest(&latches, attempt(1), a.first));
     latches.free(attempt(1));
-    assert!(rt; is_held(&mut latches, whole, attempt(2), b.first));
+    assert!(rt; is_oldest(&latches, attempt(2), b.first));
     latches.clear();
-    assert!(rt; latches.hold(attempt(3), b).is_ok());
+    assert!(rt; latches.conflict(b).is_none());
     Ok(())
 }
 

@@ -20,6 +20,8 @@ mod outside;
 #[cfg(test)]
 mod pending;
 #[cfg(test)]
+mod raftlog;
+#[cfg(test)]
 mod range;
 #[cfg(test)]
 mod request;

@@ -186,8 +186,7 @@ fn lines_of_a_range_are_written(rt: HostRuntime) -> Result<(), Fail> {
     let replicas = vec![in rt.alloc(); with_row(rt.alloc())?, ReplicaView::Removed { applied: 3 }]?;
     push_range_line(&mut out, &whole(), &first_lease())?;
     push_replica_lines(&mut out, &replicas)?;
-    let text =
-        "range 0 ^ ~ level 0 lease 1 1 40\nnode 1 live term 1 applied 2 lai 1\nrow a 'hi\n\
+    let text = "range 0 ^ ~ level 0 lease 1 1 40\nnode 1 live term 1 applied 2 lai 1\nrow a 'hi\n\
 node 2 removed applied 3\n";
     assert!(rt; out.as_str() == text);
     Ok(())

@@ -3,7 +3,7 @@ ghost use Rattle.std.specs.Prelude.{◌≤◌};
 
 use crate::scripts::{
     A_TEXT, A_TEXT_SHOWN, CONDITIONS, CONDITIONS_SHOWN, END_OF_THE_TYPE, END_OF_THE_TYPE_SHOWN,
-    FULL, FULL_SHOWN, NOTES, NOTES_SHOWN, NO_LINE, NO_LINE_SHOWN, ONE_PUT, ONE_PUT_COUNTED,
+    FULL, FULL_SHOWN, NO_LINE, NO_LINE_SHOWN, NOTES, NOTES_SHOWN, ONE_PUT, ONE_PUT_COUNTED,
     ONE_PUT_SHOWN, TWO_CLIENTS, TWO_CLIENTS_SHOWN, TWO_NAMES, TWO_NAMES_SHOWN, WIPES, WIPES_SHOWN,
 };
 use rp_base::{Bytes, Seq};
@@ -87,7 +87,15 @@ fn words_of_the_program(rt: HostRuntime) -> Result<(), Fail> {
         ("gen 7 20", 2, USAGE),
         ("run --form=json", 2, USAGE),
     ] {
-        assert!(rt; gives(rt.alloc(), words, ONE_PUT.as_bytes(), status, output.as_bytes())?);
+        assert!(rt;
+            gives(
+                rt.alloc(),
+                words,
+                ONE_PUT.as_bytes(),
+                status,
+                output.as_bytes()
+            )?
+        );
     }
     Ok(())
 }
@@ -102,13 +110,28 @@ fn scripts_that_are_refused(rt: HostRuntime) -> Result<(), Fail> {
         ("cluster 6\n", "refused 1 2 out-of-range\n"),
         ("cluster 1\nsend 1 0 1 pu", "refused 2 5 unknown-word\n"),
         ("cluster 1\nsend 1 0 1 split k\n", "refused 2 5 not-built\n"),
-        ("cluster 1\nadmit 1 0 1 split k\n", "refused 2 5 not-built\n"),
-        ("cluster 1\nadmit 1 0 1 put k 1\n", "refused 2 1 not-built\n"),
+        (
+            "cluster 1\nadmit 1 0 1 split k\n",
+            "refused 2 5 not-built\n",
+        ),
+        (
+            "cluster 1\nadmit 1 0 1 put k 1\n",
+            "refused 2 1 not-built\n",
+        ),
         ("cluster 1\nask 1 0\n", "refused 2 1 not-built\n"),
         ("cluster 1\nsettle 1\n", "refused 2 1 not-built\n"),
-        ("cluster 1\nsend 1 0 1 split\n", "refused 2 6 missing-word\n"),
-        ("cluster 1\nsend 2 0 1 split k\n", "refused 2 2 out-of-range\n"),
-        ("cluster 1\nadmit 1 0 1 split k k\n", "refused 2 7 extra-word\n"),
+        (
+            "cluster 1\nsend 1 0 1 split\n",
+            "refused 2 6 missing-word\n",
+        ),
+        (
+            "cluster 1\nsend 2 0 1 split k\n",
+            "refused 2 2 out-of-range\n",
+        ),
+        (
+            "cluster 1\nadmit 1 0 1 split k k\n",
+            "refused 2 7 extra-word\n",
+        ),
         ("cluster 1\nsettle 0\n", "refused 2 2 out-of-range\n"),
     ] {
         assert!(rt; gives(rt.alloc(), "run", script.as_bytes(), 3, output.as_bytes())?);
@@ -119,7 +142,15 @@ fn scripts_that_are_refused(rt: HostRuntime) -> Result<(), Fail> {
 #[test]
 fn scripts_past_a_limit(rt: HostRuntime) -> Result<(), Fail> {
     let lines = vec![in rt.alloc(); b'\n'; 65537]?;
-    assert!(rt; gives(rt.alloc(), "run", &[b'#'; 257], 4, b"limit line-bytes 257\n")?);
+    assert!(rt;
+        gives(
+            rt.alloc(),
+            "run",
+            &[b'#'; 257],
+            4,
+            b"limit line-bytes 257\n"
+        )?
+    );
     assert!(rt; gives(rt.alloc(), "run", &lines, 4, b"limit lines 65537\n")?);
     Ok(())
 }

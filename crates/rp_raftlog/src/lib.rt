@@ -5,8 +5,6 @@ mod entries;
 mod logs;
 mod overlay;
 mod segments;
-#[cfg(test)]
-mod tests;
 
 pub use entries::{Entries, Entry, copies};
 pub use logs::{Log, Mismatch};

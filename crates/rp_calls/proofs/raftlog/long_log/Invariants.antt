@@ -1,5 +1,5 @@
 use Rattle.std.proofs.Common.{◌≡◌}
-use Rattle.rp_raftlog.proofs.tests.long_log.Given as goal
+use Rattle.rp_calls.proofs.raftlog.long_log.Given as goal
 
 abbrev pub invariant-loop-byte : goal.invariant-loop-byte
 invariant-loop-byte l = l.log.log.base ≡ 10

@@ -1,11 +1,11 @@
 //! Calls of a log, each compared with what it must give.
 ghost use Rattle.std.specs.Prelude.{◌≡◌, IfOk};
 
-use crate::{Entries, Entry, Log, Mismatch, copies};
 use rp_base::Seq;
+use rp_raftlog::{Entries, Entry, Log, Mismatch, copies};
 use std::alloc::Global;
 use std::test::Fail;
-use std::thread;
+use std::thread::join;
 
 /// An entry of a term, with a payload of one byte.
 fn entry(alloc: Global, term: u64, byte: u8) -> Result<Entry, Fail> {
@@ -36,11 +36,15 @@ fn are(entries: &Entries, parts: &[(u64, u8)]) -> bool {
             .all(|(entry, part)| is(entry, *part))
 }
 
-/// The log holds just these entries behind its base.
-fn holds(log: &Log, parts: &[(u64, u8)]) -> Result<bool, Fail> {
-    let from = log.base().0.checked_add(1).ok_or("an index")?;
-    let held = log.suffix(from, 100)?;
-    Ok(are(&held, parts))
+/// Whether the log holds just these entries behind its base.
+fn holds(log: &Log, parts: &[(u64, u8)]) -> bool {
+    let Some(from) = log.base().0.checked_add(1) else {
+        return false;
+    };
+    match log.suffix(from, 100) {
+        Ok(held) => are(&held, parts),
+        Err(_) => false,
+    }
 }
 
 /// Makes room for the entries and takes them in.
@@ -78,84 +82,24 @@ fn copies_entries(rt: HostRuntime) -> Result<(), Fail> {
     Ok(())
 }
 
-/// A log may pass to another thread and back.
-#[test]
-fn a_thread_hands_a_log_back(rt: HostRuntime) -> Result<(), Fail> {
-    let log = log(rt.alloc(), &[(1, 5), (2, 6)])?;
-    let (back, ()) = thread::join(&rt, move || log, || ());
-    assert!(rt; back.last() == (12, 2));
-    Ok(())
-}
-
-#[test]
-fn an_empty_log(rt: HostRuntime) -> Result<(), Fail> {
-    let log = Log::at(rt.alloc(), 10, 1);
-    assert!(rt; log.base() == (10, 1));
-    assert!(rt; log.last() == (10, 1));
-    assert!(rt; log.term_at(9).is_none());
-    assert!(rt; log.term_at(10) == Some(1));
-    assert!(rt; log.term_at(11).is_none());
-    assert!(rt; log.entry_at(10).is_none());
-    assert!(rt; holds(&log, &[])?);
-    Ok(())
-}
-
 #[test]
 fn appends_and_reads(rt: HostRuntime) -> Result<(), Fail> {
     let mut log = Log::at(rt.alloc(), 10, 1);
     log.make_room(2)?;
     log.append(entry(rt.alloc(), 1, 7)?);
-    assert!(rt; log.last() == (11, 1));
     log.append(entry(rt.alloc(), 3, 8)?);
-    assert!(rt; log.last() == (12, 3));
-    assert!(rt; log.term_at(11) == Some(1));
-    assert!(rt; log.term_at(12) == Some(3));
-    assert!(rt; log.term_at(13).is_none());
+    let (log, ()) = join(&rt, move || log, || ());
+    assert!(rt; log.last() == (12, 3) && log.term_at(11) == Some(1));
     assert!(rt; log.entry_at(12).is_some_and(|last| is(last, (3, 8))));
-    assert!(rt; holds(&log, &[(1, 7), (3, 8)])?);
-    Ok(())
-}
-
-#[test]
-fn suffixes(rt: HostRuntime) -> Result<(), Fail> {
-    let log = log(rt.alloc(), &[(1, 5), (1, 6), (2, 7)])?;
-    assert!(rt; log.last() == (13, 2));
-    assert!(rt; are(&log.suffix(11, 2)?, &[(1, 5), (1, 6)]));
-    assert!(rt; are(&log.suffix(12, 8)?, &[(1, 6), (2, 7)]));
-    assert!(rt; are(&log.suffix(14, 8)?, &[]));
+    assert!(rt; holds(&log, &[(1, 7), (3, 8)]));
     Ok(())
 }
 
 #[test]
 fn takes_entries_in(rt: HostRuntime) -> Result<(), Fail> {
     let mut log = log(rt.alloc(), &[(1, 5), (1, 6), (2, 7)])?;
-    assert!(rt; accept(rt.alloc(), &mut log, 11, 1, &[(1, 6)])? == Ok(12));
-    assert!(rt; holds(&log, &[(1, 5), (1, 6), (2, 7)])?);
     assert!(rt; accept(rt.alloc(), &mut log, 11, 1, &[(1, 6), (3, 8)])? == Ok(13));
-    assert!(rt; holds(&log, &[(1, 5), (1, 6), (3, 8)])?);
-    Ok(())
-}
-
-#[test]
-fn skips_what_stands_below_the_base(rt: HostRuntime) -> Result<(), Fail> {
-    let mut log = log(rt.alloc(), &[(1, 5)])?;
-    let past = &[(1, 3), (1, 4), (1, 5), (2, 6)];
-    assert!(rt; accept(rt.alloc(), &mut log, 8, 1, past)? == Ok(12));
-    assert!(rt; holds(&log, &[(1, 5), (2, 6)])?);
-    assert!(rt; accept(rt.alloc(), &mut log, 3, 9, &[(9, 9)])? == Ok(10));
-    assert!(rt; holds(&log, &[(1, 5), (2, 6)])?);
-    Ok(())
-}
-
-#[test]
-fn refuses_entries_that_do_not_follow(rt: HostRuntime) -> Result<(), Fail> {
-    let mut log = log(rt.alloc(), &[(1, 5), (2, 6)])?;
-    let late = accept(rt.alloc(), &mut log, 13, 2, &[(2, 7)])?;
-    assert!(rt; late == Err(Mismatch { index: 13 }));
-    let other = accept(rt.alloc(), &mut log, 12, 1, &[(2, 7)])?;
-    assert!(rt; other == Err(Mismatch { index: 12 }));
-    assert!(rt; accept(rt.alloc(), &mut log, 10, 3, &[])?.is_err());
-    assert!(rt; holds(&log, &[(1, 5), (2, 6)])?);
+    assert!(rt; holds(&log, &[(1, 5), (1, 6), (3, 8)]));
     Ok(())
 }
 
@@ -186,16 +130,9 @@ fn segments_are_one_log(rt: HostRuntime) -> Result<(), Fail> {
 #[test]
 fn cuts_and_resets(rt: HostRuntime) -> Result<(), Fail> {
     let mut log = log(rt.alloc(), &[(1, 5), (2, 6), (3, 7)])?;
-    assert!(rt; log.last() == (13, 3));
     log.cut_front(12);
-    assert!(rt; log.base() == (12, 2));
-    assert!(rt; log.last() == (13, 3));
-    assert!(rt; holds(&log, &[(3, 7)])?);
-    log.cut_front(13);
-    assert!(rt; log.base() == (13, 3));
-    assert!(rt; holds(&log, &[])?);
+    assert!(rt; log.base() == (12, 2) && log.last() == (13, 3) && holds(&log, &[(3, 7)]));
     log.reset(20, 4);
-    assert!(rt; log.last() == (20, 4));
-    assert!(rt; holds(&log, &[])?);
+    assert!(rt; log.last() == (20, 4) && holds(&log, &[]));
     Ok(())
 }
