@@ -1,9 +1,9 @@
 //! The applied state in which a range starts.
-ghost use Rattle.std.specs.Prelude.{◌≡◌, IsOk, IfOk};
+ghost use Rattle.std.specs.Prelude.{◌≡◌, ℕ, IsOk, IfOk, Some};
 ghost use Rattle.rp_base.specs.Splits.{split_of};
-ghost use Rattle.rp_request.specs.Starts.{first_state, IsRightStart};
+ghost use Rattle.rp_request.specs.States.{first_applied, right_with};
 
-use rp_base::{Desc, Key, Lease, LeaseIndex, NoMemory};
+use rp_base::{Desc, Key, Lease, NoMemory};
 use rp_range::{first_desc, first_lease, split_at};
 use rp_table::Table;
 use std::alloc::Global;
@@ -37,12 +37,7 @@ impl Model for RightStart {
 
 /// The start of the first range: all keys, the first lease, and no row. It takes no memory.
 pub fn first(alloc: Global) -> RightStart
-    ensures { result ≡ record {
-      desc = first_state.desc;
-      lease = first_state.lease;
-      lai = 0;
-      table = first_state.table;
-    } }
+    ensures { result ≡ first_applied }
 {
     RightStart {
         desc: first_desc(),
@@ -52,7 +47,8 @@ pub fn first(alloc: Global) -> RightStart
 }
 
 /// The start of the right range where a range splits at the key: a copy of the part of its table
-/// from the key on, the right description and its present lease. The copy has the table's allocator.
+/// from the key on, the right description and its present lease. The range's own lease applied index
+/// does not matter. The copy has the table's allocator.
 pub fn trigger(
     _alloc: Global,
     table: &Table,
@@ -61,10 +57,9 @@ pub fn trigger(
     key: Key,
 ) -> Result<RightStart, NoMemory>
     requires { IsOk (split_of desc key) }
-    ensures right { IfOk result (λ right. IsRightStart
-        (record { table = table.now.map; desc = desc; lease = lease }) key
-        (record { table = right.table; desc = right.desc; lease = right.lease })) }
-    ensures lai { IfOk result (λ right. right.lai ≡ 0) }
+    ensures { IfOk result (λ right. (lai : ℕ) → right_with
+        (record { desc = desc; lease = lease; lai = lai; table = table.now.map })
+        key (split_of desc key) ≡ Some right) }
 {
     let (_left, right) = split_at(desc, key).unwrap();
     let table = table.split_off(key)?;
