@@ -26,14 +26,14 @@ buffers_at b node = slice_index_or b.buffers (node - 1) fresh
 abbrev pub changed : Buffered → (node range : ℕ) → (Buffer → Buffer) → Buffered
 changed b node range change = record b {
   buffers = slice_set b.buffers (node - 1)
-    (with_buffer (buffers_at b node) range (change (buffer_of (buffers_at b node) range)));
+      (with_buffer (buffers_at b node) range (change (buffer_of (buffers_at b node) range)));
 }
 
 -- an event of a node, where it is lawful
 abbrev pub at_node : Buffered → (node : ℕ) → Happening → Buffered
 at_node b node what = record b {
   nodes = happens_if (is_lawful b.nodes (record { node = node; what = what })) b.nodes
-    (record { node = node; what = what });
+      (record { node = node; what = what });
 }
 
 -- a live replica is in the seat

@@ -82,17 +82,17 @@ lost_under lease p =
 abbrev pub restarted_as : Replica → List Ended → Done
 restarted_as r ended =
     record (leaves
-      (record {
-        raft = restarted r.applied.index r.raft;
-        applied = r.applied;
-        latches = [];
-        pending = [];
-        assigned = 0;
-        inbox = [];
-        asks = [];
-        barrier = (lease_of r).seq;
-      })
-      answers.Done)
+    (record {
+      raft = restarted r.applied.index r.raft;
+      applied = r.applied;
+      latches = [];
+      pending = [];
+      assigned = 0;
+      inbox = [];
+      asks = [];
+      barrier = (lease_of r).seq;
+    })
+    answers.Done)
     { outcomes = ended }
 
 -- Restart: the node starts again

@@ -115,9 +115,9 @@ run w (x ∷ xs) = run (happens w x) xs
 abbrev pub is_admission_of : CmdId → JournalEntry → Bool
 is_admission_of id e = is_admit_of id e.event
   where
-  is_admit_of : CmdId → PastEvent → Bool
-  is_admit_of id (past.Admit range other place) = same_id other id
-  is_admit_of id _ = false
+    is_admit_of : CmdId → PastEvent → Bool
+    is_admit_of id (past.Admit range other place) = same_id other id
+    is_admit_of id _ = false
 
 -- the node's journal has an admission of the attempt
 abbrev pub asked_at : CmdId → Node → Bool

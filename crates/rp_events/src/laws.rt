@@ -9,8 +9,7 @@ ghost use Rattle.rp_events.specs.Worked.{first_try, flushed_put, removal};
 /// A command that was flushed is pending until its entry is applied.
 pub fn a_flushed_put_is_pending()
     ensures { outcome_of (run (first_world 1) flushed_put) (first_try 1 1) ≡ Some Pending }
-{
-}
+{}
 
 /// At a removal what is proposed is ambiguous, and what waits is refused.
 pub fn a_removal_ends_both()
@@ -18,5 +17,4 @@ pub fn a_removal_ends_both()
         ≡ Some (Ambiguous (Removed 1)) }
     ensures waiting { outcome_of (run (first_world 3) removal) (first_try 1 2)
         ≡ Some (Refused NoReplica) }
-{
-}
+{}

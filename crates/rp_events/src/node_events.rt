@@ -15,13 +15,22 @@ pub enum Event<S> {
         request: Request,
     },
     /// The node asks for a range's lease.
-    Ask { range: RangeId },
+    Ask {
+        range: RangeId,
+    },
     /// The holder asks for a range's lease to go to another node.
-    Transfer { range: RangeId, to: NodeId },
+    Transfer {
+        range: RangeId,
+        to: NodeId,
+    },
     /// What a range's proposal buffer has published joins the inbox.
-    Collect { range: RangeId },
+    Collect {
+        range: RangeId,
+    },
     /// A range's inbox goes to Raft.
-    Flush { range: RangeId },
+    Flush {
+        range: RangeId,
+    },
     /// Time goes on by one tick in all ranges.
     Tick,
     /// The message with this number, from 1, that the sender sent comes.
@@ -32,13 +41,22 @@ pub enum Event<S> {
         message: Message<S>,
     },
     /// A range's next committed entry is checked and applied.
-    Apply { range: RangeId },
+    Apply {
+        range: RangeId,
+    },
     /// A range's log is cut up to the applied index.
-    Cut { range: RangeId },
+    Cut {
+        range: RangeId,
+    },
     /// A range's replica is taken down for good.
-    Remove { range: RangeId },
+    Remove {
+        range: RangeId,
+    },
     /// The applied value of a key is read.
-    Peek { range: RangeId, key: Key },
+    Peek {
+        range: RangeId,
+        key: Key,
+    },
     /// The node starts again with what it keeps.
     Restart,
     /// A worker's round at the node ends; a race alone has it.

@@ -61,9 +61,9 @@ Ends = List (CmdId × Outcome)
 abbrev pub with_end : Node → Ends → JournalEntry → Ends
 with_end n ends e = by_event e.event
   where
-  by_event : PastEvent → Ends
-  by_event (past.Admit range id place) = insert_entry cmd_cmp ends id (outcome_by n id e.answer)
-  by_event _ = ends
+    by_event : PastEvent → Ends
+    by_event (past.Admit range id place) = insert_entry cmd_cmp ends id (outcome_by n id e.answer)
+    by_event _ = ends
 
 abbrev pub ends_in : Node → Ends → List JournalEntry → Ends
 ends_in n ends [] = ends

@@ -8,5 +8,4 @@ ghost use Rattle.rp_lines.specs.Worked.{removal, removal_replies, replies_after}
 /// a command that comes to a node without the lease.
 pub fn a_removal_is_told()
     ensures { replies_after (played_all (first_player 3) removal) ≡ removal_replies }
-{
-}
+{}
