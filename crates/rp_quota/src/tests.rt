@@ -55,11 +55,11 @@ fn shares_on_two_threads(rt: HostRuntime) -> Result<(), Fail> {
     let pair = join(
         &rt,
         || -> Share
-            requires { IsShareOf quota first }
+            requires { IsShareOf quota first × (2 ≤ capacity_of quota) }
             ensures { IsShareOf quota result × ((known_by result).parts ≡ (known_by first).parts) }
         { use_often(&quota, first) },
         || -> Share
-            requires { IsShareOf quota second }
+            requires { IsShareOf quota second × (2 ≤ capacity_of quota) }
             ensures { IsShareOf quota result × ((known_by result).parts ≡ (known_by second).parts) }
         { use_often(&quota, second) },
     );
