@@ -2,6 +2,7 @@
 use Rattle.std.specs.Prelude.{ℕ, List, [], ◌∷◌, Ok, Err}
 use Rattle.rp_base.specs.Leases.{first_lease}
 use Rattle.rp_base.specs.declared.values.Value.TheVariants.{Number}
+use Rattle.rp_request.specs.declared.notes.Note.{Note}
 use Rattle.rp_request.specs.declared.notes.ReplyLine.{ReplyLine}
 use Rattle.rp_request.specs.declared.outcomes.End.TheVariants as ends
 use Rattle.rp_request.specs.declared.outcomes.Outcome.TheVariants.{Refused}
@@ -12,6 +13,7 @@ use Rattle.rp_script.specs.declared.lines.NumberedLine.{NumberedLine}
 use Rattle.rp_script.specs.declared.lines.ScriptLine.{ScriptLine}
 use Rattle.rp_script.specs.declared.lines.ScriptLine.TheVariants as lines
 use Rattle.rp_events.specs.Worked.{key_a, key_b}
+use Rattle.rp_report.specs.Notes.{absent_text, nothing_text, not_holder_text, held_text}
 use Rattle.rp_lines.specs.Players.{Played}
 use Rattle.rp_lines.specs.Views.{replies_of}
 
@@ -47,3 +49,32 @@ removal_replies =
 abbrev pub replies_after : Played → List ReplyLine
 replies_after (Ok p) = replies_of p.world.nodes
 replies_after (Err limit) = []
+
+-- lines that find a held lease, another holder, nothing to apply, no message and no replica
+abbrev pub notes_script : List NumberedLine
+notes_script =
+    numbered 2 (lines.Ask 2 0)
+    ∷ numbered 3 (lines.Transfer 2 0 3)
+    ∷ numbered 4 (lines.Apply 1 0)
+    ∷ numbered 5 (lines.Deliver 1 1)
+    ∷ numbered 6 (lines.Flush 1 1)
+    ∷ []
+
+-- a note under its line
+abbrev pub note_at : ℕ → List ℕ → Note
+note_at line text = record { line = line; text = text }
+
+-- the notes that these lines make
+abbrev pub notes_expected : List Note
+notes_expected =
+    note_at 2 (held_text first_lease 0)
+    ∷ note_at 3 (not_holder_text first_lease)
+    ∷ note_at 4 nothing_text
+    ∷ note_at 5 nothing_text
+    ∷ note_at 6 absent_text
+    ∷ []
+
+-- the notes of what was played
+abbrev pub notes_after : Played → List Note
+notes_after (Ok p) = p.notes
+notes_after (Err limit) = []
