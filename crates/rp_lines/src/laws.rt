@@ -14,5 +14,4 @@ pub fn a_removal_is_told()
 /// no message, no replica.
 pub fn lines_tell_what_they_find()
     ensures { notes_after (played_all (first_player 3) notes_script) ≡ notes_expected }
-{
-}
+{}
