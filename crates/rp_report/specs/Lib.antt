@@ -6,3 +6,5 @@ pub mod Report
 pub mod Summary
 pub mod Widths
 pub mod InTexts
+pub mod Json
+pub mod ShownTests
