@@ -7,3 +7,6 @@ pub mod EndWords
 pub mod ItemWords
 pub mod ReportLines
 pub mod Untold
+pub mod JsonLists
+pub mod ShownLaws
+pub mod Whole

@@ -7,3 +7,5 @@ pub mod Summary
 pub mod Widths
 pub mod InTexts
 pub mod Notes
+pub mod Json
+pub mod ShownTests

@@ -148,7 +148,7 @@ pub fn push_reply(out: &mut Text, reply: &Reply) -> Result<(), NoMemory>
 }
 
 /// Why an entry was passed over.
-fn why_word(why: Why) -> &'static str
+pub fn why_word(why: Why) -> &'static str
     ensures { result.now ≡ why_text why }
 {
     match why {

@@ -2,6 +2,9 @@
 #![tactic(auto)]
 
 mod items;
+mod json;
+mod json_objects;
+mod json_parts;
 pub mod laws;
 mod outcomes;
 mod summaries;
@@ -10,6 +13,7 @@ mod views;
 mod words;
 
 pub use items::{push_reply, push_request};
+pub use json::write_json;
 pub use outcomes::{push_outcome, push_refusal};
 pub use summaries::write_summary;
 pub use texts::{push_range_line, push_replica_lines, write_text};
