@@ -14,8 +14,11 @@ not_true : (b : Bool) → (b ≡ true → ⊥) → b ≡ false
 not_true true h = absurd (h refl)
 not_true false h = refl
 
+abbrev bit : Bool → ℕ
+bit b = cond b 1 0
+
 -- what is at least an index is that index, or at least the next
-bits : (i x : ℕ) (a b c : Bool) → leb i x ≡ a → leb (i + 1) x ≡ b → eqb x i ≡ c → cond a 1 0 ≡ cond b 1 0 + cond c 1 0
+bits : (i x : ℕ) (a b c : Bool) → leb i x ≡ a → leb (i + 1) x ≡ b → eqb x i ≡ c → bit a ≡ bit b + bit c
 bits i x true true true ea eb ec = absurd (omega (arith, leb-true (i + 1) x eb, eqb-true x i ec))
 bits i x true true false ea eb ec = refl
 bits i x true false true ea eb ec = refl
@@ -29,7 +32,7 @@ step i [] = refl
 step i (x ∷ xs) =
     omega (arith, sum_by-cons (λ y. cond (leb i y) 1 0) x xs, sum_by-cons (λ y. cond (leb (i + 1) y) 1 0) x xs, sum_by-cons (λ y. cond (eqb y i) 1 0) x xs, bits i x _ _ _ refl refl refl, step i xs)
 
-no_bit : (i x : ℕ) (b : Bool) → leb i x ≡ b → x < i → cond b 1 0 ≡ 0
+no_bit : (i x : ℕ) (b : Bool) → leb i x ≡ b → x < i → bit b ≡ 0
 no_bit i x true e h = absurd (omega (arith, leb-true i x e))
 no_bit i x false e h = refl
 
@@ -38,13 +41,13 @@ far : (i : ℕ) (xs : List ℕ) → sum xs < i → at_least i xs ≡ 0
 far i [] h = refl
 far i (x ∷ xs) h =
     let s = sum_by-cons (λ y. y) x xs in
-    let b : cond (leb i x) 1 0 ≡ 0 = no_bit i x _ refl (omega (arith, s)) in
+    let b : bit (leb i x) ≡ 0 = no_bit i x _ refl (omega (arith, s)) in
     omega (arith, sum_by-cons (λ y. cond (leb i y) 1 0) x xs, b, far i xs (omega (arith, s)))
 
 held_by : (P : ℕ → Type 0) (k x : ℕ) (xs : List ℕ) (b : Bool) → eqb x k ≡ b → P x → (0 < count_by (λ y. eqb y k) xs → P k) → 0 < count_by (λ y. eqb y k) (x ∷ xs) → P k
 held_by P k x xs true e here rest h = subst P (eqb-true x k e) here
 held_by P k x xs false e here rest h =
-    let z : cond (eqb x k) 1 0 ≡ 0 = ap (λ b. cond b 1 0) e in
+    let z : bit (eqb x k) ≡ 0 = ap bit e in
     rest (omega (arith, sum_by-cons (λ y. cond (eqb y k) 1 0) x xs))
 
 -- what holds of each holds of one that is counted
@@ -60,8 +63,8 @@ above_by majority xs reach index zero e all past next =
     ap majority same ∙ next
 above_by majority xs reach index (suc n) e all past next =
     not_true (majority (at_least index xs)) (λ yes.
-        let within : index ≤ reach = held (λ k. majority (at_least k xs) ≡ true → k ≤ reach) index xs all (omega arith) yes in
-        omega arith)
+    let within : index ≤ reach = held (λ k. majority (at_least k xs) ≡ true → k ≤ reach) index xs all (omega arith) yes in
+    omega arith)
 
 above_in : (majority : ℕ → Bool) (xs : List ℕ) (reach : ℕ) → majority 0 ≡ false → All (λ k. majority (at_least k xs) ≡ true → k ≤ reach) xs
     → (d index : ℕ) → sum xs < index + d → reach < index → majority (at_least index xs) ≡ false
@@ -80,10 +83,12 @@ and_false false b e = refl
 
 -- what lies above a bound, where nothing passes, need not be looked at
 pub lower : (test : ℕ → Bool) (n m : ℕ) → m ≤ n → ((i : ℕ) → m < i → i ≤ n → test i ≡ false) → greatest test n ≡ greatest test m
-lower test zero m le h = ap (greatest test) (omega arith)
+lower test zero m le h =
+    let e : 0 ≡ m = omega arith in
+    ap (greatest test) e
 lower test (suc n) m le h =
     ⊎_elim (λ (less : m < suc n). passed test (suc n) n (omega arith) (h (suc n) less (omega arith)) ∙ lower test n m (omega arith) (λ i a b. h i a (omega arith)))
-    (λ (most : suc n ≤ m). ap (greatest test) (omega arith)) (cases_lt m (suc n))
+    (λ (most : suc n ≤ m). let e : suc n ≡ m = omega arith in ap (greatest test) e) (cases_lt m (suc n))
 
 pub no_majority : (head : Head) → is_majority head 0 ≡ false
 no_majority head = not_true (is_majority head 0) (λ t. omega (arith, ltb-true head.nodes (2 * 0) t))

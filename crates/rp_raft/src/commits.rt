@@ -34,7 +34,7 @@ fn reach(head: &Head, matched: &[u64]) -> u64
     ensures { (index : ℕ) → result < index
         → is_majority head.now (at_least index matched.now) ≡ false }
 {
-    let mut reach = 0;
+    let mut reach: u64 = 0;
     for known in matched {
         if is_on_majority(head, matched, *known) {
             reach = reach.max(*known);
