@@ -53,7 +53,11 @@ impl Raft {
         Raft {
             node,
             term: 1,
-            role: if node == leader { Role::Leader } else { Role::Follower },
+            role: if node == leader {
+                Role::Leader
+            } else {
+                Role::Follower
+            },
             log: Vec::new(),
             commit: 0,
             next: [1; NODES],
@@ -122,7 +126,10 @@ impl Raft {
                 prev_term,
                 entries,
                 commit,
-            } => vec![(from, self.on_append(term, prev_index, prev_term, entries, commit))],
+            } => vec![(
+                from,
+                self.on_append(term, prev_index, prev_term, entries, commit),
+            )],
             Message::AppendReply { term, ok, index } => self.on_reply(from, term, ok, index),
         }
     }
@@ -135,7 +142,11 @@ impl Raft {
         entries: Vec<Entry>,
         commit: u64,
     ) -> Message {
-        let refused = Message::AppendReply { term: self.term, ok: false, index: self.commit };
+        let refused = Message::AppendReply {
+            term: self.term,
+            ok: false,
+            index: self.commit,
+        };
         if term < self.term {
             return refused;
         }
@@ -148,7 +159,11 @@ impl Raft {
         let index = prev_index + entries.len() as u64;
         self.accept(prev_index as usize, entries);
         self.commit = self.commit.max(commit.min(index));
-        Message::AppendReply { term: self.term, ok: true, index }
+        Message::AppendReply {
+            term: self.term,
+            ok: true,
+            index,
+        }
     }
 
     /// The first entry that differs in term cuts the log there.
@@ -205,7 +220,10 @@ impl Net {
 }
 
 fn main() {
-    let numbers: Vec<u64> = std::env::args().skip(1).map(|word| word.parse().unwrap()).collect();
+    let numbers: Vec<u64> = std::env::args()
+        .skip(1)
+        .map(|word| word.parse().unwrap())
+        .collect();
     let (count, burst) = (numbers[0], numbers[1]);
     let start = Instant::now();
     let mut net = Net {
@@ -222,6 +240,14 @@ fn main() {
     }
     net.settle();
     let time = start.elapsed().as_millis();
-    let commits: Vec<String> = net.rafts.iter().map(|raft| raft.commit.to_string()).collect();
-    println!("commit {} messages {} ms {time}", commits.join(" "), net.delivered);
+    let commits: Vec<String> = net
+        .rafts
+        .iter()
+        .map(|raft| raft.commit.to_string())
+        .collect();
+    println!(
+        "commit {} messages {} ms {time}",
+        commits.join(" "),
+        net.delivered
+    );
 }

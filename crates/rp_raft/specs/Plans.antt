@@ -1,5 +1,5 @@
 -- What a plan is: a change of the head, an edit of the log, and messages that are made already.
-use Rattle.std.specs.Prelude.{◌≡◌, ℕ, ◌+◌, ◌^◌, ◌<◌, ◌≤◌, true, false, Option, None, List, [], ◌∷◌, ◌++◌, length, take}
+use Rattle.std.specs.Prelude.{◌≡◌, ℕ, ◌+◌, ◌^◌, ◌<◌, ◌≤◌, true, false, Option, None, List, [], ◌∷◌, ◌++◌, length, take, count_by, nat_le}
 use Rattle.rp_raftlog.specs.declared.entries.Entry.{Entry}
 use Rattle.rp_raftlog.specs.LogState.{LogState, log_at, last_index, matches, appended, accepted, cut}
 use Rattle.rp_raftstep.specs.declared.heads.Due.{Due}
@@ -86,6 +86,10 @@ CanHold log added = 0 < length added → last_index log + length added < 2 ^ 64
 -- a leader's state with these entries behind its log
 abbrev pub ahead : Head → LogState → List Entry → RaftState
 ahead head log added = record { head = head; log = appended log added }
+
+-- how many of these indexes are at least this one
+abbrev pub at_least : ℕ → List ℕ → ℕ
+at_least index indexes = count_by (λ known. nat_le index known) indexes
 
 -- the state that a head and an edit lead to
 abbrev pub leads_to : Head → LogState → LogEdit → RaftState

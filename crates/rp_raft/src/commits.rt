@@ -1,9 +1,9 @@
 //! How a leader's commit index moves on (Raft 2014, sections 5.3 and 5.4.2).
 
-ghost use Rattle.std.specs.Prelude.{◌≡◌, ◌<◌, ◌≤◌, count_by, max, nat_le, take};
+ghost use Rattle.std.specs.Prelude.{◌≡◌, ◌<◌, ◌≤◌, ℕ, false, length, max, take};
 ghost use Rattle.rp_raftstep.specs.RaftState.{is_majority, with_node};
 ghost use Rattle.rp_raftstep.specs.Step.{advanced, committable, is_committable, matched_by};
-ghost use Rattle.rp_raft.specs.Plans.{CanHold, ahead};
+ghost use Rattle.rp_raft.specs.Plans.{CanHold, ahead, at_least};
 
 use crate::ahead::{last_in, term_in};
 use crate::heads::{is_majority, place};
@@ -20,23 +20,34 @@ fn matched_by(head: &Head, last: u64) -> [u64; 5]
 }
 
 /// Whether a majority has the entry with this index.
-fn is_on_majority(head: &Head, matched: &[u64; 5], index: u64) -> bool
-    requires { head.now.nodes ≤ 5 }
-    ensures { result ≡ is_majority head.now
-        (count_by (λ known. nat_le index known) (take head.now.nodes matched.now)) }
+fn is_on_majority(head: &Head, matched: &[u64], index: u64) -> bool
+    requires { length matched.now ≤ 5 }
+    ensures { result ≡ is_majority head.now (at_least index matched.now) }
 {
-    let nodes = usize::from(head.nodes);
-    let count = matched[..nodes]
-        .iter()
-        .filter(|known| index <= **known)
-        .count();
+    let count = matched.iter().filter(|known| index <= **known).count();
     is_majority(*head, count)
 }
 
+/// The greatest index that a majority has.
+fn reach(head: &Head, matched: &[u64]) -> u64
+    requires { length matched.now ≤ 5 }
+    ensures { (index : ℕ) → result < index
+        → is_majority head.now (at_least index matched.now) ≡ false }
+{
+    let mut reach: u64 = 0;
+    for known in matched {
+        if is_on_majority(head, matched, *known) {
+            reach = reach.max(*known);
+        }
+    }
+    reach
+}
+
 /// Whether the entry there is of the present term, and a majority has it.
-fn is_committable(head: &Head, log: &Log, added: &[Entry], matched: &[u64; 5], index: u64) -> bool
+fn is_committable(head: &Head, log: &Log, added: &[Entry], matched: &[u64], index: u64) -> bool
     requires nodes { head.now.nodes ≤ 5 }
-    requires matched { matched.now ≡ matched_by (ahead head.now log.now.log added.now) }
+    requires matched { matched.now
+        ≡ take head.now.nodes (matched_by (ahead head.now log.now.log added.now)) }
     ensures { result ≡ is_committable (ahead head.now log.now.log added.now) index }
 {
     let present = head.term;
@@ -49,10 +60,12 @@ fn committed(head: &Head, log: &Log, added: &[Entry]) -> u64
     requires hold { CanHold log.now.log added.now }
     ensures { result ≡ max head.now.commit (committable (ahead head.now log.now.log added.now)) }
 {
-    let mut index = last_in(log, added);
-    let matched = matched_by(head, index);
+    let last = last_in(log, added);
+    let matched_by_all = matched_by(head, last);
+    let matched = &matched_by_all[..usize::from(head.nodes)];
+    let mut index = last.min(reach(head, matched));
     while head.commit < index {
-        if is_committable(head, log, added, &matched, index) {
+        if is_committable(head, log, added, matched, index) {
             return index;
         }
         index -= 1;
