@@ -1,0 +1,7 @@
+use Rattle.clap.specs.Matches.{found_of}
+use Rattle.rp_words.proofs.Judged.{entered_asks}
+use Rattle.rp_words.proofs.readings.found.Goals as goal
+
+pub returns-in-Some : goal.returns-in-Some
+returns-in-Some c =
+    entered_asks c.args.matches.now c.in-Some.name.now (found_of c.in-Some.inner.now) c.asked.result c.asked.ensures c.in-Some.ensures.name c.in-Some.ensures.rows
