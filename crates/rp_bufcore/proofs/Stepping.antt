@@ -57,5 +57,5 @@ collect_is_steps b long =
     let slots : below buffer_capacity b.slots ≡ map taken b.slots = subst (λ n. below n b.slots ≡ map taken b.slots) long (below_all b.slots) in
     let items : had buffer_capacity b.slots ≡ filter_map published b.slots = subst (λ n. had n b.slots ≡ filter_map published b.slots) long (had_all b.slots) in
     let states : after_takes buffer_capacity closed ≡ record { is_open = false; drawn = b.drawn; slots = map taken b.slots } =
-        takes_are buffer_capacity closed ∙ ap (λ (ys : List Slot). record { is_open = false; drawn = b.drawn; slots = ys }) slots in
+    takes_are buffer_capacity closed ∙ ap (λ (ys : List Slot). record { is_open = false; drawn = b.drawn; slots = ys }) slots in
     (sym (ap after_reopen states), sym (had_are buffer_capacity closed ∙ items))

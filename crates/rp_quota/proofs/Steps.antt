@@ -53,9 +53,9 @@ takes capacity slots id me old new less some_part s k long at small =
     let n : ℕ = slice_index s.words 0 in
     exchanged n old new (λ z. (w : Holding) × (a : Act (Unit {0})) × Valid s.homes me.1 a × Kept capacity (stepped s 0 z id me.1 w a) × took (step slots 0 old new none) me n (w, carried_after me.1 a))
     (λ hit. let w = holding me.0.parts (me.0.units + (old - new)) (me.0.looks ++ Asked old n ∷ []) in
-        (w, keeps, tt, placed capacity id new s s.homes me.0 w k at (omega (arith, hit, less)) refl some_part, ((λ _. refl), (λ miss. absurd (miss hit)), refl)))
+    (w, keeps, tt, placed capacity id new s s.homes me.0 w k at (omega (arith, hit, less)) refl some_part, ((λ _. refl), (λ miss. absurd (miss hit)), refl)))
     (λ miss. let w = holding me.0.parts me.0.units (me.0.looks ++ Asked old n ∷ []) in
-        (w, keeps, tt, placed capacity id n s s.homes me.0 w k at refl refl some_part, ((λ hit. absurd (miss hit)), (λ _. refl), refl)))
+    (w, keeps, tt, placed capacity id n s s.homes me.0 w k at refl refl some_part, ((λ hit. absurd (miss hit)), (λ _. refl), refl)))
 
 pub gives : (capacity slots id : ℕ) (me : Standing) (count : ℕ) → count ≤ me.0.units → 0 < me.0.parts
     → Allows (Kept capacity) slots id me 0 (λ n. (n + count) % 2 ^ 64) (gave (step slots 0 count 0 none) me)

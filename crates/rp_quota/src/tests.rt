@@ -11,7 +11,11 @@ fn two_shares_of_three_units(rt: HostRuntime) -> Result<(), Fail> {
     let (quota, mut first) = Quota::new(rt.alloc(), 3)?;
     let mut second = quota.split(&mut first);
     assert!(rt; quota.try_take(&mut first, 2).is_ok());
-    assert!(rt; quota.try_take(&mut second, 2).is_err_and(|fault| fault == QuotaFault::Low { free: 1 }));
+    assert!(rt;
+        quota
+            .try_take(&mut second, 2)
+            .is_err_and(|fault| fault == QuotaFault::Low { free: 1 })
+    );
     quota.give(&mut first, 2);
     assert!(rt; quota.try_take(&mut second, 2).is_ok());
     quota.join(&mut first, second);
@@ -51,11 +55,11 @@ fn shares_on_two_threads(rt: HostRuntime) -> Result<(), Fail> {
     let pair = join(
         &rt,
         || -> Share
-            requires { IsShareOf quota first }
+            requires { IsShareOf quota first × (2 ≤ capacity_of quota) }
             ensures { IsShareOf quota result × ((known_by result).parts ≡ (known_by first).parts) }
         { use_often(&quota, first) },
         || -> Share
-            requires { IsShareOf quota second }
+            requires { IsShareOf quota second × (2 ≤ capacity_of quota) }
             ensures { IsShareOf quota result × ((known_by result).parts ≡ (known_by second).parts) }
         { use_often(&quota, second) },
     );
