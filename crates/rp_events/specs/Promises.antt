@@ -101,8 +101,10 @@ pub record TakesEffect (before : State) (claim : Claim) : Type 0 where
 -- the item at this place of a range's list takes effect on what the items before it make of the start
 pub record IsLawfulPlace (w : World) (start : State) (list : List Place) (range place : ℕ)
     (claim : Claim) : Type 0 where
+  -- what the items before it make of the range's start
   pub before : State
   pub reached : fold start (take place list) ≡ Some before
+  -- there it takes effect with its reply, in the bounds and under its lease sequence
   pub takes_effect : TakesEffect before claim
   -- exactly one journal has its admission: in this range, for this request, under this sequence
   pub admitted : IsAdmittedUnder w claim.id range claim.request claim.seq
@@ -118,9 +120,11 @@ pub record IsLawfulLease (start : State) (list : List Place) (place : ℕ) (leas
 pub record PlacesAreLawful (w : World) (records : ℕ → List Record) (start : ℕ → State) : Type 0 where
   -- each command has at most one place, over all ranges and all its attempts
   pub once : IsOnceInAll (lists_of records)
+  -- at its place each item takes effect as its command was admitted to
   pub lawful : (range place : ℕ) (item : Place) (claim : Claim)
       → slice_get (lists_of records range) place ≡ Some item → claim_of item ≡ Some claim
       → IsLawfulPlace w (start range) (lists_of records range) range place claim
+  -- each lease item follows the lease before it
   pub leases : (range place : ℕ) (lease : leases.Lease)
       → slice_get (lists_of records range) place ≡ Some (places.Lease lease)
       → IsLawfulLease (start range) (lists_of records range) place lease
@@ -233,8 +237,12 @@ pub record OutcomesAreHonest (w : World) : Type 0 where
 
 -- the promise of a world
 pub record Promise (w : World) : Type 0 where
+  -- of each range the records of its one list, and the state that it starts from
   pub records : ℕ → List Record
   pub start : ℕ → State
+  -- every replica's table is the fold of a prefix of its range's one applied list
   pub states : StatesAgree w records start
+  -- each command takes effect at most once, under the lease it was proposed with and inside its range
   pub places : PlacesAreLawful w records start
+  -- Success is the reply at that place, Refused means never, Ambiguous has its cause
   pub outcomes : OutcomesAreHonest w
