@@ -1,3 +1,4 @@
 pub mod Views
 pub mod Scenes
 pub mod Standing
+pub mod Steps

@@ -15,9 +15,9 @@ use Rattle.rp_events.specs.Replicas.{Replica, Done}
 use Rattle.rp_events.specs.ReplicaEvents.{event}
 use Rattle.rp_events.specs.Applications.{payload_of, next_entry}
 use Rattle.rp_events.specs.Nodes.{Node, Status, Absent, Live, Removed, seat, range_numbers}
-use Rattle.rp_events.specs.NodeEvents.{live_turn}
+use Rattle.rp_events.specs.NodeEvents.{status_after, live_turn}
 use Rattle.rp_events.specs.Worlds.{World, Scene, node_of, sent_by, event_of, taken_in}
-use Rattle.rp_seats.specs.Views.{range_at, number_in}
+use Rattle.rp_seats.specs.Views.{core, core_of, range_at, number_in}
 
 -- what happens to what a node has of a range, as Raft has it: an action of a replica, a message, or the
 -- range's start in this state
@@ -141,3 +141,11 @@ StartsIn start [] = Unit {0}
 StartsIn start (Acts action ∷ ds) = StartsIn start ds
 StartsIn start (Gets from number message again ∷ ds) = StartsIn start ds
 StartsIn start (Starts s ∷ ds) = (s ≡ start) × StartsIn start ds
+
+-- an event of a replica is to its site what its doings make of it
+abbrev pub IsTurn : (nodes range : ℕ) → AppliedState → (node number : ℕ) → Replica
+    → List (ℕ × Message AppliedState) → ReplicaEvent AppliedState → Done → Type 0
+IsTurn nodes range start node number r sent e d =
+    site_after nodes range start node (doings_of number r e d.proposed)
+    (record { status = raft.Live (core r); sent = sent })
+    ≡ record { status = core_of (status_after e d.replica); sent = sent ++ d.messages }

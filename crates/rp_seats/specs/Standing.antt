@@ -1,8 +1,7 @@
 -- How the nodes stand beside Raft's world of a range and beside the range machine: the statements that
 -- every lawful scene keeps.
-use Rattle.std.specs.Prelude.{◌≡◌, ℕ, ◌+◌, true, false, List, [], ◌⊎◌, map, length, Contains, Option, None, Some}
-use Rattle.std.specs.List.{IsDistinct}
-use Rattle.rp_base.specs.Ids.{same_id}
+use Rattle.std.specs.Prelude.{◌≡◌, ℕ, ◌+◌, true, false, List, [], ◌∷◌, ◌⊎◌, map, length, Contains, Option, None, Some}
+use Rattle.std.specs.List.{AllByRecursion}
 use Rattle.rp_base.specs.declared.ids.CmdId.{CmdId}
 use Rattle.rp_latch.specs.declared.holds.Hold.{Hold}
 use Rattle.rp_raftlog.specs.declared.entries.Entry.{Entry}
@@ -20,7 +19,7 @@ use Rattle.rp_raftsafe.specs.World as raft
 use Rattle.rp_raftsafe.specs.World.{IsRange, world_after}
 use Rattle.rp_raftsafe.specs.Safety.{OneList, OneListOf}
 use Rattle.rp_raftsafe.specs.Proposed.{payloads_of}
-use Rattle.rp_rangesafe.specs.Attempts.{Body, Stage, Unborn, Waiting, Proposed, Success, Refused, Overtaken, Removed, Restarted, Attempt, IsBorn, IsBornAt, IsAmong}
+use Rattle.rp_rangesafe.specs.Attempts.{Body, Stage, Unborn, Waiting, Proposed, Success, Refused, Overtaken, Removed, Restarted, Attempt, Attempts, IsBorn, IsBornAt, IsAmong}
 use Rattle.rp_rangesafe.specs.World as machine
 use Rattle.rp_rangesafe.specs.World.{MayCommit}
 use Rattle.rp_rangesafe.specs.Ranges.{Ranges, Owner, Nobody, Turned, At, AreReached}
@@ -89,21 +88,27 @@ abbrev pub TellsOf : (node : ℕ) → Attempt → Option Proposal → Option Out
 TellsOf node a None told = IsBornAt a node → IsToldAs a.stage told
 TellsOf node a (Some p) told = TellsPending node a p told
 
-abbrev pub Tells : machine.World → (node : ℕ) → List Proposal → (CmdId → Option Outcome) → Type 0
-Tells h node ps told = (id : CmdId) → TellsOf node (h.attempt id) (proposal_of id ps) (told id)
+-- no proposal has the id, and no two have one
+abbrev pub HasNone : CmdId → List Proposal → Type 0
+HasNone id ps = AllByRecursion (λ p. id ≡ p.id → ⊥) ps
 
--- the ids of proposals are distinct
-abbrev pub HaveDistinctIds : List Proposal → Type 0
-HaveDistinctIds ps = IsDistinct same_id (map (λ p. p.id) ps)
+abbrev pub AreDistinct : List Proposal → Type 0
+AreDistinct [] = Unit {0}
+AreDistinct (p ∷ ps) = HasNone p.id ps × AreDistinct ps
 
--- one range at one node: where it stands, what its proposals stand for, and that the latches are those of
--- the proposals
+-- the pending proposals of a node beside the attempts: what they stand for, each id once, and their
+-- latches
+pub record PendingOk (attempts : Attempts) (node : ℕ) (ps : List Proposal) (latches : List Hold)
+    (told : CmdId → Option Outcome) : Type 0 where
+  pub tells : (id : CmdId) → TellsOf node (attempts id) (proposal_of id ps) (told id)
+  pub distinct : AreDistinct ps
+  pub held : latches ≡ map hold_of ps
+
+-- one range at one node: where it stands, and what its proposals stand for
 pub record SeatOk (h : machine.World) (node range : ℕ) (status : nodes.Status)
     (told : CmdId → Option Outcome) : Type 0 where
   pub stands : StandsAs h node (base_of range) status
-  pub tells : Tells h node (pending_in status) told
-  pub distinct : HaveDistinctIds (pending_in status)
-  pub held : latches_in status ≡ map hold_of (pending_in status)
+  pub pending : PendingOk h.attempt node (pending_in status) (latches_in status) told
 
 -- one range: what it sees of the nodes is Raft's world after these events, whose committed list is the
 -- machine's; and each payload that they hand to Raft may be committed

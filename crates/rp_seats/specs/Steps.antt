@@ -1,0 +1,57 @@
+-- What a part of an event is in the range machine: steps of one node that change attempts alone.
+use Rattle.std.specs.Prelude.{◌≡◌, ℕ, ◌<◌, if◌then◌else◌, List, [], ◌∷◌, Option, None, Some}
+use Rattle.rp_base.specs.Ids.{same_id}
+use Rattle.rp_base.specs.declared.ids.CmdId.{CmdId}
+use Rattle.rp_request.specs.declared.outcomes.Outcome.{Outcome}
+use Rattle.rp_pending.specs.declared.proposals.Proposal.{Proposal}
+use Rattle.rp_rangesafe.specs.Attempts.{Stage, Unborn, Attempt, Attempts}
+use Rattle.rp_rangesafe.specs.World.{World, Event, AllLawful, happens, run}
+use Rattle.rp_rangesafe.specs.Places.{HappensAt}
+use Rattle.rp_events.specs.declared.answers.Ended.{Ended}
+use Rattle.rp_events.specs.Moves.{Move, HandsOut}
+use Rattle.rp_events.specs.Replicas.{Told}
+use Rattle.rp_seats.specs.Standing.{HasPlace, IsToldAs, PendingOk}
+
+-- each happens at this node
+abbrev pub AllHappenAt : (node : ℕ) → World → List Event → Type 0
+AllHappenAt node h [] = Unit {0}
+AllHappenAt node h (e ∷ es) = HappensAt h e node × AllHappenAt node (happens h e) es
+
+-- lawful steps of the node lead to these attempts, and leave all else
+pub record StepsTo (node : ℕ) (h : World) (attempts : Attempts) : Type 0 where
+  pub events : List Event
+  pub lawful : AllLawful h events
+  pub own : AllHappenAt node h events
+  pub leads : run h events ≡ record h { attempt = attempts }
+
+-- what attempts are told once one has ended, and once these have
+abbrev pub tell : (CmdId → Option Outcome) → Ended → CmdId → Option Outcome
+tell told e id = if same_id id e.id then Some e.outcome else told id
+
+abbrev pub told_after : (CmdId → Option Outcome) → List Ended → CmdId → Option Outcome
+told_after told [] = told
+told_after told (e ∷ es) = told_after (tell told e) es
+
+-- a hand-out gives a maximum above 0
+abbrev pub GivesAbove : List Move → Type 0
+GivesAbove [] = Unit {0}
+GivesAbove (HandsOut id max ∷ moves) = (0 < max) × GivesAbove moves
+GivesAbove (move ∷ moves) = GivesAbove moves
+
+-- the node's part of an event so far is lawful steps of the node, behind which its pending proposals
+-- stand for the attempts
+pub record IsSteps (node : ℕ) (h : World) (told : CmdId → Option Outcome) (t : Told) : Type 0 where
+  pub attempts : Attempts
+  pub steps : StepsTo node h attempts
+  pub pending : PendingOk attempts node t.replica.pending t.replica.latches (told_after told t.ended)
+
+-- how a proposal ends is how a change of stages ends its attempt; one that does not end keeps its stage
+abbrev pub EndsSo : (Stage → Stage) → Proposal → Attempt → Option Outcome → Type 0
+EndsSo change p a None = change a.stage ≡ a.stage
+EndsSo change p a (Some outcome) = IsToldAs (change a.stage) (Some outcome)
+
+-- what ends proposals is this change of stages: it changes nothing of what has ended or was not made
+pub record EndsAs (ends : Proposal → Option Outcome) (change : Stage → Stage) : Type 0 where
+  pub each : (p : Proposal) (a : Attempt) → HasPlace p.stage p.max a → EndsSo change p a (ends p)
+  pub closed : (s : Stage) (told : Option Outcome) → IsToldAs s told → change s ≡ s
+  pub unborn : change Unborn ≡ Unborn
