@@ -5,3 +5,5 @@ mod Proposals
 mod Moves
 mod Ends
 mod Told
+mod Shaped
+mod Others

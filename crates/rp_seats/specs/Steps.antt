@@ -17,6 +17,11 @@ abbrev pub AllHappenAt : (node : ℕ) → World → List Event → Type 0
 AllHappenAt node h [] = Unit {0}
 AllHappenAt node h (e ∷ es) = HappensAt h e node × AllHappenAt node (happens h e) es
 
+-- each happens at another node, or at none
+abbrev pub AreElsewhere : (node : ℕ) → World → List Event → Type 0
+AreElsewhere node h [] = Unit {0}
+AreElsewhere node h (e ∷ es) = (HappensAt h e node → ⊥) × AreElsewhere node (happens h e) es
+
 -- lawful steps of the node lead to these attempts, and leave all else
 pub record StepsTo (node : ℕ) (h : World) (attempts : Attempts) : Type 0 where
   pub events : List Event

@@ -14,7 +14,7 @@ ghost use Rattle.rp_request.specs.declared.outcomes.Outcome.{Outcome};
 ghost use Rattle.rp_request.specs.declared.commands.Payload.{Payload};
 ghost use Rattle.rp_rangesafe.specs.Attempts.{Stage, Attempts, at_node};
 ghost use Rattle.rp_rangesafe.specs.World as machine;
-ghost use Rattle.rp_rangesafe.specs.World.{MayCommit, here, overtaken, removed, restarted, after_entry};
+ghost use Rattle.rp_rangesafe.specs.World.{AllLawful, MayCommit, here, overtaken, removed, restarted, after_entry};
 ghost use Rattle.rp_raftstep.specs.declared.messages.Message.{Message};
 ghost use Rattle.rp_request.specs.Applied.{AppliedState};
 ghost use Rattle.rp_raftsafe.specs.World.{run};
@@ -25,14 +25,14 @@ ghost use Rattle.rp_events.specs.Moves.{Move, moved_all, command_of, payloads_of
 ghost use Rattle.rp_events.specs.Ends.{ends_all, overtaken_by, removed_with, lost_under};
 ghost use Rattle.rp_events.specs.Applications.{proposer_told};
 ghost use Rattle.rp_events.specs.ReplicaEvents.{event};
-ghost use Rattle.rp_events.specs.Nodes.{Node};
+ghost use Rattle.rp_events.specs.Nodes.{Node, Status};
 ghost use Rattle.rp_events.specs.NodeEvents.{step};
 ghost use Rattle.rp_events.specs.Worlds.{World, Scene, happens};
 ghost use Rattle.rp_events.specs.Lawful.{is_lawful};
 ghost use Rattle.rp_seats.specs.Views.{site_of, view, range_at, read};
 ghost use Rattle.rp_seats.specs.Scenes.{site_after, node_doings, doings_in, raft_events, StartsIn, IsTurn};
-ghost use Rattle.rp_seats.specs.Steps.{told_after, GivesAbove, IsSteps, EndsAs};
-ghost use Rattle.rp_seats.specs.Standing.{IsShaped, AreShaped, PendingOk};
+ghost use Rattle.rp_seats.specs.Steps.{AreElsewhere, told_after, GivesAbove, IsSteps, EndsAs};
+ghost use Rattle.rp_seats.specs.Standing.{IsShaped, AreShaped, PendingOk, SeatOk};
 
 /// The moves of a replica's proposals leave what it has applied.
 pub fn moves_leave_what_is_applied()
@@ -109,4 +109,16 @@ pub fn the_proposer_is_told_as_the_machine_says()
         → PendingOk (after_entry node r.applied.state p attempts) node
         (proposer_told r p).replica.pending (proposer_told r p).replica.latches
         (told_after told (proposer_told r p).ended) }
+{}
+
+/// After every scene the nodes are numbered from 1, know how many there are and have eight seats.
+pub fn each_scene_leaves_the_nodes_in_shape()
+    ensures { (w : World) → AreShaped w → (x : Scene) → AreShaped (happens w x) }
+{}
+
+/// Lawful events of other nodes, or of none, leave how a node stands.
+pub fn events_elsewhere_leave_a_seat()
+    ensures { (h : machine.World) (es : List machine.Event) (node : ℕ) (range : ℕ) (status : Status)
+        → (told : CmdId → Option Outcome) → AllLawful h es → AreElsewhere node h es
+        → SeatOk h node range status told → SeatOk (machine.run h es) node range status told }
 {}
