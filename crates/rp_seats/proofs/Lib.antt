@@ -7,3 +7,4 @@ mod Ends
 mod Told
 mod Shaped
 mod Others
+mod Commits

@@ -1,16 +1,22 @@
 -- What a part of an event is in the range machine: steps of one node that change attempts alone.
-use Rattle.std.specs.Prelude.{◌≡◌, ℕ, ◌<◌, if◌then◌else◌, List, [], ◌∷◌, Option, None, Some}
+use Rattle.std.specs.Prelude.{◌≡◌, ℕ, ◌<◌, if◌then◌else◌, List, [], ◌∷◌, ◌++◌, map, Option, None, Some}
 use Rattle.rp_base.specs.Ids.{same_id}
 use Rattle.rp_base.specs.declared.ids.CmdId.{CmdId}
 use Rattle.rp_request.specs.declared.outcomes.Outcome.{Outcome}
 use Rattle.rp_pending.specs.declared.proposals.Proposal.{Proposal}
 use Rattle.rp_rangesafe.specs.Attempts.{Stage, Unborn, Attempt, Attempts}
-use Rattle.rp_rangesafe.specs.World.{World, Event, AllLawful, happens, run}
+use Rattle.rp_rangesafe.specs.World.{World, Event, Commit, AllLawful, happens, run}
 use Rattle.rp_rangesafe.specs.Places.{HappensAt}
+use Rattle.rp_request.specs.Applied.{AppliedState}
+use Rattle.rp_request.specs.declared.commands.Payload.{Payload}
+use Rattle.rp_raftsafe.specs.World as raft
+use Rattle.rp_raftsafe.specs.Safety.{OneListOf}
+use Rattle.rp_events.specs.Worlds as worlds
+use Rattle.rp_seats.specs.Views.{range_at}
 use Rattle.rp_events.specs.declared.answers.Ended.{Ended}
 use Rattle.rp_events.specs.Moves.{Move, HandsOut}
 use Rattle.rp_events.specs.Replicas.{Told}
-use Rattle.rp_seats.specs.Standing.{HasPlace, IsToldAs, PendingOk}
+use Rattle.rp_seats.specs.Standing.{HasPlace, IsToldAs, PendingOk, RaftOk}
 
 -- each happens at this node
 abbrev pub AllHappenAt : (node : ℕ) → World → List Event → Type 0
@@ -60,3 +66,12 @@ pub record EndsAs (ends : Proposal → Option Outcome) (change : Stage → Stage
   pub each : (p : Proposal) (a : Attempt) → HasPlace p.stage p.max a → EndsSo change p a (ends p)
   pub closed : (s : Stage) (told : Option Outcome) → IsToldAs s told → change s ≡ s
   pub unborn : change Unborn ≡ Unborn
+
+-- the machine's entries once Raft's committed list of a range has grown by these events: the same list
+-- behind them, and all else stays
+pub record RaftTurned (nodes range : ℕ) (s : AppliedState) (one : OneListOf (range_at nodes range s))
+    (seen : List raft.Event) (w : worlds.World) (h : World) : Type 0 where
+  pub payloads : List Payload
+  pub lawful : AllLawful h (map Commit payloads)
+  pub leads : run h (map Commit payloads) ≡ record h { log = h.log ++ payloads }
+  pub raft : RaftOk nodes range s one seen w (record h { log = h.log ++ payloads })

@@ -1,5 +1,5 @@
 //! Laws of one range of several nodes, for every scene. No program calls these functions.
-ghost use Rattle.std.specs.Prelude.{◌≡◌, ℕ, ◌<◌, IsTrue, List, length, map, Option, Some};
+ghost use Rattle.std.specs.Prelude.{◌≡◌, ℕ, ◌<◌, IsTrue, List, ◌++◌, length, map, Contains, Option, Some};
 ghost use Rattle.std.specs.List.{AllByRecursion};
 ghost use Rattle.rp_base.specs.declared.ids.CmdId.{CmdId};
 ghost use Rattle.rp_base.specs.declared.items.Item.{Item};
@@ -17,7 +17,11 @@ ghost use Rattle.rp_rangesafe.specs.World as machine;
 ghost use Rattle.rp_rangesafe.specs.World.{AllLawful, MayCommit, here, overtaken, removed, restarted, after_entry};
 ghost use Rattle.rp_raftstep.specs.declared.messages.Message.{Message};
 ghost use Rattle.rp_request.specs.Applied.{AppliedState};
+ghost use Rattle.rp_raftsafe.specs.World as raft;
 ghost use Rattle.rp_raftsafe.specs.World.{run};
+ghost use Rattle.rp_raftsafe.specs.Safety.{OneListOf};
+ghost use Rattle.rp_raftsafe.specs.Proposed as proposed;
+ghost use Rattle.rp_rangesafe.specs.Places.{IsReached, IsLater};
 ghost use Rattle.rp_events.specs.declared.node_events.Event.{Event};
 ghost use Rattle.rp_events.specs.declared.replica_events.ReplicaEvent.{ReplicaEvent};
 ghost use Rattle.rp_events.specs.Replicas.{Replica, Told};
@@ -31,8 +35,8 @@ ghost use Rattle.rp_events.specs.Worlds.{World, Scene, happens};
 ghost use Rattle.rp_events.specs.Lawful.{is_lawful};
 ghost use Rattle.rp_seats.specs.Views.{site_of, view, range_at, read};
 ghost use Rattle.rp_seats.specs.Scenes.{site_after, node_doings, doings_in, raft_events, StartsIn, IsTurn};
-ghost use Rattle.rp_seats.specs.Steps.{AreElsewhere, told_after, GivesAbove, IsSteps, EndsAs};
-ghost use Rattle.rp_seats.specs.Standing.{IsShaped, AreShaped, PendingOk, SeatOk};
+ghost use Rattle.rp_seats.specs.Steps.{AreElsewhere, told_after, GivesAbove, IsSteps, EndsAs, RaftTurned};
+ghost use Rattle.rp_seats.specs.Standing.{IsShaped, AreShaped, PendingOk, SeatOk, RaftOk};
 
 /// The moves of a replica's proposals leave what it has applied.
 pub fn moves_leave_what_is_applied()
@@ -121,4 +125,16 @@ pub fn events_elsewhere_leave_a_seat()
     ensures { (h : machine.World) (es : List machine.Event) (node : ℕ) (range : ℕ) (status : Status)
         → (told : CmdId → Option Outcome) → AllLawful h es → AreElsewhere node h es
         → SeatOk h node range status told → SeatOk (machine.run h es) node range status told }
+{}
+
+/// Raft's events of a turn keep Raft beside the machine: where each payload that they hand to Raft may
+/// be committed, the entries by which the committed list grows are lawful commits.
+pub fn what_raft_commits_is_committed()
+    ensures { (nodes : ℕ) (range : ℕ) (s : AppliedState) (one : OneListOf (range_at nodes range s))
+        → (seen : List raft.Event) (events : List raft.Event) (w : World) (after : World)
+        → (h : machine.World) (k : machine.World) → RaftOk nodes range s one seen w h
+        → view range after ≡ run (range_at nodes range s) events (view range w)
+        → IsReached h → IsLater h k → k.log ≡ h.log
+        → ((bytes : List ℕ) → Contains (proposed.payloads_of events) bytes → MayCommit k (read bytes))
+        → RaftTurned nodes range s one (seen ++ events) after k }
 {}
