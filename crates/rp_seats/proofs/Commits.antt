@@ -46,7 +46,7 @@ commits_run h (p ∷ ps) = commits_run (machine.happens h (Commit p)) ps ∙ ap 
   behind [] x ys = refl
   behind (y ∷ xs) x ys = ap (λ zs. y ∷ zs) (behind xs x ys)
 
-abbrev pay : Entry → Payload
+abbrev pub pay : Entry → Payload
 pay e = read e.payload
 
 -- each entry of a list may be committed

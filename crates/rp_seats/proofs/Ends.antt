@@ -119,7 +119,7 @@ module _ (ends : Proposal → Option Outcome) where
   distinct_left (p ∷ ps) d = cond_both (is_none (ends p)) (p ∷ left ps) (left ps) AreDistinct (λ _. (none_left p.id ps d.0, distinct_left ps d.1)) (λ _. distinct_left ps d.1)
 
   -- each one of the list is found
-  abbrev AllFound : List Proposal → List Proposal → Type 0
+  abbrev pub AllFound : List Proposal → List Proposal → Type 0
   AllFound whole qs = AllByRecursion (λ p. proposal_of p.id whole ≡ Some p) qs
 
   found_behind : (p : Proposal) (whole qs : List Proposal) → HasNone p.id qs → AllFound whole qs → AllFound (p ∷ whole) qs
@@ -127,7 +127,7 @@ module _ (ends : Proposal → Option Outcome) where
   found_behind p whole (q ∷ qs) h f =
       (ap (λ b. cond b (Some p) (proposal_of q.id whole)) (apart_not_same q.id p.id (λ s. h.0 (sym s))) ∙ f.0, found_behind p whole qs h.1 f.1)
 
-  all_found : (ps : List Proposal) → AreDistinct ps → AllFound ps ps
+  pub all_found : (ps : List Proposal) → AreDistinct ps → AllFound ps ps
   all_found [] d = tt
   all_found (p ∷ ps) d = (ap (λ b. cond b (Some p) (proposal_of p.id ps)) (same_itself p.id), found_behind p ps ps d.0 (all_found ps d.1))
 
@@ -230,7 +230,7 @@ stays_restarted (Overtaken own passed) told h = refl
 stays_restarted (Removed own) told h = refl
 stays_restarted (Restarted own) told h = refl
 
-abbrev overtook : ℕ → Proposal → Option Outcome
+abbrev pub overtook : ℕ → Proposal → Option Outcome
 overtook lai p = Some (outcomes.Ambiguous (causes.Snapshot p.max lai))
 
 pub snapshot_ends : (lai : ℕ) → EndsAs (overtaken_by lai) (overtaken lai)

@@ -8,3 +8,16 @@ mod Told
 mod Shaped
 mod Others
 mod Commits
+mod Shown
+mod Seats
+mod Outcomes
+mod Bound
+mod Scenes
+mod Events
+mod Ticks
+mod Jumps
+mod Messages
+mod Opens
+mod Begins
+mod Shut
+mod Admits

@@ -34,7 +34,7 @@ use Rattle.rp_events.specs.Replicas.{Replica, Told, lease_of}
 use Rattle.rp_events.specs.Moves.{Move, HandsOut, GivesUp, TakesBack, Repeats, hands_out, gives_up, takes_back, repeats, moved, moved_all, then_told, then_is, ended, proposed_under, waits_again, command_of, write_of, payloads_of}
 use Rattle.rp_seats.specs.Views.{read, payload_or}
 use Rattle.rp_seats.specs.Standing.{body_of, HasPlace, TellsPending, TellsOf, PendingOk}
-use Rattle.rp_seats.specs.Steps.{AllHappenAt, StepsTo, tell, told_after, GivesAbove, IsSteps}
+use Rattle.rp_seats.specs.Steps.{AllHappenAt, AdmitsNone, StepsTo, tell, told_after, IsEnd, EndEach, GivesAbove, IsSteps}
 use Rattle.rp_seats.proofs.Turns.{move_kept}
 use Rattle.rp_seats.proofs.Proposals.{none_without, other_without, distinct_left, held_left, distinct_turned, held_turned, same_turned, other_turned}
 
@@ -52,11 +52,24 @@ own_further : (node : ℕ) (h : machine.World) (es fs : List Event) → AllHappe
 own_further node h [] fs a b = b
 own_further node h (e ∷ es) fs a b = (a.0, own_further node (machine.happens h e) es fs a.1 b)
 
+pub quiet_further : (es fs : List Event) → AdmitsNone es → AdmitsNone fs → AdmitsNone (es ++ fs)
+quiet_further [] fs a b = b
+quiet_further (machine.Admit id at body ∷ es) fs a b = absurd a
+quiet_further (machine.Flush id max ∷ es) fs a b = quiet_further es fs a b
+quiet_further (machine.Return id ∷ es) fs a b = quiet_further es fs a b
+quiet_further (machine.Refuse id ∷ es) fs a b = quiet_further es fs a b
+quiet_further (machine.Commit p ∷ es) fs a b = quiet_further es fs a b
+quiet_further (machine.Apply at ∷ es) fs a b = quiet_further es fs a b
+quiet_further (machine.Snapshot at to ∷ es) fs a b = quiet_further es fs a b
+quiet_further (machine.Remove at ∷ es) fs a b = quiet_further es fs a b
+quiet_further (machine.Restart at ∷ es) fs a b = quiet_further es fs a b
+
 pub steps_further : (node : ℕ) (h : machine.World) (f g : Attempts) → StepsTo node h f → StepsTo node (record h { attempt = f }) g → StepsTo node h g
 steps_further node h f g a b = record {
   events = a.events ++ b.events;
   lawful = lawful_further h a.events b.events a.lawful (subst (λ z. AllLawful z b.events) (sym a.leads) b.lawful);
   own = own_further node h a.events b.events a.own (subst (λ z. AllHappenAt node z b.events) (sym a.leads) b.own);
+  quiet = quiet_further a.events b.events a.quiet b.quiet;
   leads = run_further h a.events b.events ∙ ap (λ z. machine.run z b.events) a.leads ∙ b.leads;
 }
 
@@ -64,6 +77,11 @@ steps_further node h f g a b = record {
 pub told_further : (told : CmdId → Option Outcome) (xs : List Ended) (e : Ended) → told_after told (xs ++ e ∷ []) ≡ tell (told_after told xs) e
 told_further told [] e = refl
 told_further told (x ∷ xs) e = told_further (tell told x) xs e
+
+pub end_further : (told : CmdId → Option Outcome) (xs : List Ended) (e : Ended) → EndEach told xs → told_after told xs e.id ≡ Some outcomes.Pending → IsEnd e.outcome
+    → EndEach told (xs ++ e ∷ [])
+end_further told [] e h pending is = (pending, is, tt)
+end_further told (x ∷ xs) e h pending is = (h.0, h.1, end_further (tell told x) xs e h.2 pending is)
 
 module _ (f : Attempts) (node : ℕ) (ps : List Proposal) (latches : List Hold) (told : CmdId → Option Outcome) (ok : PendingOk f node ps latches told) where
   -- the proposal that is found
@@ -117,9 +135,9 @@ both_true false c e = absurd cc
 
 module _ (node : ℕ) (h : machine.World) (told : CmdId → Option Outcome) (ticks round : ℕ) (t : Told)
     (lai : (here h node).lai ≡ t.replica.applied.state.lai)
-    (ok : PendingOk h.attempt node t.replica.pending t.replica.latches (told_after told t.ended)) where
+    (ok : PendingOk h.attempt node t.replica.pending t.replica.latches (told_after told t.ended)) (fin : EndEach told t.ended) where
   pub stay : IsSteps node h told t
-  stay = record { attempts = h.attempt; steps = record { events = []; lawful = tt; own = tt; leads = refl }; pending = ok }
+  stay = record { attempts = h.attempt; steps = record { events = []; lawful = tt; own = tt; quiet = tt; leads = refl }; pending = ok; ended = fin }
 
   tells : (id : CmdId) (p : Proposal) → proposal_of id t.replica.pending ≡ Some p → TellsPending node (h.attempt id) p (told_after told t.ended id)
   tells = found_tells h.attempt node t.replica.pending t.replica.latches (told_after told t.ended) ok
@@ -136,11 +154,13 @@ module _ (node : ℕ) (h : machine.World) (told : CmdId → Option Outcome) (tic
           events = machine.Flush id max ∷ [];
           lawful = ((waiting_place p.stage p.max (h.attempt id) waits tp.place, above), tt);
           own = (sym tp.made_at, tt);
+          quiet = tt;
           leads = refl;
         };
         pending = turn_pending h.attempt node t.replica.pending t.replica.latches (told_after told t.ended) ok id (proposed max ticks round) (λ q. refl) (λ q. refl) p e
             (handed_out (h.attempt id) max)
             (record { made_at = tp.made_at; seq = tp.seq; body = tp.body; place = (refl, inl refl); pending = tp.pending });
+        ended = fin;
       })
 
   give_up : (id : CmdId) (o : Option Proposal) → proposal_of id t.replica.pending ≡ o → IsSteps node h told (option_map_or (gives_up t id) o t)
@@ -155,12 +175,14 @@ module _ (node : ℕ) (h : machine.World) (told : CmdId → Option Outcome) (tic
           events = machine.Refuse id ∷ [];
           lawful = (waiting_place p.stage p.max (h.attempt id) waits tp.place, tt);
           own = (sym tp.made_at, tt);
+          quiet = tt;
           leads = refl;
         };
         pending = subst (λ z. PendingOk (with_attempt h.attempt id (staged (h.attempt id) Refused)) node (without id t.replica.pending) (filter (is_of_other id) t.replica.latches) z)
             (sym (told_further told t.ended (record { id = id; outcome = outcomes.Refused (NotLeaseHolder (lease_of t.replica)) })))
             (drop_pending h.attempt node t.replica.pending t.replica.latches (told_after told t.ended) ok id (staged (h.attempt id) Refused) (outcomes.Refused (NotLeaseHolder (lease_of t.replica)))
             (λ born. (NotLeaseHolder (lease_of t.replica), refl)));
+        ended = end_further told t.ended (record { id = id; outcome = outcomes.Refused (NotLeaseHolder (lease_of t.replica)) }) fin tp.pending tt;
       })
 
   take_back : (id : CmdId) (o : Option Proposal) → proposal_of id t.replica.pending ≡ o → IsSteps node h told (option_map_or (takes_back t id) o t)
@@ -181,11 +203,13 @@ module _ (node : ℕ) (h : machine.World) (told : CmdId → Option Outcome) (tic
             passed = subst (λ n. p.max ≤ (here h n).lai) (sym tp.made_at) below;
           }, tt);
           own = (sym tp.made_at, tt);
+          quiet = tt;
           leads = refl;
         };
         pending = turn_pending h.attempt node t.replica.pending t.replica.latches (told_after told t.ended) ok id waiting_again (λ q. refl) (λ q. refl) p e
             (staged (h.attempt id) Waiting)
             (record { made_at = tp.made_at; seq = tp.seq; body = tp.body; place = refl; pending = tp.pending });
+        ended = fin;
       })
       (λ _. stay)
 
@@ -197,9 +221,10 @@ module _ (node : ℕ) (h : machine.World) (told : CmdId → Option Outcome) (tic
       let tp = tells id p e in
       record {
         attempts = h.attempt;
-        steps = record { events = []; lawful = tt; own = tt; leads = refl };
+        steps = record { events = []; lawful = tt; own = tt; quiet = tt; leads = refl };
         pending = keep_pending h.attempt node t.replica.pending t.replica.latches (told_after told t.ended) ok id (proposed p.max ticks round) (λ q. refl) (λ q. refl) p e
             (record { made_at = tp.made_at; seq = tp.seq; body = tp.body; place = proposed_place p.stage p.max (h.attempt id) is tp.place; pending = tp.pending });
+        ended = fin;
       })
       (λ _. stay)
 
@@ -223,16 +248,17 @@ gives_rest (Repeats id) ms above = above
 
 pub moves_steps : (node : ℕ) (h : machine.World) (told : CmdId → Option Outcome) (ticks round : ℕ) (t : Told) (ms : List Move) → GivesAbove ms
     → (here h node).lai ≡ t.replica.applied.state.lai → PendingOk h.attempt node t.replica.pending t.replica.latches (told_after told t.ended)
-    → IsSteps node h told (moved_all ticks round t ms)
-moves_steps node h told ticks round t [] above lai ok = stay node h told ticks round t lai ok
-moves_steps node h told ticks round t (m ∷ ms) above lai ok =
-    let one = one_move node h told ticks round t lai ok m (gives_first m ms above) in
+    → EndEach told t.ended → IsSteps node h told (moved_all ticks round t ms)
+moves_steps node h told ticks round t [] above lai ok fin = stay node h told ticks round t lai ok fin
+moves_steps node h told ticks round t (m ∷ ms) above lai ok fin =
+    let one = one_move node h told ticks round t lai ok fin m (gives_first m ms above) in
     let rest = moves_steps node (record h { attempt = one.attempts }) told ticks round (moved ticks round t m) ms (gives_rest m ms above)
-    (lai ∙ sym (ap (λ z. z.state.lai) (move_kept ticks round t m))) one.pending in
+    (lai ∙ sym (ap (λ z. z.state.lai) (move_kept ticks round t m))) one.pending one.ended in
     record {
       attempts = rest.attempts;
       steps = steps_further node h one.attempts rest.attempts one.steps rest.steps;
       pending = rest.pending;
+      ended = rest.ended;
     }
 
 -- the proposal that is found has the id

@@ -62,14 +62,14 @@ sent_other : (range r : ℕ) (sent : List (Parcel AppliedState)) (sends : List (
 sent_other range r sent sends ne = sent_more range sent (parcels r sends) ∙ ap (λ z. sent_of range sent ++ z) (other_parcels range r sends ne) ∙ append-nil (sent_of range sent)
 
 -- a seat after it was changed, or another
-seat_same : (n : Node) (range : ℕ) (status : Status) → range < length n.seats → seat (with_seat n range status) range ≡ status
+pub seat_same : (n : Node) (range : ℕ) (status : Status) → range < length n.seats → seat (with_seat n range status) range ≡ status
 seat_same n range status within = get_or-set_same n.seats range status Absent within
 
-seat_other : (n : Node) (at range : ℕ) (status : Status) → (at ≡ range → ⊥) → seat (with_seat n at status) range ≡ seat n range
+pub seat_other : (n : Node) (at range : ℕ) (status : Status) → (at ≡ range → ⊥) → seat (with_seat n at status) range ≡ seat n range
 seat_other n at range status ne = get_or-set_other n.seats at range status Absent (λ e. ne (sym e))
 
 -- a seat with a replica is one of the node's
-live_within : (n : Node) (range : ℕ) (r : Replica) → seat n range ≡ Live r → range < length n.seats
+pub live_within : (n : Node) (range : ℕ) (r : Replica) → seat n range ≡ Live r → range < length n.seats
 live_within n range r live =
     ⊎_elim (λ (within : range < length n.seats). within)
     (λ (past : length n.seats ≤ range). absurd (absent_live (sym (get_or_past n.seats range Absent past) ∙ live)))

@@ -19,7 +19,7 @@ use Rattle.rp_seats.specs.Standing.{pending_in, latches_in, StandsAs, HasPlace, 
 use Rattle.rp_seats.specs.Steps.{AllHappenAt, AreElsewhere}
 
 -- a pending attempt was made
-place_born : (s : places.Stage) (max : ℕ) (a : Attempt) → HasPlace s max a → IsBorn a.stage
+pub place_born : (s : places.Stage) (max : ℕ) (a : Attempt) → HasPlace s max a → IsBorn a.stage
 place_born stages.Waiting max a h = subst IsBorn (sym h) tt
 place_born stages.Proposed max a h = subst IsBorn (sym h.0) tt
 

@@ -57,11 +57,11 @@ module _ (nodes node : ℕ) where
   shaped_step n e taken s = let a = shaped_acted n e taken s in record { number = a.number; of = a.of; eight = a.eight }
 
 -- a node of a world in which one changed is that one, or was there before
-record Changed (place j : ℕ) (new m : Node) : Type 0 where
-  here : j ≡ place
-  is : m ≡ new
+pub record Changed (place j : ℕ) (new m : Node) : Type 0 where
+  pub here : j ≡ place
+  pub is : m ≡ new
 
-set_get : (w : World) (place : ℕ) (new : Node) (j : ℕ) (m : Node) → slice_get (set w place new) j ≡ Some m → Changed place j new m ⊎ (slice_get w j ≡ Some m)
+pub set_get : (w : World) (place : ℕ) (new : Node) (j : ℕ) (m : Node) → slice_get (set w place new) j ≡ Some m → Changed place j new m ⊎ (slice_get w j ≡ Some m)
 set_get [] place new j m e = inr e
 set_get (x ∷ w) zero new zero m e = inl (record { here = refl; is = sym (some_is new m e) }) where
   some_is : (a b : Node) → ◌≡◌ {A = Option Node} (Some a) (Some b) → a ≡ b

@@ -53,28 +53,37 @@ pub same_site : (s s' : raft.Status AppliedState) (l l' : List (ℕ × Message A
     → ◌≡◌ {A = raft.Site AppliedState} (record { status = s; sent = l }) (record { status = s'; sent = l' })
 same_site s s' l l' e f = cc
 
--- the moves leave what is applied
+-- what moves leave: what is applied, and the barrier
+abbrev pub stood : Replica → History × ℕ
+stood r = (r.applied, r.barrier)
+
+move_keeps : (ticks round : ℕ) (t : Told) (m : Move) → stood (moved ticks round t m).replica ≡ stood t.replica
+move_keeps ticks round t (HandsOut id max) = go (proposal_of id t.replica.pending) where
+  go : (o : Option Proposal) → stood (option_map_or (hands_out ticks round t id max) o t).replica ≡ stood t.replica
+  go None = refl
+  go (Some p) = cond_both (is_proposed p.stage) t (then_is t (proposed_under t.replica ticks round id max)) (λ z. stood z.replica ≡ stood t.replica) (λ _. refl) (λ _. refl)
+move_keeps ticks round t (GivesUp id) = go (proposal_of id t.replica.pending) where
+  go : (o : Option Proposal) → stood (option_map_or (gives_up t id) o t).replica ≡ stood t.replica
+  go None = refl
+  go (Some p) = cond_both (is_proposed p.stage) t _ (λ (z : Told). stood z.replica ≡ stood t.replica) (λ _. refl) (λ _. refl)
+move_keeps ticks round t (TakesBack id) = go (proposal_of id t.replica.pending) where
+  go : (o : Option Proposal) → stood (option_map_or (takes_back t id) o t).replica ≡ stood t.replica
+  go None = refl
+  go (Some p) = cond_both (goes_back t.replica.applied.state.lai p) (then_is t (waits_again t.replica id)) t (λ z. stood z.replica ≡ stood t.replica) (λ _. refl) (λ _. refl)
+move_keeps ticks round t (Repeats id) = go (proposal_of id t.replica.pending) where
+  go : (o : Option Proposal) → stood (option_map_or (repeats ticks round t id) o t).replica ≡ stood t.replica
+  go None = refl
+  go (Some p) = cond_both (is_proposed p.stage) (then_is t (proposed_under t.replica ticks round id p.max)) t (λ z. stood z.replica ≡ stood t.replica) (λ _. refl) (λ _. refl)
+
 pub move_kept : (ticks round : ℕ) (t : Told) (m : Move) → (moved ticks round t m).replica.applied ≡ t.replica.applied
-move_kept ticks round t (HandsOut id max) = go (proposal_of id t.replica.pending) where
-  go : (o : Option Proposal) → (option_map_or (hands_out ticks round t id max) o t).replica.applied ≡ t.replica.applied
-  go None = refl
-  go (Some p) = cond_both (is_proposed p.stage) t (then_is t (proposed_under t.replica ticks round id max)) (λ z. z.replica.applied ≡ t.replica.applied) (λ _. refl) (λ _. refl)
-move_kept ticks round t (GivesUp id) = go (proposal_of id t.replica.pending) where
-  go : (o : Option Proposal) → (option_map_or (gives_up t id) o t).replica.applied ≡ t.replica.applied
-  go None = refl
-  go (Some p) = cond_both (is_proposed p.stage) t _ (λ (z : Told). z.replica.applied ≡ t.replica.applied) (λ _. refl) (λ _. refl)
-move_kept ticks round t (TakesBack id) = go (proposal_of id t.replica.pending) where
-  go : (o : Option Proposal) → (option_map_or (takes_back t id) o t).replica.applied ≡ t.replica.applied
-  go None = refl
-  go (Some p) = cond_both (goes_back t.replica.applied.state.lai p) (then_is t (waits_again t.replica id)) t (λ z. z.replica.applied ≡ t.replica.applied) (λ _. refl) (λ _. refl)
-move_kept ticks round t (Repeats id) = go (proposal_of id t.replica.pending) where
-  go : (o : Option Proposal) → (option_map_or (repeats ticks round t id) o t).replica.applied ≡ t.replica.applied
-  go None = refl
-  go (Some p) = cond_both (is_proposed p.stage) (then_is t (proposed_under t.replica ticks round id p.max)) t (λ z. z.replica.applied ≡ t.replica.applied) (λ _. refl) (λ _. refl)
+move_kept ticks round t m = ap (λ z. z.0) (move_keeps ticks round t m)
+
+pub moves_keep : (ticks round : ℕ) (t : Told) (ms : List Move) → stood (moved_all ticks round t ms).replica ≡ stood t.replica
+moves_keep ticks round t [] = refl
+moves_keep ticks round t (m ∷ ms) = moves_keep ticks round (moved ticks round t m) ms ∙ move_keeps ticks round t m
 
 pub moves_kept : (ticks round : ℕ) (t : Told) (ms : List Move) → (moved_all ticks round t ms).replica.applied ≡ t.replica.applied
-moves_kept ticks round t [] = refl
-moves_kept ticks round t (m ∷ ms) = moves_kept ticks round (moved ticks round t m) ms ∙ move_kept ticks round t m
+moves_kept ticks round t ms = ap (λ z. z.0) (moves_keep ticks round t ms)
 
 -- what Raft's replica shows once a draft is done
 abbrev drafted : (r : Replica) → Draft AppliedState → List (List ℕ) → raft.Site AppliedState → raft.Site AppliedState
@@ -129,22 +138,28 @@ items_core r [] = refl
 items_core r (item ∷ more) = items_core (joined r item) more ∙ item_core r item
 
 -- the proposer's part of an application
-settled_core : (r : Replica) (c : Command) (v : Verdict) → core (settled r c v).replica ≡ core r
-settled_core r c verdicts.Took = refl
-settled_core r c (verdicts.OldLease now) = refl
-settled_core r c (verdicts.OldIndex lai) = refl
-settled_core r c verdicts.LeaseMoved = refl
-settled_core r c verdicts.Nothing = refl
+abbrev pub cored : Replica → raft.Replica AppliedState × ℕ
+cored r = (core r, r.barrier)
+
+settled_keeps : (r : Replica) (c : Command) (v : Verdict) → cored (settled r c v).replica ≡ cored r
+settled_keeps r c verdicts.Took = refl
+settled_keeps r c (verdicts.OldLease now) = refl
+settled_keeps r c (verdicts.OldIndex lai) = refl
+settled_keeps r c verdicts.LeaseMoved = refl
+settled_keeps r c verdicts.Nothing = refl
+
+pub proposer_keeps : (r : Replica) (p : Payload) → cored (proposer_told r p).replica ≡ cored r
+proposer_keeps r payloads.Nothing = refl
+proposer_keeps r (payloads.Write c) =
+    cond_both (is_own r c) (settled r c (command_verdict r.applied.state c)) (untold r) (λ z. cored z.replica ≡ cored r)
+    (λ _. settled_keeps r c (command_verdict r.applied.state c)) (λ _. refl)
+proposer_keeps r (payloads.Lease ask) = refl
 
 proposer_core : (r : Replica) (p : Payload) → core (proposer_told r p).replica ≡ core r
-proposer_core r payloads.Nothing = refl
-proposer_core r (payloads.Write c) =
-    cond_both (is_own r c) (settled r c (command_verdict r.applied.state c)) (untold r) (λ z. core z.replica ≡ core r)
-    (λ _. settled_core r c (command_verdict r.applied.state c)) (λ _. refl)
-proposer_core r (payloads.Lease ask) = refl
+proposer_core r p = ap (λ z. z.0) (proposer_keeps r p)
 
 -- the entry that is applied
-read_is : (p : Payload) (x : Result Payload BadField) → decoded x ≡ Some p → payload_or x ≡ p
+pub read_is : (p : Payload) (x : Result Payload BadField) → decoded x ≡ Some p → payload_or x ≡ p
 read_is p (Ok q) e = cc
 read_is p (Err bad) e = absurd cc
 

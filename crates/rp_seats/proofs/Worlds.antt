@@ -79,7 +79,7 @@ sent_seen range w (suc place) = at w place where
   at (n ∷ w) zero = refl
   at (n ∷ w) (suc place) = at w place
 
-message_seen : (range : ℕ) (w : World) (from number : ℕ) (p : Parcel AppliedState) → parcel_of (sent_by w from) number ≡ Some p → p.range ≡ range
+pub message_seen : (range : ℕ) (w : World) (from number : ℕ) (p : Parcel AppliedState) → parcel_of (sent_by w from) number ≡ Some p → p.range ≡ range
     → raft.message_of (raft.site (view range w) from) (number_in range (sent_by w from) number) ≡ Some (p.to, p.message)
 message_seen range w from zero p at own = absurd (none_some at)
   where
@@ -94,7 +94,7 @@ view_with : (range : ℕ) (w : World) (node : ℕ) (n : Node) → view range (wi
 view_with range w zero n = refl
 view_with range w (suc place) n = map-set (site_of range) w place n
 
-site_seen : (range : ℕ) (w : World) (node : ℕ) (n : Node) → node_of w node ≡ Some n → raft.site (view range w) node ≡ site_of range n
+pub site_seen : (range : ℕ) (w : World) (node : ℕ) (n : Node) → node_of w node ≡ Some n → raft.site (view range w) node ≡ site_of range n
 site_seen range w zero n e = absurd (none_some e)
   where
   none_some : ◌≡◌ {A = Option Node} None (Some n) → ⊥

@@ -2,3 +2,4 @@ pub mod Views
 pub mod Scenes
 pub mod Standing
 pub mod Steps
+pub mod Turned

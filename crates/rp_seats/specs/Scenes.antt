@@ -149,3 +149,10 @@ IsTurn nodes range start node number r sent e d =
     site_after nodes range start node (doings_of number r e d.proposed)
     (record { status = raft.Live (core r); sent = sent })
     ≡ record { status = core_of (status_after e d.replica); sent = sent ++ d.messages }
+
+-- nothing but a start happens
+abbrev pub OnlyStarts : List Doing → Type 0
+OnlyStarts [] = Unit {0}
+OnlyStarts (Acts action ∷ ds) = ⊥
+OnlyStarts (Gets from number message again ∷ ds) = ⊥
+OnlyStarts (Starts s ∷ ds) = OnlyStarts ds

@@ -7,6 +7,7 @@ use Rattle.rp_latch.specs.declared.holds.Hold.{Hold}
 use Rattle.rp_raftlog.specs.declared.entries.Entry.{Entry}
 use Rattle.rp_request.specs.Applied.{AppliedState}
 use Rattle.rp_request.specs.Covers.{spans_of}
+use Rattle.rp_request.specs.States.{first_applied}
 use Rattle.rp_request.specs.declared.outcomes.Ambiguity.TheVariants as causes
 use Rattle.rp_request.specs.declared.outcomes.Outcome.{Outcome}
 use Rattle.rp_request.specs.declared.outcomes.Outcome.TheVariants as outcomes
@@ -127,11 +128,10 @@ pub record RangeOk (lists : OneList AppliedState) (nodes range : ℕ) (s : Appli
   pub seats : (node : ℕ) (n : Node) → node_of w node ≡ Some n
       → SeatOk h node range (seat n range) (λ id. outcome_at id n)
 
--- a range that has not opened: Raft has seen nothing, and no node has anything of it
+-- a range that has not opened: Raft has seen nothing, no node has anything of it, and nothing was sent
 pub record IsShut (range : ℕ) (seen : List raft.Event) (w : World) : Type 0 where
   pub unseen : seen ≡ []
-  pub seats : (node : ℕ) (n : Node) → node_of w node ≡ Some n
-      → seat n range ≡ Absent
+  pub view_is : view range w ≡ raft.nowhere (range_at (length w) range first_applied)
 
 -- the nodes are numbered from 1, know how many there are, and have eight seats
 pub record IsShaped (nodes : ℕ) (node : ℕ) (n : Node) : Type 0 where
