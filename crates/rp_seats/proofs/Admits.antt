@@ -1,8 +1,6 @@
 -- An admission that is granted is one of the range machine, and its range stands behind it.
-use Rattle.std.proofs.Common.{◌≡◌, ℕ, ◌+◌, ◌<◌, Bool, true, false, cond, eqb, ltb, ◌⊎◌, inl, inr, ⊎_elim, List, [], ◌∷◌, ◌++◌, map, length, Option, None, Some, Result, Ok, Err, is_some, IsFalse, refl, sym, ap, subst, ◌∙◌, arith, append-nil, eqb-true, ltb-true}
-use Rattle.std.specs.Prelude.{Contains, IsTrue, ◌&&◌, ◌==◌}
-use Rattle.std.specs.List.{find}
-use Rattle.std.specs.Option.{option_map, option_map_or}
+use Rattle.std.proofs.Common.{◌≡◌, ℕ, ◌<◌, Bool, true, false, cond, ltb, List, [], ◌∷◌, ◌++◌, map, Option, None, Some, Result, Ok, Err, is_some, IsFalse, refl, sym, ap, subst, ◌∙◌, eqb-true, ltb-true}
+use Rattle.std.specs.Prelude.{◌&&◌}
 use Rattle.rp_base.proofs.Elements.{found_some}
 use Rattle.rp_base.proofs.IdLaws.{same_itself, apart_not_same, not_same_apart}
 use Rattle.rp_base.specs.Ids.{same_id}
@@ -12,14 +10,12 @@ use Rattle.rp_base.specs.declared.spans.Span.{Span}
 use Rattle.rp_base.specs.declared.spans.Spans.{Spans}
 use Rattle.rp_latch.specs.Holds.{met_in, held_or, conflict, refused_by, answer}
 use Rattle.rp_latch.specs.declared.holds.Held.{Held}
-use Rattle.rp_latch.specs.declared.holds.Hold.{Hold}
 use Rattle.rp_request.specs.Applied.{AppliedState}
 use Rattle.rp_request.specs.Covers.{covers, spans_of, in_bounds, HasKeys, Apart}
 use Rattle.rp_request.specs.Evaluations.{evaluated}
 use Rattle.rp_request.specs.declared.evaluations.Evaluated.{Evaluated}
 use Rattle.rp_request.specs.declared.outcomes.Outcome.{Outcome}
 use Rattle.rp_request.specs.declared.outcomes.Outcome.TheVariants as outcomes
-use Rattle.rp_request.specs.declared.outcomes.Refusal.{Refusal}
 use Rattle.rp_request.specs.declared.outcomes.Refusal.TheVariants.{NotLeaseHolder, RangeMismatch}
 use Rattle.rp_request.specs.declared.requests.Request.{Request}
 use Rattle.rp_request.proofs.Covering.{apart}
@@ -29,18 +25,17 @@ use Rattle.rp_pending.specs.declared.proposals.Stage.TheVariants as stages
 use Rattle.rp_pending.specs.Proposals.{has_id, proposal_of}
 use Rattle.rp_raftsafe.specs.World as raft
 use Rattle.rp_raftsafe.specs.World.{IsRange}
-use Rattle.rp_raftsafe.specs.Safety.{OneList, IsLive}
+use Rattle.rp_raftsafe.specs.Safety.{IsLive}
 use Rattle.rp_raftsafe.proofs.Refine.{StatusOk}
 use Rattle.rp_raftsafe.proofs.Worlds.{after_start}
-use Rattle.rp_rangesafe.specs.Attempts.{Body, Stage, Unborn, Waiting, Proposed, Success, Refused, Overtaken, Removed, Restarted, Attempt, Attempts, IsBorn, IsPending, with_attempt}
+use Rattle.rp_rangesafe.specs.Attempts.{Body, Stage, Unborn, Waiting, Proposed, Success, Refused, Overtaken, Removed, Restarted, Attempt, IsBorn, IsPending}
 use Rattle.rp_rangesafe.specs.World as machine
 use Rattle.rp_rangesafe.specs.World.{here, IsEvaluated, MayAdmit, admitted}
 use Rattle.rp_rangesafe.proofs.Tables.{at_attempt}
 use Rattle.rp_events.specs.Admissions.{unlatched, may_admit, guarded, proposal, with_proposal}
 use Rattle.rp_events.specs.Replicas.{Replica, lease_of, holds_lease}
-use Rattle.rp_seats.specs.Standing.{hold_of, body_of, HasPlace, TellsPending, IsToldAs, TellsOf, HasNone, AreDistinct, PendingOk, SeatOk}
+use Rattle.rp_seats.specs.Standing.{hold_of, HasPlace, IsToldAs, TellsOf, HasNone, AreDistinct, SeatOk}
 use Rattle.rp_events.specs.Nodes.{Live}
-use Rattle.rp_events.specs.Lists.{base_of}
 use Rattle.rp_seats.specs.Turned.{HaveKeys}
 
 -- Raft's replica at a node has the node's number

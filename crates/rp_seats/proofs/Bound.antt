@@ -1,8 +1,7 @@
 -- A turn of one range at a node: the node's part in the machine, Raft's events, and the entries by which
 -- the list grows in them.
-use Rattle.std.proofs.Common.{◌≡◌, ℕ, ◌⊎◌, inl, inr, ⊎_elim, Option, None, Some, List, [], ◌∷◌, ◌++◌, map, refl, sym, ap, subst, ◌∙◌}
+use Rattle.std.proofs.Common.{◌≡◌, ℕ, ⊎_elim, Option, None, Some, List, [], ◌∷◌, ◌++◌, map, refl, sym, subst, ◌∙◌}
 use Rattle.std.specs.Prelude.{Contains}
-use Rattle.std.specs.List.{AllByRecursion}
 use Rattle.std.proofs.lemmas.List.Elements.{All-contains, All-from_recursion}
 use Rattle.rp_base.specs.declared.ids.CmdId.{CmdId}
 use Rattle.rp_request.specs.Applied.{AppliedState}
@@ -16,13 +15,13 @@ use Rattle.rp_raftsafe.specs.Proposed.{payloads_of}
 use Rattle.rp_rangesafe.specs.Attempts.{IsBornAt}
 use Rattle.rp_rangesafe.specs.World as machine
 use Rattle.rp_rangesafe.specs.World.{Event, Commit, AllLawful, MayCommit}
-use Rattle.rp_rangesafe.specs.Places.{IsReached, IsLater}
+use Rattle.rp_rangesafe.specs.Places.{IsReached}
 use Rattle.rp_rangesafe.proofs.Runs.{lawful_further, run_further}
 use Rattle.rp_events.specs.declared.answers.Ended.{Ended}
 use Rattle.rp_events.specs.Nodes.{Node, Status, seat}
 use Rattle.rp_events.specs.Worlds.{World, node_of, outcome_at}
 use Rattle.rp_seats.specs.Views.{view, read, range_at}
-use Rattle.rp_seats.specs.Standing.{pending_in, IsToldAs, TellsOf, PendingOk, SeatOk, RaftOk, RangeOk}
+use Rattle.rp_seats.specs.Standing.{pending_in, IsToldAs, TellsOf, SeatOk, RaftOk, RangeOk}
 use Rattle.rp_seats.specs.Steps.{AllHappenAt, AdmitsNone, AreElsewhere, told_after, RaftTurned}
 use Rattle.rp_seats.specs.Turned.{SeatTurned, TurnBehind, TurnOk, IsNodeChange}
 use Rattle.rp_seats.proofs.Moves.{quiet_further}

@@ -1,5 +1,5 @@
 -- A snapshot, a removal and a restart end proposals as the machine's stage maps end their attempts.
-use Rattle.std.proofs.Common.{◌≡◌, ℕ, Bool, true, false, cond, leb, not, ◌⊎◌, inl, inr, ⊎_elim, List, [], ◌∷◌, ◌++◌, map, Option, None, Some, refl, sym, ap, subst, ◌∙◌}
+use Rattle.std.proofs.Common.{◌≡◌, ℕ, Bool, true, false, cond, leb, not, ◌⊎◌, inl, inr, ⊎_elim, List, [], ◌∷◌, map, Option, None, Some, refl, sym, ap, subst, ◌∙◌}
 use Rattle.std.specs.Prelude.{filter_map, is_none, ◌&&◌, ◌||◌}
 use Rattle.std.specs.List.{filter, list_any, cons_option, AllByRecursion}
 use Rattle.std.specs.Option.{option_map}
@@ -17,13 +17,12 @@ use Rattle.rp_pending.specs.declared.proposals.Proposal.{Proposal}
 use Rattle.rp_pending.specs.declared.proposals.Stage as places
 use Rattle.rp_pending.specs.declared.proposals.Stage.TheVariants as stages
 use Rattle.rp_pending.specs.Proposals.{has_id, proposal_of, is_proposed}
-use Rattle.rp_pending.specs.Refreshes.{goes_back}
-use Rattle.rp_rangesafe.specs.Attempts.{Stage, Unborn, Waiting, Proposed, Success, Refused, Overtaken, Removed, Restarted, Attempt, Attempts, IsBorn, IsBornAt, IsAmong, staged, at_node}
+use Rattle.rp_rangesafe.specs.Attempts.{Stage, Unborn, Waiting, Proposed, Success, Refused, Overtaken, Removed, Restarted, Attempt, Attempts, IsBorn, staged, at_node}
 use Rattle.rp_rangesafe.specs.World.{overtaken, removed, restarted}
 use Rattle.rp_rangesafe.proofs.Tables.{at_nodes}
 use Rattle.rp_events.specs.declared.answers.Ended.{Ended}
-use Rattle.rp_events.specs.Ends.{end_of, is_held_by_one, held_by_others, overtaken_by, removed_with, lost_under}
-use Rattle.rp_seats.specs.Standing.{hold_of, HasPlace, TellsPending, IsToldAs, TellsOf, HasNone, AreDistinct, PendingOk}
+use Rattle.rp_events.specs.Ends.{end_of, held_by_others, overtaken_by, removed_with, lost_under}
+use Rattle.rp_seats.specs.Standing.{hold_of, HasPlace, IsToldAs, TellsOf, HasNone, AreDistinct, PendingOk}
 use Rattle.rp_seats.specs.Steps.{tell, told_after, EndsSo, EndsAs}
 
 module _ (ends : Proposal → Option Outcome) where

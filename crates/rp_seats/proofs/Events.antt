@@ -1,6 +1,5 @@
 -- Each event of one replica that is no admission and no message is a turn of its range.
-use Rattle.std.proofs.Common.{◌≡◌, ℕ, ◌+◌, ◌<◌, Bool, true, false, cond, eqb, Option, None, Some, List, [], ◌∷◌, ◌++◌, length, refl, sym, ap, subst, ◌∙◌}
-use Rattle.std.specs.Prelude.{IsTrue}
+use Rattle.std.proofs.Common.{◌≡◌, ℕ, ◌+◌, Option, None, Some, List, [], length, refl, ap, subst}
 use Rattle.std.specs.List.{AllByRecursion}
 use Rattle.std.proofs.lemmas.Bool.{cond_both}
 use Rattle.rp_base.specs.declared.ids.CmdId.{CmdId}
@@ -14,22 +13,18 @@ use Rattle.rp_raftsafe.specs.World as raft
 use Rattle.rp_raftsafe.specs.Safety.{OneList}
 use Rattle.rp_rangesafe.specs.World as machine
 use Rattle.rp_rangesafe.specs.World.{here}
-use Rattle.rp_rangesafe.specs.Places.{IsReached}
 use Rattle.rp_events.specs.declared.answers.EventAnswer.TheVariants as answers
-use Rattle.rp_events.specs.declared.node_events.Event.{Event}
 use Rattle.rp_events.specs.declared.node_events.Event.TheVariants as events
-use Rattle.rp_events.specs.declared.replica_events.ReplicaEvent.{ReplicaEvent}
-use Rattle.rp_events.specs.declared.replica_events.ReplicaEvent.TheVariants.{Admit, Ask, Transfer, Collect, Flush, Tick, Deliver, Apply, Cut, Remove, Peek, Restart}
+use Rattle.rp_events.specs.declared.replica_events.ReplicaEvent.TheVariants.{Ask, Transfer, Collect, Flush, Apply, Cut, Remove, Peek}
 use Rattle.rp_events.specs.Replicas.{Replica, Done, leaves, lease_of, holds_lease}
 use Rattle.rp_events.specs.LeaseAsks.{is_held, answers_ask, ask_for, expiry_of, lease_ticks}
 use Rattle.rp_events.specs.Flushes.{assigning}
 use Rattle.rp_events.specs.Applications.{payload_of, next_entry, applied_where}
 use Rattle.rp_events.specs.ReplicaEvents.{event}
-use Rattle.rp_events.specs.Nodes.{Node, Live, seat}
-use Rattle.rp_events.specs.NodeEvents.{by_status, status_after}
+use Rattle.rp_events.specs.Nodes.{Node, Live}
+use Rattle.rp_events.specs.NodeEvents.{by_status}
 use Rattle.rp_events.specs.Worlds as worlds
 use Rattle.rp_events.specs.Worlds.{World, Scene, node_of, happens, outcome_at}
-use Rattle.rp_events.specs.Lawful.{is_lawful}
 use Rattle.rp_seats.specs.Views.{range_at}
 use Rattle.rp_seats.specs.Scenes.{seat_doings}
 use Rattle.rp_seats.specs.Standing.{SeatOk}

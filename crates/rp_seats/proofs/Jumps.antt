@@ -1,15 +1,14 @@
 -- A snapshot that a message brings is of an index and a state that the machine has.
-use Rattle.std.proofs.Common.{◌≡◌, ℕ, zero, suc, ◌+◌, ◌-◌, ◌<◌, ◌≤◌, Option, None, Some, List, [], ◌∷◌, ◌++◌, map, take, length, refl, sym, ap, subst, ◌∙◌, arith, length-append}
+use Rattle.std.proofs.Common.{◌≡◌, ℕ, zero, suc, ◌-◌, ◌≤◌, Some, List, ◌∷◌, ◌++◌, take, length, sym, ap, ◌∙◌, arith, length-append}
 use Rattle.std.specs.Prelude.{slice_get}
 use Rattle.std.specs.List.{fold}
 use Rattle.std.proofs.lemmas.List.{take-map, take-append-le, length-map}
 use Rattle.rp_raftlog.specs.declared.entries.Entry.{Entry}
-use Rattle.rp_raftlog.specs.LogState.{last_index}
 use Rattle.rp_raftstep.specs.declared.messages.Message.{Message}
 use Rattle.rp_raftstep.specs.declared.messages.Message.TheVariants.{Snap}
 use Rattle.rp_request.specs.Applied.{AppliedState, after_all}
 use Rattle.rp_raftsafe.specs.World as raft
-use Rattle.rp_raftsafe.specs.Safety.{OneListOf, IsShown, IsLive, HasSent}
+use Rattle.rp_raftsafe.specs.Safety.{OneListOf, IsShown, HasSent}
 use Rattle.rp_raftsafe.specs.Snapshots.{HadApplied}
 use Rattle.rp_raftsafe.proofs.Snapped.{snaps_were_applied_holds}
 use Rattle.rp_rangesafe.specs.World as machine

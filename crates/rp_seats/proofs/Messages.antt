@@ -1,15 +1,11 @@
 -- A message at a seat with a live replica is a turn of its range: a snapshot that it brings comes first.
-use Rattle.std.proofs.Common.{◌≡◌, ℕ, suc, ◌+◌, ◌<◌, ◌≤◌, Bool, true, false, cond, leb, Option, None, Some, List, [], ◌∷◌, ◌++◌, length, refl, sym, ap, subst, ◌∙◌, arith}
-use Rattle.std.specs.Prelude.{IsTrue, ◌&&◌}
+use Rattle.std.proofs.Common.{◌≡◌, ℕ, ◌+◌, ◌≤◌, true, Option, None, Some, List, [], ◌∷◌, length, refl, sym, ap, subst, ◌∙◌, arith}
 use Rattle.std.specs.Option.{option_map}
 use Rattle.std.proofs.lemmas.Bool.{cond_both}
 use Rattle.rp_base.specs.declared.ids.CmdId.{CmdId}
-use Rattle.rp_base.specs.declared.items.Item.{Item}
 use Rattle.rp_raftstep.specs.declared.messages.Message.{Message}
-use Rattle.rp_raftstep.specs.declared.messages.Message.TheVariants.{Snap}
 use Rattle.rp_raftstep.specs.Step.{Draft, received}
 use Rattle.rp_request.specs.Applied.{AppliedState}
-use Rattle.rp_request.specs.History.{reset_to}
 use Rattle.rp_request.specs.declared.outcomes.Ambiguity.TheVariants as causes
 use Rattle.rp_request.specs.declared.outcomes.Outcome.{Outcome}
 use Rattle.rp_request.specs.declared.outcomes.Outcome.TheVariants as outcomes
@@ -20,19 +16,19 @@ use Rattle.rp_raftsafe.specs.World as raft
 use Rattle.rp_raftsafe.specs.Safety.{OneList, HasSent}
 use Rattle.rp_raftsafe.specs.Snapshots.{BringsAbove}
 use Rattle.rp_raftsafe.proofs.Snapped.{takes_above_holds}
-use Rattle.rp_rangesafe.specs.Attempts.{Attempts, at_node}
+use Rattle.rp_rangesafe.specs.Attempts.{at_node}
 use Rattle.rp_rangesafe.specs.World as machine
 use Rattle.rp_rangesafe.specs.World.{here, state_at, overtaken}
 use Rattle.rp_rangesafe.proofs.Tables.{node_same}
 use Rattle.rp_events.specs.declared.parcels.Parcel.{Parcel}
 use Rattle.rp_events.specs.declared.node_events.Event.TheVariants as events
 use Rattle.rp_events.specs.declared.replica_events.ReplicaEvent.TheVariants.{Deliver}
-use Rattle.rp_events.specs.Replicas.{Replica, Done, Told, untold, has_new_leader}
+use Rattle.rp_events.specs.Replicas.{Replica, Told, untold, has_new_leader}
 use Rattle.rp_events.specs.Moves.{hands_to_raft}
-use Rattle.rp_events.specs.Ends.{ends_all, overtaken_by}
+use Rattle.rp_events.specs.Ends.{overtaken_by}
 use Rattle.rp_events.specs.Refreshes.{with_taken, delivered_by, refreshing, refreshed_by, refresh_moves}
 use Rattle.rp_events.specs.ReplicaEvents.{event}
-use Rattle.rp_events.specs.Nodes.{Node, Live, seat, parcel_of}
+use Rattle.rp_events.specs.Nodes.{Node, Live, parcel_of}
 use Rattle.rp_events.specs.NodeEvents as node_events
 use Rattle.rp_events.specs.Lists.{base_of}
 use Rattle.rp_events.specs.Worlds as worlds

@@ -1,13 +1,12 @@
 -- Any list of moves is a list of lawful steps of the range machine; and the payloads that are made of
 -- what is proposed behind them may be committed.
-use Rattle.std.proofs.Common.{◌≡◌, ℕ, ◌<◌, ◌≤◌, Bool, true, false, cond, leb, ◌⊎◌, inl, inr, ⊎_elim, List, [], ◌∷◌, ◌++◌, map, Option, None, Some, refl, sym, ap, subst, ◌∙◌, arith, leb-true}
+use Rattle.std.proofs.Common.{◌≡◌, ℕ, ◌<◌, ◌≤◌, Bool, true, false, cond, leb, inl, ⊎_elim, List, [], ◌∷◌, ◌++◌, map, Option, None, Some, refl, sym, ap, subst, ◌∙◌, arith, leb-true}
 use Rattle.std.specs.Prelude.{◌&&◌, filter_map, option_and_then}
 use Rattle.std.specs.List.{filter, cons_option, AllByRecursion}
 use Rattle.std.specs.Option.{option_map, option_map_or}
 use Rattle.std.proofs.lemmas.Bool.{cond_both}
 use Rattle.rp_base.specs.declared.ids.CmdId.{CmdId}
 use Rattle.rp_base.specs.declared.leases.LeaseAsk.{LeaseAsk}
-use Rattle.rp_base.specs.Ids.{same_id}
 use Rattle.rp_base.proofs.IdLaws.{same_is, same_itself, apart_not_same, id_cases}
 use Rattle.rp_codec.specs.Spelling.{spelling}
 use Rattle.rp_codec.proofs.SpellingLaws.{read_as_spelled}
@@ -24,16 +23,16 @@ use Rattle.rp_pending.specs.declared.proposals.Stage as places
 use Rattle.rp_pending.specs.declared.proposals.Stage.TheVariants as stages
 use Rattle.rp_pending.specs.Proposals.{has_id, proposal_of, with_changed, without, proposed, waiting_again, is_proposed}
 use Rattle.rp_pending.specs.Refreshes.{goes_back}
-use Rattle.rp_rangesafe.specs.Attempts.{Stage, Waiting, Proposed, Refused, Attempt, Attempts, IsAmong, IsOf, staged, handed_out, with_attempt}
+use Rattle.rp_rangesafe.specs.Attempts.{Waiting, Proposed, Refused, Attempt, Attempts, IsAmong, IsOf, staged, handed_out, with_attempt}
 use Rattle.rp_rangesafe.specs.World as machine
 use Rattle.rp_rangesafe.specs.World.{Event, AllLawful, MayCommit, here}
 use Rattle.rp_rangesafe.proofs.Tables.{at_attempt}
 use Rattle.rp_rangesafe.proofs.Runs.{lawful_further, run_further}
 use Rattle.rp_events.specs.declared.answers.Ended.{Ended}
-use Rattle.rp_events.specs.Replicas.{Replica, Told, lease_of}
+use Rattle.rp_events.specs.Replicas.{Told, lease_of}
 use Rattle.rp_events.specs.Moves.{Move, HandsOut, GivesUp, TakesBack, Repeats, hands_out, gives_up, takes_back, repeats, moved, moved_all, then_told, then_is, ended, proposed_under, waits_again, command_of, write_of, payloads_of}
 use Rattle.rp_seats.specs.Views.{read, payload_or}
-use Rattle.rp_seats.specs.Standing.{body_of, HasPlace, TellsPending, TellsOf, PendingOk}
+use Rattle.rp_seats.specs.Standing.{HasPlace, TellsPending, TellsOf, PendingOk}
 use Rattle.rp_seats.specs.Steps.{AllHappenAt, AdmitsNone, StepsTo, tell, told_after, IsEnd, EndEach, GivesAbove, IsSteps}
 use Rattle.rp_seats.proofs.Turns.{move_kept}
 use Rattle.rp_seats.proofs.Proposals.{none_without, other_without, distinct_left, held_left, distinct_turned, held_turned, same_turned, other_turned}

@@ -1,9 +1,8 @@
 -- An event of a node, as one range sees it.
-use Rattle.std.proofs.Common.{◌≡◌, ℕ, zero, suc, ◌+◌, ◌^◌, ◌<◌, ◌≤◌, Bool, true, false, cond, eqb, Option, None, Some, Result, Ok, Err, List, [], ◌∷◌, ◌++◌, length, get_or, refl, sym, ap, subst, ◌∙◌, arith, ⊎_elim, append-nil, eqb-true, eq-eqb, get_or-set_same, get_or-set_other}
-use Rattle.std.proofs.lemmas.Bool.{cond_both, eqb-false, ne_eqb, cases_lt, cases_eq}
+use Rattle.std.proofs.Common.{◌≡◌, ℕ, zero, suc, ◌+◌, ◌^◌, ◌<◌, ◌≤◌, cond, eqb, Option, None, Some, Result, Ok, Err, List, [], ◌∷◌, ◌++◌, length, refl, sym, ap, subst, ◌∙◌, arith, ⊎_elim, append-nil, eqb-true, eq-eqb, get_or-set_same, get_or-set_other}
+use Rattle.std.proofs.lemmas.Bool.{cond_both, eqb-false, ne_eqb, cases_lt}
 use Rattle.std.proofs.lemmas.List.{length-set, get_or_past}
 use Rattle.rp_base.specs.declared.items.Item.{Item}
-use Rattle.rp_base.specs.declared.ids.CmdId.{CmdId}
 use Rattle.rp_base.specs.declared.ranges.Desc.{Desc}
 use Rattle.rp_base.specs.declared.ranges.SplitFault.{SplitFault}
 use Rattle.rp_base.specs.Splits.{split_of}
@@ -13,7 +12,6 @@ use Rattle.rp_raftstep.specs.declared.messages.Message.TheVariants.{Vote, VoteRe
 use Rattle.rp_raftstep.specs.Step.{absent_answer}
 use Rattle.rp_request.specs.Applied.{AppliedState, command_verdict}
 use Rattle.rp_request.specs.States.{right_of, right_by, right_by_request, right_with}
-use Rattle.rp_request.specs.declared.commands.Command.{Command}
 use Rattle.rp_request.specs.declared.commands.Payload.{Payload}
 use Rattle.rp_request.specs.declared.commands.Payload.TheVariants as payloads
 use Rattle.rp_request.specs.declared.requests.Request.{Request}
@@ -28,14 +26,14 @@ use Rattle.rp_events.specs.declared.node_events.Event.{Event}
 use Rattle.rp_events.specs.declared.node_events.Event.TheVariants as events
 use Rattle.rp_events.specs.declared.replica_events.ReplicaEvent.{ReplicaEvent}
 use Rattle.rp_events.specs.declared.replica_events.ReplicaEvent.TheVariants.{Admit, Ask, Transfer, Collect, Flush, Tick, Deliver, Apply, Cut, Remove, Peek, Restart}
-use Rattle.rp_events.specs.Replicas.{Replica, Done, has_new_leader, started, made_by_snap}
+use Rattle.rp_events.specs.Replicas.{Replica, Done, started, made_by_snap}
 use Rattle.rp_events.specs.Admissions.{guarded, admitted_by}
 use Rattle.rp_events.specs.Applications.{payload_of, next_entry, applied_where}
 use Rattle.rp_events.specs.ReplicaEvents.{event}
 use Rattle.rp_events.specs.Nodes.{Node, Status, Absent, Live, Removed, seat, with_seat, parcels, opened, opened_by, after_turn, range_numbers, right_base, right_base_term}
-use Rattle.rp_events.specs.NodeEvents.{status_after, after_replica, live_turn, all_turns, delivered, answered_absent, seat_by_message, by_status, acted, step, with_request}
-use Rattle.rp_seats.specs.Views.{core, core_of, sent_of, site_of, range_at}
-use Rattle.rp_seats.specs.Scenes.{Doing, Acts, Gets, Starts, turn_of, site_after, doings_of, starting, seen_by, seat_doings, all_doings, message_doings, node_doings, IsTurn}
+use Rattle.rp_events.specs.NodeEvents.{status_after, after_replica, live_turn, all_turns, delivered, answered_absent, seat_by_message, by_status, step, with_request}
+use Rattle.rp_seats.specs.Views.{core_of, sent_of, site_of, range_at}
+use Rattle.rp_seats.specs.Scenes.{Doing, Gets, Starts, turn_of, site_after, doings_of, starting, seen_by, seat_doings, all_doings, message_doings, node_doings}
 use Rattle.rp_seats.specs.Standing.{IsShaped}
 use Rattle.rp_seats.proofs.Turns.{same_site, replica_turn}
 

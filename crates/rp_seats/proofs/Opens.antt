@@ -1,6 +1,6 @@
 -- A range that is shut stands beside the machine as it begins in any state; and so does range 0 of the
 -- first world.
-use Rattle.std.proofs.Common.{◌≡◌, ℕ, zero, suc, ◌+◌, ◌<◌, ◌≤◌, true, Option, None, Some, List, [], ◌∷◌, ◌++◌, map, length, get_or, replicate, refl, sym, ap, subst, ◌∙◌, arith}
+use Rattle.std.proofs.Common.{◌≡◌, ℕ, zero, suc, ◌+◌, ◌<◌, ◌≤◌, Option, None, Some, List, [], ◌∷◌, map, length, get_or, replicate, refl, sym, ap, subst, ◌∙◌, arith}
 use Rattle.std.specs.Prelude.{slice_get, Contains}
 use Rattle.std.specs.Option.{option_map}
 use Rattle.std.proofs.lemmas.Option.{slice_get-map}
@@ -12,16 +12,15 @@ use Rattle.rp_request.specs.declared.commands.Payload.{Payload}
 use Rattle.rp_request.specs.declared.outcomes.Outcome.{Outcome}
 use Rattle.rp_raftsafe.specs.World as raft
 use Rattle.rp_raftsafe.specs.World.{IsRange}
-use Rattle.rp_raftsafe.specs.Safety.{OneList, OneListOf}
+use Rattle.rp_raftsafe.specs.Safety.{OneList}
 use Rattle.rp_raftsafe.specs.Proposed.{payloads_of}
-use Rattle.rp_rangesafe.specs.World as machine
 use Rattle.rp_rangesafe.specs.World.{begin, Commit}
 use Rattle.rp_rangesafe.specs.Places.{IsReached}
 use Rattle.rp_rangesafe.proofs.Runs.{later_itself}
 use Rattle.rp_events.specs.Nodes as nodes
 use Rattle.rp_events.specs.Nodes.{Node, Status, Absent, Live, seat, first_node}
 use Rattle.rp_events.specs.Worlds.{World, first_world, node_of, outcome_at}
-use Rattle.rp_seats.specs.Views.{core_of, site_of, view, range_at}
+use Rattle.rp_seats.specs.Views.{core_of, view, range_at}
 use Rattle.rp_seats.specs.Standing.{SeatOk, RaftOk, RangeOk, IsShut, IsShaped, AreShaped}
 use Rattle.rp_seats.specs.Steps.{RaftTurned}
 use Rattle.rp_seats.specs.Turned.{begins_at_all, FirstOk}

@@ -1,13 +1,12 @@
 -- What the events of one node leave of another.
-use Rattle.std.proofs.Common.{◌≡◌, ℕ, ◌+◌, true, false, ◌⊎◌, inl, inr, ⊎_elim, Option, None, Some, List, [], ◌∷◌, ◌++◌, refl, sym, ap, subst, ◌∙◌}
+use Rattle.std.proofs.Common.{◌≡◌, ℕ, ◌+◌, ◌⊎◌, inl, inr, Option, None, Some, List, [], ◌∷◌, ◌++◌, sym, ap, subst, ◌∙◌}
 use Rattle.rp_base.specs.declared.ids.CmdId.{CmdId}
-use Rattle.rp_latch.specs.declared.holds.Hold.{Hold}
 use Rattle.rp_request.specs.declared.outcomes.Outcome.{Outcome}
 use Rattle.rp_pending.specs.declared.proposals.Proposal.{Proposal}
 use Rattle.rp_pending.specs.declared.proposals.Stage as places
 use Rattle.rp_pending.specs.declared.proposals.Stage.TheVariants as stages
 use Rattle.rp_pending.specs.Proposals.{proposal_of}
-use Rattle.rp_rangesafe.specs.Attempts.{Stage, Waiting, Proposed, Attempt, IsBorn, IsBornAt}
+use Rattle.rp_rangesafe.specs.Attempts.{Attempt, IsBorn, IsBornAt}
 use Rattle.rp_rangesafe.specs.World as machine
 use Rattle.rp_rangesafe.specs.World.{Event, Lawful, AllLawful}
 use Rattle.rp_rangesafe.specs.Places.{HappensAt}
@@ -15,7 +14,7 @@ use Rattle.rp_rangesafe.proofs.Admissions.{index_elsewhere, alive_elsewhere, bar
 use Rattle.rp_events.specs.Nodes as nodes
 use Rattle.rp_events.specs.Nodes.{Absent, Live}
 use Rattle.rp_events.specs.Lists.{base_of}
-use Rattle.rp_seats.specs.Standing.{pending_in, latches_in, StandsAs, HasPlace, TellsPending, IsToldAs, TellsOf, PendingOk, SeatOk}
+use Rattle.rp_seats.specs.Standing.{pending_in, StandsAs, HasPlace, TellsPending, IsToldAs, TellsOf, SeatOk}
 use Rattle.rp_seats.specs.Steps.{AllHappenAt, AreElsewhere}
 
 -- a pending attempt was made

@@ -1,11 +1,10 @@
 -- What a list of proposals answers once one of them changed or ended.
-use Rattle.std.proofs.Common.{◌≡◌, Bool, true, false, cond, not, List, [], ◌∷◌, map, Option, None, Some, refl, sym, ap, subst, ◌∙◌}
+use Rattle.std.proofs.Common.{◌≡◌, Bool, true, false, cond, not, List, [], ◌∷◌, map, None, Some, refl, sym, ap, subst, ◌∙◌}
 use Rattle.std.specs.List.{filter}
 use Rattle.std.specs.Option.{option_map}
-use Rattle.std.proofs.lemmas.Bool.{cond_both}
 use Rattle.rp_base.specs.declared.ids.CmdId.{CmdId}
 use Rattle.rp_base.specs.Ids.{same_id}
-use Rattle.rp_base.proofs.IdLaws.{same_is, not_same_apart, same_back, equal_same, apart_not_same}
+use Rattle.rp_base.proofs.IdLaws.{same_is, same_back, apart_not_same}
 use Rattle.rp_latch.specs.Holds.{is_of_other}
 use Rattle.rp_request.specs.Covers.{spans_of}
 use Rattle.rp_pending.specs.declared.proposals.Proposal.{Proposal}

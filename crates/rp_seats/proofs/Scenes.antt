@@ -1,5 +1,5 @@
 -- A scene at a replica is a turn of its range.
-use Rattle.std.proofs.Common.{◌≡◌, ℕ, zero, suc, ◌<◌, ◌⊎◌, inl, inr, ⊎_elim, Bool, true, false, cond, eqb, Option, None, Some, List, [], ◌∷◌, ◌++◌, map, length, set, refl, sym, ap, subst, ◌∙◌, arith, append-nil}
+use Rattle.std.proofs.Common.{◌≡◌, ℕ, zero, suc, ◌<◌, ◌⊎◌, inl, inr, ⊎_elim, false, cond, eqb, Option, None, Some, List, [], ◌∷◌, ◌++◌, map, length, set, refl, sym, ap, subst, ◌∙◌, arith, append-nil}
 use Rattle.std.specs.Prelude.{Contains, flat_map, slice_get, IsTrue}
 use Rattle.std.specs.List.{find}
 use Rattle.std.specs.Option.{option_map, option_map_or}
@@ -10,11 +10,9 @@ use Rattle.rp_base.specs.declared.ids.CmdId.{CmdId}
 use Rattle.rp_base.specs.declared.items.Item.{Item}
 use Rattle.rp_request.specs.Applied.{AppliedState}
 use Rattle.rp_request.specs.declared.commands.Payload.{Payload}
-use Rattle.rp_request.specs.declared.outcomes.Outcome.{Outcome}
-use Rattle.rp_raftstep.specs.declared.messages.Message.{Message}
 use Rattle.rp_raftsafe.specs.World as raft
 use Rattle.rp_raftsafe.specs.Safety.{OneList}
-use Rattle.rp_raftsafe.specs.Proposed.{action_payloads, event_payloads, payloads_of}
+use Rattle.rp_raftsafe.specs.Proposed.{event_payloads, payloads_of}
 use Rattle.rp_rangesafe.specs.Attempts.{IsBornAt}
 use Rattle.rp_rangesafe.specs.World as machine
 use Rattle.rp_rangesafe.specs.Places.{IsReached}
@@ -28,14 +26,13 @@ use Rattle.rp_events.specs.declared.replica_events.ReplicaEvent.TheVariants.{Adm
 use Rattle.rp_events.specs.Replicas.{Replica, Done, started}
 use Rattle.rp_events.specs.Applications.{payload_of, next_entry}
 use Rattle.rp_events.specs.ReplicaEvents.{event}
-use Rattle.rp_events.specs.Nodes.{Node, Status, Absent, Live, Removed, seat, with_seat, opened, opened_by, after_turn, right_base, right_base_term}
-use Rattle.rp_events.specs.NodeEvents.{status_after, after_replica, by_status, acted, past_of, step}
+use Rattle.rp_events.specs.Nodes.{Node, Status, Absent, Live, Removed, seat, opened, opened_by, after_turn, right_base, right_base_term}
+use Rattle.rp_events.specs.NodeEvents.{status_after, after_replica, acted, past_of, step}
 use Rattle.rp_events.specs.Worlds.{World, Scene, node_of, with_node, event_of, taken_in, after_step, happens_at, happens, is_admission_of, outcome_by, outcome_at}
 use Rattle.rp_events.specs.Lawful.{is_lawful}
-use Rattle.rp_seats.specs.Views.{view, range_at}
-use Rattle.rp_seats.specs.Scenes.{Doing, Acts, Gets, Starts, applying, doings_of, starting, seen_by, seat_doings, node_doings, as_event, scene_doings, doings_in, raft_events, StartsIn}
+use Rattle.rp_seats.specs.Scenes.{Starts, applying, doings_of, starting, seen_by, seat_doings, node_doings, as_event, scene_doings, doings_in, raft_events, StartsIn}
 use Rattle.rp_seats.specs.Standing.{AreShaped, RangeOk}
-use Rattle.rp_seats.specs.Steps.{told_after, EndEach, AreEnds, with_outcomes}
+use Rattle.rp_seats.specs.Steps.{told_after, AreEnds, with_outcomes}
 use Rattle.rp_seats.specs.Turned.{SeatTurned, IsNodeChange, TurnOk}
 use Rattle.rp_seats.proofs.Bound.{bound_turn}
 use Rattle.rp_seats.proofs.Nodes.{seat_same, seat_other, live_within}

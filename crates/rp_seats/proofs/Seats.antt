@@ -1,11 +1,10 @@
 -- The part of a seat's event before the list grows, for each event: flush and tick, application, removal
 -- and restart, and those that are nothing to the machine.
-use Rattle.std.proofs.Common.{◌≡◌, ℕ, zero, suc, ◌+◌, ◌<◌, Bool, true, false, cond, Option, None, Some, Result, Ok, Err, List, [], ◌∷◌, ◌++◌, map, length, refl, sym, ap, subst, ◌∙◌, arith}
+use Rattle.std.proofs.Common.{◌≡◌, ℕ, suc, ◌+◌, ◌<◌, false, cond, Option, None, Some, List, [], ◌∷◌, ◌++◌, map, length, refl, sym, ap, subst, ◌∙◌, arith}
 use Rattle.std.specs.Prelude.{filter_map, is_none, max, ◌&&◌, ◌==◌}
 use Rattle.std.specs.List.{filter, list_any, cons_option, AllByRecursion}
 use Rattle.std.specs.Option.{option_map, option_map_or}
 use Rattle.std.proofs.lemmas.Bool.{cond_both}
-use Rattle.rp_base.specs.Ids.{same_id}
 use Rattle.rp_base.specs.declared.ids.CmdId.{CmdId}
 use Rattle.rp_base.specs.declared.items.Item.{Item}
 use Rattle.rp_base.specs.declared.items.Item.TheVariants as items
@@ -17,8 +16,7 @@ use Rattle.rp_flush.specs.declared.assigns.Assigned.{Assigned}
 use Rattle.rp_raftstep.specs.RaftState.{RaftState}
 use Rattle.rp_raftstep.specs.Step.{tick}
 use Rattle.rp_request.specs.Applied.{AppliedState, command_verdict}
-use Rattle.rp_request.specs.Fits.{FitsAsk, FitsCommand}
-use Rattle.rp_request.specs.declared.commands.Command.{Command}
+use Rattle.rp_request.specs.Fits.{FitsAsk}
 use Rattle.rp_request.specs.declared.commands.Payload.{Payload}
 use Rattle.rp_request.specs.declared.commands.Payload.TheVariants as payloads
 use Rattle.rp_request.specs.declared.outcomes.Outcome.{Outcome}
@@ -39,20 +37,20 @@ use Rattle.rp_rangesafe.specs.World.{MayCommit, here, with_node, after_entry, re
 use Rattle.rp_rangesafe.proofs.Tables.{node_same}
 use Rattle.rp_events.specs.declared.answers.Ended.{Ended}
 use Rattle.rp_events.specs.declared.replica_events.ReplicaEvent.TheVariants.{Flush, Tick}
-use Rattle.rp_events.specs.Replicas.{Replica, Done, Told, untold, lease_of, has_new_leader}
-use Rattle.rp_events.specs.Moves.{Move, HandsOut, GivesUp, TakesBack, Repeats, moved_all, command_of, payloads_of}
+use Rattle.rp_events.specs.Replicas.{Replica, Told, untold, lease_of, has_new_leader}
+use Rattle.rp_events.specs.Moves.{Move, HandsOut, GivesUp, TakesBack, Repeats, moved_all, payloads_of}
 use Rattle.rp_events.specs.Flushes.{assigning, emptied, flush_moves}
 use Rattle.rp_events.specs.Refreshes.{refreshing, refresh_moves}
 use Rattle.rp_events.specs.LeaseAsks.{joined, joined_all, same_ask, without_first}
 use Rattle.rp_events.specs.Ends.{end_of, ends_all, removed_with, lost_under, restarts}
-use Rattle.rp_events.specs.Applications.{is_own, settled, proposer_told, applied_one}
+use Rattle.rp_events.specs.Applications.{settled, proposer_told, applied_one}
 use Rattle.rp_events.specs.ReplicaEvents.{event}
 use Rattle.rp_events.specs.Nodes as nodes
 use Rattle.rp_events.specs.Nodes.{Absent, Live}
 use Rattle.rp_events.specs.Lists.{base_of}
 use Rattle.rp_seats.specs.Views.{read}
-use Rattle.rp_seats.specs.Standing.{TellsPending, TellsOf, HasNone, AreDistinct, PendingOk, SeatOk}
-use Rattle.rp_seats.specs.Steps.{AllHappenAt, AdmitsNone, StepsTo, tell, told_after, IsEnd, EndEach, GivesAbove, IsSteps, EndsAs}
+use Rattle.rp_seats.specs.Standing.{TellsOf, HasNone, AreDistinct, PendingOk, SeatOk}
+use Rattle.rp_seats.specs.Steps.{tell, told_after, IsEnd, EndEach, GivesAbove}
 use Rattle.rp_seats.specs.Turned.{FitsPending, SeatTurned}
 use Rattle.rp_seats.proofs.Turns.{moves_keep, proposer_keeps}
 use Rattle.rp_seats.proofs.Moves.{moves_steps, bytes_may, found_tells}

@@ -1,6 +1,6 @@
 -- A node's state in the machine is its replica's, and the machine's next entry is the one that the
 -- replica applies next.
-use Rattle.std.proofs.Common.{◌≡◌, ℕ, suc, ◌+◌, ◌-◌, ◌<◌, ◌≤◌, Bool, true, false, cond, ltb, Option, None, Some, List, [], ◌∷◌, map, take, length, refl, sym, ap, subst, ◌∙◌, arith, ltb-true, ltb-false}
+use Rattle.std.proofs.Common.{◌≡◌, ℕ, ◌+◌, ◌-◌, ◌<◌, Bool, true, false, cond, ltb, Option, None, Some, List, [], ◌∷◌, map, take, refl, sym, ap, subst, ◌∙◌, arith, ltb-true, ltb-false}
 use Rattle.std.specs.Prelude.{slice_get}
 use Rattle.std.specs.List.{fold}
 use Rattle.std.specs.Option.{option_map}
@@ -9,13 +9,12 @@ use Rattle.std.proofs.lemmas.List.{take-map}
 use Rattle.std.proofs.lemmas.Option.{slice_get-map, slice_get_within, get_or_from_slice_get}
 use Rattle.rp_codec.specs.Reading.{payload_in}
 use Rattle.rp_raftlog.specs.declared.entries.Entry.{Entry}
-use Rattle.rp_raftlog.specs.LogState.{LogState, entry_at}
-use Rattle.rp_request.specs.Applied.{AppliedState, after, after_all}
+use Rattle.rp_raftlog.specs.LogState.{entry_at}
+use Rattle.rp_request.specs.Applied.{AppliedState, after_all}
 use Rattle.rp_request.specs.declared.commands.Payload.{Payload}
 use Rattle.rp_request.specs.declared.commands.Payload.TheVariants as payloads
 use Rattle.rp_raftsafe.specs.World as raft
-use Rattle.rp_raftsafe.specs.Safety.{OneListOf, IsShown, IsLive, range_log}
-use Rattle.rp_rangesafe.specs.Along.{entry}
+use Rattle.rp_raftsafe.specs.Safety.{OneListOf, IsShown, IsLive}
 use Rattle.rp_rangesafe.specs.World as machine
 use Rattle.rp_rangesafe.specs.World.{here}
 use Rattle.rp_rangesafe.specs.Places.{IsReached}
@@ -26,7 +25,7 @@ use Rattle.rp_events.specs.Applications.{payload_of, next_entry}
 use Rattle.rp_events.specs.Nodes.{Node, Live, seat}
 use Rattle.rp_events.specs.Lists.{base_of}
 use Rattle.rp_events.specs.Worlds.{World, node_of}
-use Rattle.rp_seats.specs.Views.{core, core_of, site_of, view, read, act, range_at}
+use Rattle.rp_seats.specs.Views.{core, core_of, act, range_at}
 use Rattle.rp_seats.specs.Standing.{RaftOk}
 use Rattle.rp_seats.specs.Turned.{IsNext}
 use Rattle.rp_seats.proofs.Turns.{read_is}

@@ -1,6 +1,6 @@
 -- What a scene is to a range that is shut: it may start, and nothing else happens to it.
-use Rattle.std.proofs.Common.{◌≡◌, ℕ, zero, suc, ◌+◌, ◌<◌, Bool, true, false, cond, eqb, Option, None, Some, List, [], ◌∷◌, ◌++◌, map, length, refl, sym, ap, subst, ◌∙◌, arith, eqb-true}
-use Rattle.std.specs.Prelude.{slice_get, IsTrue}
+use Rattle.std.proofs.Common.{◌≡◌, ℕ, zero, suc, ◌+◌, ◌<◌, cond, eqb, Option, None, Some, List, [], ◌∷◌, ◌++◌, map, length, refl, sym, ap, subst, ◌∙◌, eqb-true}
+use Rattle.std.specs.Prelude.{IsTrue}
 use Rattle.std.specs.Option.{option_map, option_map_or}
 use Rattle.std.proofs.lemmas.Bool.{cond_both}
 use Rattle.rp_base.specs.declared.items.Item.{Item}
@@ -20,8 +20,8 @@ use Rattle.rp_events.specs.NodeEvents.{status_after, live_turn, step}
 use Rattle.rp_events.specs.Worlds.{World, Scene, Happening, node_of, with_node, sent_by, delivery, event_of, taken_in, after_step, happens_at, happens}
 use Rattle.rp_events.specs.Worlds as worlds
 use Rattle.rp_events.specs.Lawful.{is_lawful}
-use Rattle.rp_seats.specs.Views.{core_of, site_of, sent_of, number_in, view, range_at}
-use Rattle.rp_seats.specs.Scenes.{Doing, Acts, Gets, Starts, doings_of, starting, seen_by, seat_doings, all_doings, message_doings, node_doings, scene_doings, doings_in, raft_events, StartsIn, OnlyStarts, as_event}
+use Rattle.rp_seats.specs.Views.{number_in, view, range_at}
+use Rattle.rp_seats.specs.Scenes.{Doing, Acts, Gets, Starts, doings_of, starting, seat_doings, all_doings, message_doings, node_doings, scene_doings, doings_in, StartsIn, OnlyStarts, as_event}
 use Rattle.rp_seats.specs.Standing.{IsShut, AreShaped}
 use Rattle.rp_seats.proofs.Nodes.{seat_other}
 use Rattle.rp_seats.proofs.Opens.{nowhere_bare, absent_is}

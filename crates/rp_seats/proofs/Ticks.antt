@@ -1,8 +1,8 @@
 -- A tick of a node is a turn of each of its ranges.
-use Rattle.std.proofs.Common.{◌≡◌, ℕ, zero, suc, ◌+◌, ◌<◌, ◌⊎◌, inl, inr, ⊎_elim, Bool, true, false, cond, eqb, Option, None, Some, List, [], ◌∷◌, ◌++◌, map, length, refl, sym, ap, subst, ◌∙◌, arith, append-nil, eqb-true, eq-eqb}
-use Rattle.std.specs.Prelude.{Contains, flat_map, IsTrue}
+use Rattle.std.proofs.Common.{◌≡◌, ℕ, zero, suc, ◌+◌, ◌<◌, ◌⊎◌, inl, inr, ⊎_elim, false, cond, eqb, Option, None, Some, List, [], ◌∷◌, ◌++◌, map, length, refl, sym, ap, subst, ◌∙◌, arith, append-nil, eqb-true}
+use Rattle.std.specs.Prelude.{Contains, flat_map}
 use Rattle.std.specs.Option.{option_map_or}
-use Rattle.std.proofs.lemmas.Bool.{cond_both, eqb-false, ne_eqb, cases_eq}
+use Rattle.std.proofs.lemmas.Bool.{cond_both, eqb-false, ne_eqb}
 use Rattle.std.proofs.lemmas.List.Elements.{Contains-append_cases}
 use Rattle.std.proofs.lemmas.Grind.{flat_map-append}
 use Rattle.rp_base.specs.declared.ids.CmdId.{CmdId}
@@ -23,23 +23,23 @@ use Rattle.rp_events.specs.declared.journals.PastEvent.TheVariants as past
 use Rattle.rp_events.specs.declared.node_events.Event.TheVariants as events
 use Rattle.rp_events.specs.declared.replica_events.ReplicaEvent.TheVariants.{Tick}
 use Rattle.rp_events.specs.Replicas.{Replica, Done, Told, untold, has_new_leader}
-use Rattle.rp_events.specs.Moves.{Move, TakesBack, Repeats, takes_back, repeats, moved, moved_all, then_is, waits_again, proposed_under}
-use Rattle.rp_events.specs.Refreshes.{refreshing, refresh_moves}
+use Rattle.rp_events.specs.Moves.{TakesBack, Repeats, takes_back, repeats, moved, moved_all, then_is, waits_again, proposed_under}
+use Rattle.rp_events.specs.Refreshes.{refreshing}
 use Rattle.rp_events.specs.ReplicaEvents.{event}
 use Rattle.rp_events.specs.Nodes.{Node, Status, Absent, Live, Removed, seat, range_numbers}
-use Rattle.rp_events.specs.NodeEvents.{live_turn, all_turns, step}
+use Rattle.rp_events.specs.NodeEvents.{live_turn, all_turns}
 use Rattle.rp_events.specs.Worlds as worlds
 use Rattle.rp_events.specs.Worlds.{World, Scene, node_of, outcome_at}
 use Rattle.rp_seats.specs.Views.{range_at}
-use Rattle.rp_seats.specs.Scenes.{Doing, Acts, seat_doings, all_doings, as_event, scene_doings, node_doings, doings_in}
+use Rattle.rp_seats.specs.Scenes.{Doing, Acts, seat_doings, all_doings, as_event, scene_doings}
 use Rattle.rp_seats.specs.Standing.{SeatOk}
 use Rattle.rp_seats.specs.Steps.{told_after}
-use Rattle.rp_seats.specs.Turned.{FitsPending, SeatTurned, IsSeated, MayTurn, Turns}
+use Rattle.rp_seats.specs.Turned.{FitsPending, IsSeated, MayTurn, Turns}
 use Rattle.rp_seats.proofs.Nodes.{seat_same, seat_other, live_within}
 use Rattle.rp_seats.proofs.Outcomes.{journal_told}
 use Rattle.rp_seats.proofs.Seats.{tick_turn}
 use Rattle.rp_seats.proofs.Shown.{state_is}
-use Rattle.rp_seats.proofs.Scenes.{same_outcome, no_bytes, handed_seen, scene_turn}
+use Rattle.rp_seats.proofs.Scenes.{same_outcome, handed_seen, scene_turn}
 
 -- a refresh ends nothing
 back_ends : (ticks round : ℕ) (t : Told) (id : CmdId) → (moved ticks round t (TakesBack id)).ended ≡ t.ended

@@ -1,13 +1,12 @@
 -- What the proposer makes of an application is what the machine makes of its attempt.
-use Rattle.std.proofs.Common.{◌≡◌, ℕ, Bool, true, false, cond, eqb, ◌⊎◌, inl, inr, ⊎_elim, List, Option, None, Some, refl, sym, ap, subst, ◌∙◌, eqb-true, eq-eqb}
+use Rattle.std.proofs.Common.{◌≡◌, ℕ, Bool, true, false, cond, Option, None, Some, refl, sym, ap, subst, ◌∙◌, eqb-true, eq-eqb}
 use Rattle.std.specs.Prelude.{◌&&◌, ◌==◌}
 use Rattle.std.specs.List.{filter}
 use Rattle.std.specs.Option.{option_map_or}
-use Rattle.std.proofs.lemmas.Bool.{cond_both, eqb-false}
+use Rattle.std.proofs.lemmas.Bool.{cond_both}
 use Rattle.rp_base.specs.declared.ids.CmdId.{CmdId}
 use Rattle.rp_latch.specs.Holds.{is_of_other}
-use Rattle.rp_latch.specs.declared.holds.Hold.{Hold}
-use Rattle.rp_request.specs.Applied.{AppliedState, command_verdict}
+use Rattle.rp_request.specs.Applied.{command_verdict}
 use Rattle.rp_request.specs.declared.commands.Command.{Command}
 use Rattle.rp_request.specs.declared.commands.Payload.{Payload}
 use Rattle.rp_request.specs.declared.commands.Payload.TheVariants as payloads
@@ -19,7 +18,7 @@ use Rattle.rp_request.specs.declared.verdicts.Verdict.TheVariants as verdicts
 use Rattle.rp_pending.specs.declared.proposals.Proposal.{Proposal}
 use Rattle.rp_pending.specs.declared.proposals.Stage as places
 use Rattle.rp_pending.specs.declared.proposals.Stage.TheVariants as stages
-use Rattle.rp_pending.specs.Proposals.{proposal_of, with_changed, without, waiting_again, is_proposed}
+use Rattle.rp_pending.specs.Proposals.{proposal_of, without, waiting_again, is_proposed}
 use Rattle.rp_rangesafe.specs.Attempts.{Stage, Unborn, Waiting, Proposed, Success, Refused, Overtaken, Removed, Restarted, Attempt, Attempts, IsBorn, IsAmong, staged, with_attempt, at_node}
 use Rattle.rp_rangesafe.specs.World.{told, by_verdict, after_entry}
 use Rattle.rp_rangesafe.proofs.Tables.{at_attempt, at_nodes}

@@ -1,5 +1,5 @@
 -- An event of a replica is a turn of Raft's replica, or nothing to it.
-use Rattle.std.proofs.Common.{◌≡◌, ℕ, suc, ◌+◌, Bool, true, false, cond, ltb, Option, None, Some, Result, Ok, Err, List, [], ◌∷◌, ◌++◌, refl, sym, ap, subst, ◌∙◌, append-nil}
+use Rattle.std.proofs.Common.{◌≡◌, ℕ, ◌+◌, Bool, true, false, cond, ltb, Option, None, Some, Result, Ok, Err, List, [], ◌∷◌, ◌++◌, refl, sym, ap, ◌∙◌, append-nil}
 use Rattle.std.specs.Option.{option_map_or}
 use Rattle.std.proofs.lemmas.Bool.{cond_both}
 use Rattle.rp_base.specs.declared.ids.CmdId.{CmdId}
@@ -9,11 +9,11 @@ use Rattle.rp_codec.specs.Reading.{payload_in}
 use Rattle.rp_codec.specs.declared.faults.BadField.{BadField}
 use Rattle.rp_raftlog.specs.declared.entries.Entry.{Entry}
 use Rattle.rp_raftlog.specs.LogState.{entry_at}
-use Rattle.rp_raftstep.specs.RaftState.{RaftState, is_leader, is_candidate}
+use Rattle.rp_raftstep.specs.RaftState.{RaftState}
 use Rattle.rp_raftstep.specs.declared.messages.Message.{Message}
-use Rattle.rp_raftstep.specs.Step.{Draft, tick, tick_leading, tick_waiting, stand, patience, received, quiet, step_then}
+use Rattle.rp_raftstep.specs.Step.{Draft, tick, received, quiet}
 use Rattle.rp_request.specs.Applied.{AppliedState, after, command_verdict}
-use Rattle.rp_request.specs.History.{History, reset_to}
+use Rattle.rp_request.specs.History.{History}
 use Rattle.rp_request.specs.declared.commands.Command.{Command}
 use Rattle.rp_request.specs.declared.commands.Payload.{Payload}
 use Rattle.rp_request.specs.declared.commands.Payload.TheVariants as payloads
@@ -32,7 +32,7 @@ use Rattle.rp_raftsafe.proofs.Snapped.{step_takes_above_holds}
 use Rattle.rp_events.specs.declared.replica_events.ReplicaEvent.{ReplicaEvent}
 use Rattle.rp_events.specs.declared.replica_events.ReplicaEvent.TheVariants.{Admit, Ask, Transfer, Collect, Flush, Tick, Deliver, Apply, Cut, Remove, Peek, Restart}
 use Rattle.rp_events.specs.Replicas.{Replica, Done, Told, untold, has_new_leader, lease_of, holds_lease, leaves}
-use Rattle.rp_events.specs.Moves.{Move, HandsOut, GivesUp, TakesBack, Repeats, hands_out, gives_up, takes_back, repeats, moved, moved_all, hands_over, hands_to_raft, then_told, then_is, proposed_under, waits_again}
+use Rattle.rp_events.specs.Moves.{Move, HandsOut, GivesUp, TakesBack, Repeats, hands_out, gives_up, takes_back, repeats, moved, moved_all, hands_over, hands_to_raft, then_is, proposed_under, waits_again}
 use Rattle.rp_events.specs.Admissions.{guarded, admitted_by}
 use Rattle.rp_flush.specs.declared.assigns.Assigned.{Assigned}
 use Rattle.rp_pending.specs.declared.refreshes.Refresh.{Refresh}
@@ -40,13 +40,12 @@ use Rattle.rp_events.specs.Flushes.{assigning, emptied, flush_moves}
 use Rattle.rp_events.specs.LeaseAsks.{joined, joined_all, is_held, answers_ask, ask_for, expiry_of, lease_ticks}
 use Rattle.rp_events.specs.declared.answers.EventAnswer.TheVariants as answers
 use Rattle.rp_request.specs.declared.outcomes.Refusal.TheVariants.{NotLeaseHolder}
-use Rattle.rp_events.specs.Refreshes.{with_taken, delivered_by, refreshing, refreshed_by, refresh_moves}
-use Rattle.rp_events.specs.Applications.{is_own, settled, proposer_told, decoded, payload_of, next_entry, applied_where, recorded}
+use Rattle.rp_events.specs.Refreshes.{with_taken, refreshing, refreshed_by, refresh_moves}
+use Rattle.rp_events.specs.Applications.{is_own, settled, proposer_told, decoded, payload_of, next_entry, applied_where}
 use Rattle.rp_events.specs.ReplicaEvents.{event}
-use Rattle.rp_events.specs.NodeEvents.{status_after}
 use Rattle.rp_events.specs.Nodes.{Live}
 use Rattle.rp_seats.specs.Views.{core, core_of, read, payload_or, range_at}
-use Rattle.rp_seats.specs.Scenes.{Doing, doings_of, site_after, applying, IsTurn}
+use Rattle.rp_seats.specs.Scenes.{site_after, applying, IsTurn}
 
 -- two sites are one by their parts
 pub same_site : (s s' : raft.Status AppliedState) (l l' : List (ℕ × Message AppliedState)) → s ≡ s' → l ≡ l'

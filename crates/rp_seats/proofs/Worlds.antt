@@ -1,11 +1,11 @@
 -- A scene of the nodes, as one range sees it, is the run of its Raft events.
-use Rattle.std.proofs.Common.{◌≡◌, ℕ, zero, suc, ◌+◌, ◌<◌, ◌≤◌, Bool, true, false, cond, eqb, Option, None, Some, List, [], ◌∷◌, ◌++◌, length, map, take, get_or, set, refl, sym, ap, subst, ◌∙◌, arith, ⊎_elim, eqb-true, eq-eqb, get_or-set_same}
+use Rattle.std.proofs.Common.{◌≡◌, ℕ, zero, suc, ◌+◌, ◌<◌, Bool, true, false, cond, eqb, Option, None, Some, List, [], ◌∷◌, ◌++◌, length, map, take, set, refl, sym, ap, subst, ◌∙◌, arith, ⊎_elim, eqb-true, eq-eqb, get_or-set_same}
 use Rattle.std.specs.Prelude.{slice_get, not, ◌&&◌, ◌==◌, IsTrue}
 use Rattle.std.specs.Option.{option_map, option_map_or}
-use Rattle.std.proofs.lemmas.Bool.{cond_both, eqb-false, ne_eqb, cases_eq}
-use Rattle.std.proofs.lemmas.List.{length-set, length-map, map-set, set-get_or}
+use Rattle.std.proofs.lemmas.Bool.{cond_both, ne_eqb, cases_eq}
+use Rattle.std.proofs.lemmas.List.{length-map, map-set, set-get_or}
 use Rattle.std.proofs.lemmas.List.Sums.{sum_by-cons}
-use Rattle.std.proofs.lemmas.Option.{slice_get_within, get_or_from_slice_get, slice_get-get_or}
+use Rattle.std.proofs.lemmas.Option.{slice_get_within}
 use Rattle.rp_base.specs.declared.items.Item.{Item}
 use Rattle.rp_raftstep.specs.declared.messages.Message.{Message}
 use Rattle.rp_request.specs.Applied.{AppliedState}
@@ -23,10 +23,10 @@ use Rattle.rp_events.specs.Nodes.{Node, Status, Absent, Live, Removed, seat, par
 use Rattle.rp_events.specs.NodeEvents.{live_turn, step}
 use Rattle.rp_events.specs.Worlds as worlds
 use Rattle.rp_events.specs.Worlds.{World, Scene, Happening, node_of, with_node, sent_by, delivery, event_of, taken_in, after_step, happens_at, happens}
-use Rattle.rp_events.specs.Lawful.{is_allowed, is_lawful, is_sent_to}
+use Rattle.rp_events.specs.Lawful.{is_allowed, is_lawful}
 use Rattle.rp_seats.specs.Views.{sent_of, number_in, site_of, view, range_at}
-use Rattle.rp_seats.specs.Scenes.{Doing, Acts, Gets, Starts, turn_of, site_after, applying, doings_of, starting, seen_by, seat_doings, all_doings, message_doings, node_doings, as_event, scene_doings, doings_in, raft_events, StartsIn}
-use Rattle.rp_seats.specs.Standing.{IsShaped, AreShaped}
+use Rattle.rp_seats.specs.Scenes.{Doing, Acts, Gets, Starts, site_after, applying, doings_of, starting, seat_doings, all_doings, message_doings, node_doings, as_event, scene_doings, doings_in, raft_events, StartsIn}
+use Rattle.rp_seats.specs.Standing.{AreShaped}
 use Rattle.rp_seats.proofs.Nodes.{node_site}
 
 -- a list with a place that was changed twice

@@ -1,28 +1,26 @@
--- What a part of an event is in the range machine: steps of one node that change attempts alone.
-use Rattle.std.specs.Prelude.{◌≡◌, ◌⊎◌, ℕ, ◌<◌, if◌then◌else◌, List, [], ◌∷◌, ◌++◌, map, Option, None, Some}
+-- What a part of an event is in the range machine, and what it tells of the attempts that end.
+use Rattle.std.specs.Prelude.{◌≡◌, ℕ, ◌<◌, if◌then◌else◌, List, [], ◌∷◌, ◌++◌, map, Option, None, Some}
 use Rattle.rp_base.specs.Ids.{same_id}
 use Rattle.rp_base.specs.declared.ids.CmdId.{CmdId}
 use Rattle.rp_request.specs.declared.outcomes.Outcome.{Outcome}
 use Rattle.rp_request.specs.declared.outcomes.Outcome.TheVariants as outcomes
 use Rattle.rp_pending.specs.declared.proposals.Proposal.{Proposal}
-use Rattle.rp_pending.specs.Proposals.{proposal_of}
-use Rattle.rp_request.specs.Fits.{FitsCommand}
 use Rattle.rp_rangesafe.specs.Attempts.{Stage, Unborn, Attempt, Attempts}
-use Rattle.rp_rangesafe.specs.World.{World, Event, Admit, Commit, AllLawful, MayCommit, happens, run}
+use Rattle.rp_rangesafe.specs.World.{World, Event, Admit, Commit, AllLawful, happens, run}
 use Rattle.std.specs.List.{AllByRecursion}
 use Rattle.rp_rangesafe.specs.Places.{HappensAt}
 use Rattle.rp_request.specs.Applied.{AppliedState}
 use Rattle.rp_request.specs.declared.commands.Payload.{Payload}
 use Rattle.rp_raftsafe.specs.World as raft
-use Rattle.rp_raftsafe.specs.Safety.{OneList, OneListOf}
-use Rattle.rp_events.specs.Nodes.{Node, Status}
+use Rattle.rp_raftsafe.specs.Safety.{OneListOf}
+use Rattle.rp_events.specs.Nodes.{Node}
 use Rattle.rp_events.specs.Worlds as worlds
 use Rattle.rp_events.specs.Worlds.{node_of}
-use Rattle.rp_seats.specs.Views.{read, range_at}
+use Rattle.rp_seats.specs.Views.{range_at}
 use Rattle.rp_events.specs.declared.answers.Ended.{Ended}
-use Rattle.rp_events.specs.Moves.{Move, HandsOut, command_of}
+use Rattle.rp_events.specs.Moves.{Move, HandsOut}
 use Rattle.rp_events.specs.Replicas.{Told}
-use Rattle.rp_seats.specs.Standing.{HasPlace, IsToldAs, PendingOk, SeatOk, RaftOk, RangeOk}
+use Rattle.rp_seats.specs.Standing.{HasPlace, IsToldAs, PendingOk, RaftOk}
 
 -- each happens at this node
 abbrev pub AllHappenAt : (node : ℕ) → World → List Event → Type 0

@@ -1,5 +1,5 @@
 -- A turn of one range at a node: what a scene makes of the range at all nodes and in the machine.
-use Rattle.std.specs.Prelude.{◌≡◌, ◌⊎◌, ℕ, ◌+◌, ◌<◌, ◌≤◌, IsTrue, List, [], ◌∷◌, ◌++◌, map, length, Option, Some}
+use Rattle.std.specs.Prelude.{◌≡◌, ◌⊎◌, ℕ, ◌+◌, ◌<◌, ◌≤◌, IsTrue, List, ◌++◌, map, length, Option, Some}
 use Rattle.std.specs.List.{AllByRecursion}
 use Rattle.rp_base.specs.declared.ids.CmdId.{CmdId}
 use Rattle.rp_base.specs.declared.items.Item.{Item}
@@ -16,8 +16,7 @@ use Rattle.rp_raftsafe.specs.World as raft
 use Rattle.rp_raftsafe.specs.Safety.{OneList}
 use Rattle.rp_request.specs.Covers.{HasKeys}
 use Rattle.rp_rangesafe.specs.Along.{entry}
-use Rattle.rp_rangesafe.specs.Attempts.{Body}
-use Rattle.rp_rangesafe.specs.World.{World, Event, Admit, Commit, AllLawful, MayAdmit, MayCommit, begin, run, state_at}
+use Rattle.rp_rangesafe.specs.World.{World, Event, Commit, AllLawful, MayCommit, begin, run, state_at}
 use Rattle.rp_rangesafe.specs.Places.{IsReached}
 use Rattle.rp_events.specs.declared.answers.Ended.{Ended}
 use Rattle.rp_events.specs.Moves.{command_of}
@@ -163,10 +162,3 @@ pub record FirstOk (lists : OneList AppliedState) (nodes : ℕ) : Type 0 where
 -- the pending ones' keys lie in the key space
 abbrev pub HaveKeys : List Proposal → Type 0
 HaveKeys ps = (id : CmdId) (p : Proposal) → proposal_of id ps ≡ Some p → HasKeys p.request
-
--- an attempt that was admitted: the machine may admit it there, and the range stands behind that
-pub record AdmitOk (lists : OneList AppliedState) (nodes range : ℕ) (s : AppliedState)
-    (seen : List raft.Event) (w : worlds.World) (h : World) (node : ℕ) (id : CmdId) (body : Body)
-    : Type 0 where
-  pub may : MayAdmit h id node body
-  pub behind : TurnBehind lists nodes range s seen w h node (Admit id node body ∷ [])

@@ -1,5 +1,5 @@
 -- What one range sees of the nodes: Raft's world of the range.
-use Rattle.std.specs.Prelude.{ℕ, suc, zero, ◌==◌, if◌then◌else◌, List, [], ◌∷◌, map, take, count_by, Result, Ok, Err}
+use Rattle.std.specs.Prelude.{ℕ, ◌==◌, if◌then◌else◌, List, [], ◌∷◌, map, take, count_by, Result, Ok, Err}
 use Rattle.rp_codec.specs.Reading.{payload_in}
 use Rattle.rp_codec.specs.declared.faults.BadField.{BadField}
 use Rattle.rp_raftlog.specs.declared.entries.Entry.{Entry}
