@@ -222,11 +222,11 @@ module _ (node range : ℕ) (h : machine.World) (told : CmdId → Option Outcome
     };
   }
     where
-    other : (q : CmdId) → (q ≡ id → ⊥) → (o : Option Proposal) → proposal_of q r.pending ≡ o → TellsOf node (h.attempt q) o (told q) → TellsOf node (h.attempt q) (proposal_of q (r.pending ++ made ∷ [])) (now q)
-    other q ne o found tells =
-        subst (λ t. TellsOf node (h.attempt q) (proposal_of q (r.pending ++ made ∷ [])) t) (sym (ap (λ b. cond b (Some outcomes.Pending) (told q)) (apart_not_same q id ne)))
-        (subst (λ z. TellsOf node (h.attempt q) z (told q)) (sym (same_found o found)) tells)
-      where
-      same_found : (z : Option Proposal) → proposal_of q r.pending ≡ z → proposal_of q (r.pending ++ made ∷ []) ≡ z
-      same_found None k = found_back q r.pending (made ∷ []) k ∙ ap (λ b. cond b (Some made) None) (apart_not_same q id ne)
-      same_found (Some p) k = found_front q r.pending (made ∷ []) p k
+      other : (q : CmdId) → (q ≡ id → ⊥) → (o : Option Proposal) → proposal_of q r.pending ≡ o → TellsOf node (h.attempt q) o (told q) → TellsOf node (h.attempt q) (proposal_of q (r.pending ++ made ∷ [])) (now q)
+      other q ne o found tells =
+          subst (λ t. TellsOf node (h.attempt q) (proposal_of q (r.pending ++ made ∷ [])) t) (sym (ap (λ b. cond b (Some outcomes.Pending) (told q)) (apart_not_same q id ne)))
+          (subst (λ z. TellsOf node (h.attempt q) z (told q)) (sym (same_found o found)) tells)
+        where
+          same_found : (z : Option Proposal) → proposal_of q r.pending ≡ z → proposal_of q (r.pending ++ made ∷ []) ≡ z
+          same_found None k = found_back q r.pending (made ∷ []) k ∙ ap (λ b. cond b (Some made) None) (apart_not_same q id ne)
+          same_found (Some p) k = found_front q r.pending (made ∷ []) p k

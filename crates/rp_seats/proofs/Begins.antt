@@ -52,6 +52,6 @@ made_turn node range h told k index snapshot jump number nodes term from index_t
   may = tt;
 }
   where
-  beside : PendingOk (at_node node (overtaken snapshot.lai) h.attempt) node [] [] told
-  beside = ends_beside (overtaken_by snapshot.lai) (overtaken snapshot.lai) (snapshot_ends snapshot.lai) node h.attempt [] [] told
-      (record { tells = k.pending.tells; distinct = tt; held = refl })
+    beside : PendingOk (at_node node (overtaken snapshot.lai) h.attempt) node [] [] told
+    beside = ends_beside (overtaken_by snapshot.lai) (overtaken snapshot.lai) (snapshot_ends snapshot.lai) node h.attempt [] [] told
+        (record { tells = k.pending.tells; distinct = tt; held = refl })

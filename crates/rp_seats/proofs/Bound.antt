@@ -49,15 +49,15 @@ seat_told h node range status t u same s = record {
   };
 }
   where
-  otherwise : (id : CmdId) (o : Option Proposal) → TellsOf node (h.attempt id) o (t id) → TellsOf node (h.attempt id) o (u id)
-  otherwise id None tells = λ born. subst (IsToldAs (h.attempt id).stage) (same id born) (tells born)
-  otherwise id (Some p) tells = record {
-    made_at = tells.made_at;
-    seq = tells.seq;
-    body = tells.body;
-    place = tells.place;
-    pending = sym (same id (place_born p.stage p.max (h.attempt id) tells.place, tells.made_at)) ∙ tells.pending;
-  }
+    otherwise : (id : CmdId) (o : Option Proposal) → TellsOf node (h.attempt id) o (t id) → TellsOf node (h.attempt id) o (u id)
+    otherwise id None tells = λ born. subst (IsToldAs (h.attempt id).stage) (same id born) (tells born)
+    otherwise id (Some p) tells = record {
+      made_at = tells.made_at;
+      seq = tells.seq;
+      body = tells.body;
+      place = tells.place;
+      pending = sym (same id (place_born p.stage p.max (h.attempt id) tells.place, tells.made_at)) ∙ tells.pending;
+    }
 
 -- the node's part first, and then the commits
 module _ (lists : OneList AppliedState) (nodes range : ℕ) (s : AppliedState) (seen events : List raft.Event) (w after : World) (h : machine.World)

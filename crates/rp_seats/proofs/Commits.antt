@@ -78,21 +78,21 @@ module _ (nodes range : ℕ) (s : AppliedState) (one : OneListOf (range_at nodes
     };
   }
     where
-    grown : (rest : List Entry) × (one.committed seen ++ rest ≡ one.committed (seen ++ events))
-    grown = one.grows seen events
+      grown : (rest : List Entry) × (one.committed seen ++ rest ≡ one.committed (seen ++ events))
+      grown = one.grows seen events
 
-    rest : List Entry
-    rest = grown.0
+      rest : List Entry
+      rest = grown.0
 
-    ps : List Payload
-    ps = map pay rest
+      ps : List Payload
+      ps = map pay rest
 
-    handed_so : (bytes : List ℕ) → Contains (payloads_of (seen ++ events)) bytes → MayCommit k (read bytes)
-    handed_so bytes has = ⊎_elim
-        (λ (before : Contains (payloads_of seen) bytes). may_commit_later h reached k later (read bytes) (ok.handed bytes before))
-        (λ (now : Contains (payloads_of events) bytes). handed bytes now)
-        (Contains-append_cases (payloads_of seen) (payloads_of events) bytes (subst (λ z. Contains z bytes) (flat_map-append event_payloads seen events) has))
+      handed_so : (bytes : List ℕ) → Contains (payloads_of (seen ++ events)) bytes → MayCommit k (read bytes)
+      handed_so bytes has = ⊎_elim
+          (λ (before : Contains (payloads_of seen) bytes). may_commit_later h reached k later (read bytes) (ok.handed bytes before))
+          (λ (now : Contains (payloads_of events) bytes). handed bytes now)
+          (Contains-append_cases (payloads_of seen) (payloads_of events) bytes (subst (λ z. Contains z bytes) (flat_map-append event_payloads seen events) has))
 
-    may : (bytes : List ℕ) → WasProposed (seen ++ events) bytes → MayCommit k (read bytes)
-    may bytes (inl none) = subst (λ b. MayCommit k (read b)) (sym none) (subst (MayCommit k) (sym (ap payload_or nothing_read)) tt)
-    may bytes (inr has) = handed_so bytes has
+      may : (bytes : List ℕ) → WasProposed (seen ++ events) bytes → MayCommit k (read bytes)
+      may bytes (inl none) = subst (λ b. MayCommit k (read b)) (sym none) (subst (MayCommit k) (sym (ap payload_or nothing_read)) tt)
+      may bytes (inr has) = handed_so bytes has

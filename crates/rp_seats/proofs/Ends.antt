@@ -89,7 +89,7 @@ module _ (ends : Proposal → Option Outcome) where
     goal true (Some o) is en ih = (
       ih.found ∙ ap found_after (here is) ∙ ap (λ z. find_by z p) (sym en),
       (λ told. ih.told (tell told (e o)) ∙ ap (λ z. told_by z (tell told (e o) id)) (here is)
-      ∙ ap (λ z. cond z (Some o) (told id)) is ∙ ap (λ z. tell_by z (told id)) (sym en)),
+          ∙ ap (λ z. cond z (Some o) (told id)) is ∙ ap (λ z. tell_by z (told id)) (sym en)),
       ap (λ z. z || has_end id (over ps)) is ∙ ap (λ z. not (is_none z)) (sym en),
     )
     goal false None is en ih = (
@@ -138,10 +138,10 @@ module _ (ends : Proposal → Option Outcome) where
       ap (λ b. cond (not b) (hold_of p ∷ held_by_others es (map hold_of qs)) (held_by_others es (map hold_of qs))) h.0
       ∙ go (is_none (ends p)) (left_held es qs h.1)
     where
-    go : (b : Bool) → held_by_others es (map hold_of qs) ≡ map hold_of (left qs)
-        → cond (not (not b)) (hold_of p ∷ held_by_others es (map hold_of qs)) (held_by_others es (map hold_of qs)) ≡ map hold_of (cond b (p ∷ left qs) (left qs))
-    go true e = ap (λ hs. hold_of p ∷ hs) e
-    go false e = e
+      go : (b : Bool) → held_by_others es (map hold_of qs) ≡ map hold_of (left qs)
+          → cond (not (not b)) (hold_of p ∷ held_by_others es (map hold_of qs)) (held_by_others es (map hold_of qs)) ≡ map hold_of (cond b (p ∷ left qs) (left qs))
+      go true e = ap (λ hs. hold_of p ∷ hs) e
+      go false e = e
 
   all_ended : (whole : List Proposal) → AreDistinct whole → (qs : List Proposal) → AllFound whole qs → AllByRecursion (λ p. has_end p.id (over whole) ≡ not (is_none (ends p))) qs
   all_ended whole d [] f = tt
@@ -177,9 +177,9 @@ module _ (ends : Proposal → Option Outcome) where
         pending = h.pending;
       }
         where
-        moved : (s : places.Stage) → HasPlace s p.max a → HasPlace s p.max (turned a)
-        moved stages.Waiting place = same ∙ place
-        moved stages.Proposed place = (same ∙ place.0, place.1)
+          moved : (s : places.Stage) → HasPlace s p.max a → HasPlace s p.max (turned a)
+          moved stages.Waiting place = same ∙ place
+          moved stages.Proposed place = (same ∙ place.0, place.1)
       go (Some o) as_told = λ born. as_told
 
     other_tells : (a : Attempt) → (a.node ≡ node → ⊥) → (o : Option Proposal) (told : Option Outcome) → TellsOf node a o told → TellsOf node a (found_after o) (told_by o told)

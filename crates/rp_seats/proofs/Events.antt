@@ -65,11 +65,11 @@ module _ (lists : OneList AppliedState) (range : ℕ) (s : AppliedState) (seen :
       (ap (λ z. (by_status n range Apply [] z).node) k.live) 0 (ap (seat_doings range n range 0 Apply []) k.live) (λ id a. refl)
       (go (payload_of (next_entry r)) refl)
     where
-    go : (o : Option Payload) → payload_of (next_entry r) ≡ o → Left (applied_where r o)
-    go None is = quiet_turn node range h told (Live r) stands
-    go (Some p) is =
-        let there = next p is in
-        apply_turn node range h told r stands state p there.within there.entry_is
+      go : (o : Option Payload) → payload_of (next_entry r) ≡ o → Left (applied_where r o)
+      go None is = quiet_turn node range h told (Live r) stands
+      go (Some p) is =
+          let there = next p is in
+          apply_turn node range h told r stands state p there.within there.entry_is
 
   pub remove_scene : MayTurn range s w (at (worlds.Remove range)) → Turns lists range s seen w h (at (worlds.Remove range))
   remove_scene may =

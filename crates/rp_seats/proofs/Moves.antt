@@ -125,8 +125,8 @@ module _ (f : Attempts) (node : ℕ) (ps : List Proposal) (latches : List Hold) 
     held = ap (filter (is_of_other id)) ok.held ∙ held_left id ps;
   }
     where
-    e : Ended
-    e = record { id = id; outcome = outcome }
+      e : Ended
+      e = record { id = id; outcome = outcome }
 
 both_true : (b c : Bool) → b && c ≡ true → (b ≡ true) × (c ≡ true)
 both_true true c e = (refl, e)
@@ -196,11 +196,14 @@ module _ (node : ℕ) (h : machine.World) (told : CmdId → Option Outcome) (tic
         attempts = with_attempt h.attempt id (staged (h.attempt id) Waiting);
         steps = record {
           events = machine.Return id ∷ [];
-          lawful = (record {
-            own = p.max;
-            stage = (proposed_place p.stage p.max (h.attempt id) both.0 tp.place).0;
-            passed = subst (λ n. p.max ≤ (here h n).lai) (sym tp.made_at) below;
-          }, tt);
+          lawful = (
+            record {
+              own = p.max;
+              stage = (proposed_place p.stage p.max (h.attempt id) both.0 tp.place).0;
+              passed = subst (λ n. p.max ≤ (here h n).lai) (sym tp.made_at) below;
+            },
+            tt,
+          );
           own = (sym tp.made_at, tt);
           quiet = tt;
           leads = refl;

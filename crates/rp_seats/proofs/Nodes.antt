@@ -73,8 +73,8 @@ live_within n range r live =
     (λ (past : length n.seats ≤ range). absurd (absent_live (sym (get_or_past n.seats range Absent past) ∙ live)))
     (cases_lt range (length n.seats))
   where
-  absent_live : ◌≡◌ {A = Status} Absent (Live r) → ⊥
-  absent_live e = cc
+    absent_live : ◌≡◌ {A = Status} Absent (Live r) → ⊥
+    absent_live e = cc
 
 -- the node's part after an event of one of its seats: of the range's own, or of another one
 own_site : (n : Node) (range : ℕ) (status : Status) (d : Done) → range < length n.seats
@@ -98,8 +98,8 @@ right_positive s t (payloads.Write c) e = by_verdict (command_verdict s c) e whe
       let number : t.desc.id ≡ parts.0.id + 2 ^ s.desc.level = ap (λ (d : Desc). d.id) (sym same) ∙ right_id s.desc key parts.0 parts.1 is in
       omega (arith, number, s.desc.id_of_level)
     where
-    desc_of : right_with s key (Ok parts) ≡ Some t → parts.1 ≡ t.desc
-    desc_of e = ap (λ (z : AppliedState). z.desc) (some_same _ t e)
+      desc_of : right_with s key (Ok parts) ≡ Some t → parts.1 ≡ t.desc
+      desc_of e = ap (λ (z : AppliedState). z.desc) (some_same _ t e)
   by_split key (Err why) is e = absurd cc
 
   by_request : (r : Request) → right_by_request s r ≡ Some t → 0 < t.desc.id
@@ -185,8 +185,8 @@ module _ (nodes range : ℕ) (start : AppliedState) (node : ℕ) (below : range 
         (ap (λ i. core_of (seat (with_seat n i (Live (started n.node n.nodes t.lease.holder right_base right_base_term t))) (suc k))) own' ∙ ap core_of (seat_same n (suc k) (Live (started n.node n.nodes t.lease.holder right_base right_base_term t)) in_seats) ∙ numbered)
         (sym (append-nil (sent_of (suc k) n.sent)))
       where
-      numbered : core_of (Live (started n.node n.nodes t.lease.holder right_base right_base_term t)) ≡ core_of (Live (started node nodes t.lease.holder right_base right_base_term t))
-      numbered = ap (λ i. core_of (Live (started i n.nodes t.lease.holder right_base right_base_term t))) s.number ∙ ap (λ i. core_of (Live (started node i t.lease.holder right_base right_base_term t))) s.of
+        numbered : core_of (Live (started n.node n.nodes t.lease.holder right_base right_base_term t)) ≡ core_of (Live (started node nodes t.lease.holder right_base right_base_term t))
+        numbered = ap (λ i. core_of (Live (started i n.nodes t.lease.holder right_base right_base_term t))) s.number ∙ ap (λ i. core_of (Live (started node i t.lease.holder right_base right_base_term t))) s.of
   opened_there n t s own positive (Live r) e = same_site _ _ _ _ (ap core_of e) (sym (append-nil (sent_of range n.sent)))
   opened_there n t s own positive (Removed applied) e = same_site _ _ _ _ (ap core_of e) (sym (append-nil (sent_of range n.sent)))
 

@@ -167,15 +167,15 @@ first_ok lists count some few = record {
   };
 }
   where
-  is : IsRange (range_at count 0 first_applied)
-  is = record { some_nodes = some; some_holder = omega arith }
+    is : IsRange (range_at count 0 first_applied)
+    is = record { some_nodes = some; some_holder = omega arith }
 
-  begun : IsReached (begin first_applied)
-  begun = record { start = first_applied; events = []; lawful = tt; reached = refl }
+    begun : IsReached (begin first_applied)
+    begun = record { start = first_applied; events = []; lawful = tt; reached = refl }
 
-  grown : RaftTurned count 0 first_applied (lists (range_at count 0 first_applied) is) (begins_at_all count) (first_world count) (begin first_applied)
-  grown = raft_turn count 0 first_applied (lists (range_at count 0 first_applied) is) [] (begins_at_all count) (bare_world count) (first_world count) (begin first_applied) (begin first_applied)
-      (raft_begins lists count 0 first_applied is (bare_world count) (bare_view count few))
-      (first_view count few ∙ ap (raft.run (range_at count 0 first_applied) (begins_at_all count)) (sym (bare_view count few)))
-      begun (later_itself (begin first_applied)) refl
-      (λ b c. absurd (nothing_handed (nodes_to count) b c))
+    grown : RaftTurned count 0 first_applied (lists (range_at count 0 first_applied) is) (begins_at_all count) (first_world count) (begin first_applied)
+    grown = raft_turn count 0 first_applied (lists (range_at count 0 first_applied) is) [] (begins_at_all count) (bare_world count) (first_world count) (begin first_applied) (begin first_applied)
+        (raft_begins lists count 0 first_applied is (bare_world count) (bare_view count few))
+        (first_view count few ∙ ap (raft.run (range_at count 0 first_applied) (begins_at_all count)) (sym (bare_view count few)))
+        begun (later_itself (begin first_applied)) refl
+        (λ b c. absurd (nothing_handed (nodes_to count) b c))

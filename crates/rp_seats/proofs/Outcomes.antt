@@ -75,9 +75,9 @@ module _ (n : Node) (ends : AreEnds n.outcomes) (e : Ended) (pending : outcome_a
         ∙ last (same_id e.id id) ∙ ap (λ c. cond c (Some e.outcome) (Some outcomes.Pending)) (same_back e.id id)
         ∙ ap (λ z. cond (same_id id e.id) (Some e.outcome) z) (sym (ended_as None is))
       where
-      last : (c : Bool) → Some (option_map_or (λ (o : Outcome). o) (option_map (λ (x : Ended). x.outcome) (cond c (Some e) None)) outcomes.Pending) ≡ cond c (Some e.outcome) (Some outcomes.Pending)
-      last true = refl
-      last false = refl
+        last : (c : Bool) → Some (option_map_or (λ (o : Outcome). o) (option_map (λ (x : Ended). x.outcome) (cond c (Some e) None)) outcomes.Pending) ≡ cond c (Some e.outcome) (Some outcomes.Pending)
+        last true = refl
+        last false = refl
 
   by_answer : (a : EventAnswer) → (same_id id e.id ≡ true → Some (outcome_by n id a) ≡ Some outcomes.Pending) → Some (outcome_by m id a) ≡ cond (same_id id e.id) (Some e.outcome) (Some (outcome_by n id a))
   by_answer answers.Done was = by_list was
@@ -125,9 +125,9 @@ all_told_so n (e ∷ es) ends h id =
     ∙ all_told_so m es (ends_further n.outcomes e ends h.1) (each_same (tell (λ p. outcome_at p n) e) (λ q. outcome_at q m) same es h.2) id
     ∙ told_same (λ q. outcome_at q m) (tell (λ p. outcome_at p n) e) (λ q. sym (same q)) es id
   where
-  behind : (xs : List Ended) (x : Ended) (ys : List Ended) → xs ++ x ∷ ys ≡ (xs ++ x ∷ []) ++ ys
-  behind [] x ys = refl
-  behind (y ∷ xs) x ys = ap (λ zs. y ∷ zs) (behind xs x ys)
+    behind : (xs : List Ended) (x : Ended) (ys : List Ended) → xs ++ x ∷ ys ≡ (xs ++ x ∷ []) ++ ys
+    behind [] x ys = refl
+    behind (y ∷ xs) x ys = ap (λ zs. y ∷ zs) (behind xs x ys)
 
 pub all_ends : (xs es : List Ended) (t : CmdId → Option Outcome) → AreEnds xs → EndEach t es → AreEnds (xs ++ es)
 all_ends [] [] t h k = tt

@@ -46,10 +46,10 @@ held_left id [] = refl
 held_left id (p ∷ ps) =
     ap (λ b. cond (not b) (hold_of p ∷ filter (is_of_other id) (map hold_of ps)) (filter (is_of_other id) (map hold_of ps))) (same_back p.id id)
     ∙ go (has_id id p) (held_left id ps) where
-  go : (b : Bool) → filter (is_of_other id) (map hold_of ps) ≡ map hold_of (without id ps)
-      → cond (not b) (hold_of p ∷ filter (is_of_other id) (map hold_of ps)) (filter (is_of_other id) (map hold_of ps)) ≡ map hold_of (cond (not b) (p ∷ without id ps) (without id ps))
-  go true e = e
-  go false e = ap (λ hs. hold_of p ∷ hs) e
+      go : (b : Bool) → filter (is_of_other id) (map hold_of ps) ≡ map hold_of (without id ps)
+          → cond (not b) (hold_of p ∷ filter (is_of_other id) (map hold_of ps)) (filter (is_of_other id) (map hold_of ps)) ≡ map hold_of (cond (not b) (p ∷ without id ps) (without id ps))
+      go true e = e
+      go false e = ap (λ hs. hold_of p ∷ hs) e
 
 -- a change that keeps ids and requests
 module _ (g : Proposal → Proposal) (same : (p : Proposal) → (g p).id ≡ p.id) (asks : (p : Proposal) → (g p).request ≡ p.request) (id : CmdId) where

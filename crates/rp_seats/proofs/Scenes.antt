@@ -88,18 +88,18 @@ same_outcome n m journal outcomes id =
     ap (λ l. option_map (λ (x : JournalEntry). outcome_by n id x.answer) (find (is_admission_of id) l)) journal
     ∙ go (find (is_admission_of id) m.journal)
   where
-  by : (a : EventAnswer) → outcome_by n id a ≡ outcome_by m id a
-  by answers.Done = ap (λ l. outcome_by (record m { outcomes = l }) id answers.Done) outcomes
-  by answers.Nothing = ap (λ l. outcome_by (record m { outcomes = l }) id answers.Nothing) outcomes
-  by answers.Admitted = ap (λ l. outcome_by (record m { outcomes = l }) id answers.Admitted) outcomes
-  by (answers.Asked ask) = ap (λ l. outcome_by (record m { outcomes = l }) id (answers.Asked ask)) outcomes
-  by (answers.Refused why) = refl
-  by (answers.LeaseHeld lease ticks) = ap (λ l. outcome_by (record m { outcomes = l }) id (answers.LeaseHeld lease ticks)) outcomes
-  by (answers.Value value applied) = ap (λ l. outcome_by (record m { outcomes = l }) id (answers.Value value applied)) outcomes
+    by : (a : EventAnswer) → outcome_by n id a ≡ outcome_by m id a
+    by answers.Done = ap (λ l. outcome_by (record m { outcomes = l }) id answers.Done) outcomes
+    by answers.Nothing = ap (λ l. outcome_by (record m { outcomes = l }) id answers.Nothing) outcomes
+    by answers.Admitted = ap (λ l. outcome_by (record m { outcomes = l }) id answers.Admitted) outcomes
+    by (answers.Asked ask) = ap (λ l. outcome_by (record m { outcomes = l }) id (answers.Asked ask)) outcomes
+    by (answers.Refused why) = refl
+    by (answers.LeaseHeld lease ticks) = ap (λ l. outcome_by (record m { outcomes = l }) id (answers.LeaseHeld lease ticks)) outcomes
+    by (answers.Value value applied) = ap (λ l. outcome_by (record m { outcomes = l }) id (answers.Value value applied)) outcomes
 
-  go : (o : Option JournalEntry) → option_map (λ (x : JournalEntry). outcome_by n id x.answer) o ≡ option_map (λ (x : JournalEntry). outcome_by m id x.answer) o
-  go None = refl
-  go (Some x) = ap Some (by x.answer)
+    go : (o : Option JournalEntry) → option_map (λ (x : JournalEntry). outcome_by n id x.answer) o ≡ option_map (λ (x : JournalEntry). outcome_by m id x.answer) o
+    go None = refl
+    go (Some x) = ap Some (by x.answer)
 
 -- one node of a world changes
 node_change : (w : World) (node : ℕ) (n new : Node) → node_of w node ≡ Some n → IsNodeChange w (with_node w node new) node n new
@@ -113,25 +113,25 @@ node_change w (suc place) n new was = record { was = was; others = others } wher
       (λ (ne : j ≡ place → ⊥). inr ((λ z. ne (suc_is j place z)), there j m ne (set_get w place new j m e)))
       (cases_eq j place)
     where
-    suc_is : (a b : ℕ) → suc a ≡ suc b → a ≡ b
-    suc_is a b z = omega (arith, z)
+      suc_is : (a b : ℕ) → suc a ≡ suc b → a ≡ b
+      suc_is a b z = omega (arith, z)
 
-    there : (j : ℕ) (m : Node) → (j ≡ place → ⊥) → Changed place j new m ⊎ (slice_get w j ≡ Some m) → slice_get w j ≡ Some m
-    there j m ne (inl c) = absurd (ne c.here)
-    there j m ne (inr k) = k
+      there : (j : ℕ) (m : Node) → (j ≡ place → ⊥) → Changed place j new m ⊎ (slice_get w j ≡ Some m) → slice_get w j ≡ Some m
+      there j m ne (inl c) = absurd (ne c.here)
+      there j m ne (inr k) = k
 
-    here : (j : ℕ) (m : Node) → j ≡ place → Changed place j new m ⊎ (slice_get w j ≡ Some m) → slice_get (set w place new) j ≡ Some m → m ≡ new
-    here j m same (inl c) k = c.is
-    here j m same (inr was') k = at w place j m same was' k where
-      some_is : (a b : Node) → ◌≡◌ {A = Option Node} (Some a) (Some b) → a ≡ b
-      some_is a b e' = cc
+      here : (j : ℕ) (m : Node) → j ≡ place → Changed place j new m ⊎ (slice_get w j ≡ Some m) → slice_get (set w place new) j ≡ Some m → m ≡ new
+      here j m same (inl c) k = c.is
+      here j m same (inr was') k = at w place j m same was' k where
+        some_is : (a b : Node) → ◌≡◌ {A = Option Node} (Some a) (Some b) → a ≡ b
+        some_is a b e' = cc
 
-      at : (v : World) (i j : ℕ) (m : Node) → j ≡ i → slice_get v j ≡ Some m → slice_get (set v i new) j ≡ Some m → m ≡ new
-      at [] i j m s' a b = absurd cc
-      at (x ∷ v) zero zero m s' a b = sym (some_is new m b)
-      at (x ∷ v) zero (suc j) m s' a b = absurd (omega (arith, s'))
-      at (x ∷ v) (suc i) zero m s' a b = absurd (omega (arith, s'))
-      at (x ∷ v) (suc i) (suc j) m s' a b = at v i j m (omega (arith, s')) a b
+        at : (v : World) (i j : ℕ) (m : Node) → j ≡ i → slice_get v j ≡ Some m → slice_get (set v i new) j ≡ Some m → m ≡ new
+        at [] i j m s' a b = absurd cc
+        at (x ∷ v) zero zero m s' a b = sym (some_is new m b)
+        at (x ∷ v) zero (suc j) m s' a b = absurd (omega (arith, s'))
+        at (x ∷ v) (suc i) zero m s' a b = absurd (omega (arith, s'))
+        at (x ∷ v) (suc i) (suc j) m s' a b = at v i j m (omega (arith, s')) a b
 
 -- what a replica's event hands to Raft
 pub no_bytes : (b : List ℕ) (bytes : List (List ℕ)) → Contains {X = List ℕ} [] b → Contains bytes b

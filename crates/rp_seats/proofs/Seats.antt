@@ -168,7 +168,7 @@ module _ (node range : ℕ) (h : machine.World) (told : CmdId → Option Outcome
         seat = record {
           stands = (
             ap (λ i. i + base_of range) (node_same h.index node (suc (h.index node))) ∙ (let at = s.stands.0 in let e : suc (h.index node) + base_of range ≡ r.applied.index + 1 = omega (arith, at) in e)
-            ∙ ap (λ z. z.0.applied + 1) (sym kept),
+                ∙ ap (λ z. z.0.applied + 1) (sym kept),
             s.stands.1,
             s.stands.2 ∙ sym (ap (λ z. z.1) kept),
           );

@@ -40,9 +40,9 @@ no_parcel range seen w shut from number p at own =
     (sym (nowhere_bare (range_at (length w) range first_applied) from) ∙ ap (λ (z : raft.World AppliedState). raft.site z from) (sym shut.view_is))
     ∙ message_seen range w from number p at own)
   where
-  none_at : (k : ℕ) → raft.message_of (record { status = raft.Absent; sent = [] }) k ≡ Some (p.to, p.message) → ⊥
-  none_at zero e = cc
-  none_at (suc k) e = cc
+    none_at : (k : ℕ) → raft.message_of (record { status = raft.Absent; sent = [] }) k ≡ Some (p.to, p.message) → ⊥
+    none_at zero e = cc
+    none_at (suc k) e = cc
 
 -- starts alone
 starts_further : (ds es : List Doing) → OnlyStarts ds → OnlyStarts es → OnlyStarts (ds ++ es)
@@ -65,8 +65,8 @@ module _ (range : ℕ) where
       (cond_both (eqb at range) (doings_of number r e d.proposed) [] OnlyStarts
       (λ own. absurd (absent_live (sym bare ∙ ap (seat n) (sym (eqb-true at range own)) ∙ is))) (λ _. tt)) (only_starting range d.right)
     where
-    absent_live : ◌≡◌ {A = Status} Absent (Live r) → ⊥
-    absent_live e = cc
+      absent_live : ◌≡◌ {A = Status} Absent (Live r) → ⊥
+      absent_live e = cc
   seat_starts n bare at number e taken (Removed applied) is = tt
 
   apart : (n : Node) → seat n range ≡ Absent → (at : ℕ) (r : Replica) → seat n at ≡ Live r → at ≡ range → ⊥
@@ -161,12 +161,12 @@ module _ (range : ℕ) where
           ∙ ap (λ k. raft.nowhere (range_at k range first_applied)) (sym same_length);
     }
       where
-      same_length : length (happens w x) ≡ length w
-      same_length = by_node (node_of w x.node) where
-        by_event : (n : Node) (o : Option (Event AppliedState)) → length (option_map_or (after_step w x.node n (taken_in x.what)) o w) ≡ length w
-        by_event n None = refl
-        by_event n (Some e) = length_with w x.node (step n e (taken_in x.what)).node
+        same_length : length (happens w x) ≡ length w
+        same_length = by_node (node_of w x.node) where
+          by_event : (n : Node) (o : Option (Event AppliedState)) → length (option_map_or (after_step w x.node n (taken_in x.what)) o w) ≡ length w
+          by_event n None = refl
+          by_event n (Some e) = length_with w x.node (step n e (taken_in x.what)).node
 
-        by_node : (o : Option Node) → length (option_map_or (happens_at w x) o w) ≡ length w
-        by_node None = refl
-        by_node (Some n) = by_event n (event_of w x.what)
+          by_node : (o : Option Node) → length (option_map_or (happens_at w x) o w) ≡ length w
+          by_node None = refl
+          by_node (Some n) = by_event n (event_of w x.what)

@@ -150,9 +150,9 @@ module _ (range : ℕ) where
     split_hands ds es c = Contains-append_cases (payloads_of (map (as_event range w node) ds)) (payloads_of (map (as_event range w node) es)) b
         (subst (λ l. Contains l b) (ap (flat_map event_payloads) (further ds) ∙ flat_map-append event_payloads (map (as_event range w node) ds) (map (as_event range w node) es)) c)
       where
-      further : (zs : List Doing) → map (as_event range w node) (zs ++ es) ≡ map (as_event range w node) zs ++ map (as_event range w node) es
-      further [] = refl
-      further (z ∷ zs) = ap (λ ys. as_event range w node z ∷ ys) (further zs)
+        further : (zs : List Doing) → map (as_event range w node) (zs ++ es) ≡ map (as_event range w node) zs ++ map (as_event range w node) es
+        further [] = refl
+        further (z ∷ zs) = ap (λ ys. as_event range w node z ∷ ys) (further zs)
 
     other_hands : (n : Node) (at : ℕ) → (at ≡ range → ⊥) → (status : Status) → Hands (seat_doings range n at 0 Tick [] status) → ⊥
     other_hands n at ne Absent c = absurd (omega (arith, c.1))
@@ -178,24 +178,24 @@ module _ (range : ℕ) where
         (λ (y : Hands (all_doings range Tick m more)). rest (one_of at more c) (once_handed more) y)
         (split_hands (seat_doings range n at 0 Tick [] (seat n at)) (all_doings range Tick m more) has)
       where
-      m : Node
-      m = live_turn Tick n at (seat n at)
+        m : Node
+        m = live_turn Tick n at (seat n at)
 
-      first : ((at ≡ range) × (times range more ≡ 0)) ⊎ ((at ≡ range → ⊥) × (times range more ≡ 1)) → Hands (seat_doings range n at 0 Tick [] (seat n at)) → Contains (event r Tick n.ticks n.rounds []).proposed b
-      first (inl here) x = handed_seen range w node at 0 r Tick (event r Tick n.ticks n.rounds []) b
-          (subst (λ z. Hands (seat_doings range n at 0 Tick [] z)) (ap (seat n) here.0 ∙ live) x)
-      first (inr there) x = absurd (other_hands n at there.0 (seat n at) x)
+        first : ((at ≡ range) × (times range more ≡ 0)) ⊎ ((at ≡ range → ⊥) × (times range more ≡ 1)) → Hands (seat_doings range n at 0 Tick [] (seat n at)) → Contains (event r Tick n.ticks n.rounds []).proposed b
+        first (inl here) x = handed_seen range w node at 0 r Tick (event r Tick n.ticks n.rounds []) b
+            (subst (λ z. Hands (seat_doings range n at 0 Tick [] z)) (ap (seat n) here.0 ∙ live) x)
+        first (inr there) x = absurd (other_hands n at there.0 (seat n at) x)
 
-      rest : ((at ≡ range) × (times range more ≡ 0)) ⊎ ((at ≡ range → ⊥) × (times range more ≡ 1))
-          → (times range more ≡ 1 → (k : Node) (q : Replica) → seat k range ≡ Live q → Hands (all_doings range Tick k more) → Contains (event q Tick k.ticks k.rounds []).proposed b)
-          → Hands (all_doings range Tick (live_turn Tick n at (seat n at)) more) → Contains (event r Tick n.ticks n.rounds []).proposed b
-      rest (inl here) again y = absurd (none_handed more here.1 (live_turn Tick n at (seat n at)) y)
-      rest (inr there) again y =
-          let a = alike_turn n at (seat n at) in
-          let k : Node = live_turn Tick n at (seat n at) in
-          subst (λ i. Contains (event r Tick n.ticks i []).proposed b) a.rounds
-          (subst (λ i. Contains (event r Tick i k.rounds []).proposed b) a.ticks
-          (again there.1 k r (other_seat n at range there.0 (seat n at) ∙ live) y))
+        rest : ((at ≡ range) × (times range more ≡ 0)) ⊎ ((at ≡ range → ⊥) × (times range more ≡ 1))
+            → (times range more ≡ 1 → (k : Node) (q : Replica) → seat k range ≡ Live q → Hands (all_doings range Tick k more) → Contains (event q Tick k.ticks k.rounds []).proposed b)
+            → Hands (all_doings range Tick (live_turn Tick n at (seat n at)) more) → Contains (event r Tick n.ticks n.rounds []).proposed b
+        rest (inl here) again y = absurd (none_handed more here.1 (live_turn Tick n at (seat n at)) y)
+        rest (inr there) again y =
+            let a = alike_turn n at (seat n at) in
+            let k : Node = live_turn Tick n at (seat n at) in
+            subst (λ i. Contains (event r Tick n.ticks i []).proposed b) a.rounds
+            (subst (λ i. Contains (event r Tick i k.rounds []).proposed b) a.ticks
+            (again there.1 k r (other_seat n at range there.0 (seat n at) ∙ live) y))
 
 module _ (lists : OneList AppliedState) (range : ℕ) (s : AppliedState) (seen : List raft.Event) (w : World) (h : machine.World) (node : ℕ) (n : Node) (r : Replica)
     (k : IsSeated lists range s seen w h node n r) where

@@ -109,9 +109,9 @@ module _ (f : Attempts) (node : ℕ) (r : Replica) (before : CmdId → Option Ou
     stays_proposed is = same_tells (subst (λ o. TellsOf node now o (before c.id)) (sym found) (subst (λ a. TellsPending node a p (before c.id)) (sym is)
         (record { made_at = tp.made_at; seq = tp.seq; body = tp.body; place = place p.stage proposed; pending = tp.pending })))
       where
-      place : (s : places.Stage) → is_proposed s ≡ true → HasPlace s p.max (staged (f c.id) (Proposed c.max))
-      place stages.Waiting e = absurd cc
-      place stages.Proposed e = (ap Proposed (sym max), own_place.1)
+        place : (s : places.Stage) → is_proposed s ≡ true → HasPlace s p.max (staged (f c.id) (Proposed c.max))
+        place stages.Waiting e = absurd cc
+        place stages.Proposed e = (ap Proposed (sym max), own_place.1)
 
     ends : (outcome : Outcome) → IsToldAs now.stage (Some outcome) → PendingOk (with_attempt f c.id now) node (without c.id r.pending) (filter (is_of_other c.id) r.latches) (tell before (record { id = c.id; outcome = outcome }))
     ends outcome h = drop_pending f node r.pending r.latches before ok c.id now outcome (λ born. h)

@@ -99,9 +99,9 @@ over : (r : Replica) (draft : Draft AppliedState) (t : Told) (bytes : List (List
 over r draft t bytes site index state =
     same_site _ _ _ _ (ap (λ z. raft.Live z) (same_replica _ _ _ _ _ (sym index) (sym state))) refl
   where
-  same_replica : (st : RaftState) (i i' : ℕ) (s s' : AppliedState) → i ≡ i' → s ≡ s'
-      → ◌≡◌ {A = raft.Replica AppliedState} (record { raft = st; applied = i; state = s }) (record { raft = st; applied = i'; state = s' })
-  same_replica st i i' s s' e f = cc
+    same_replica : (st : RaftState) (i i' : ℕ) (s s' : AppliedState) → i ≡ i' → s ≡ s'
+        → ◌≡◌ {A = raft.Replica AppliedState} (record { raft = st; applied = i; state = s }) (record { raft = st; applied = i'; state = s' })
+    same_replica st i i' s s' e f = cc
 
 -- where Raft took nothing in and nothing was applied
 over_same : (r : Replica) (draft : Draft AppliedState) (t : Told) (bytes : List (List ℕ)) (site : raft.Site AppliedState)

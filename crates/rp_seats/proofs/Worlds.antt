@@ -40,8 +40,8 @@ parcel_is : (range : ℕ) (sent : List (Parcel AppliedState)) (i : ℕ) (p : Par
     → (j : ℕ) × (number_in range sent (suc i) ≡ suc j) × (slice_get (sent_of range sent) j ≡ Some (p.to, p.message))
 parcel_is range [] i p at own = absurd (none_some at)
   where
-  none_some : ◌≡◌ {A = Option (Parcel AppliedState)} None (Some p) → ⊥
-  none_some e = cc
+    none_some : ◌≡◌ {A = Option (Parcel AppliedState)} None (Some p) → ⊥
+    none_some e = cc
 parcel_is range (x ∷ sent) zero p at own =
     let same : x ≡ p = some_same at in
     let own' : eqb x.range range ≡ true = eq-eqb x.range range (ap (λ z. z.range) same ∙ own) in (
@@ -50,8 +50,8 @@ parcel_is range (x ∷ sent) zero p at own =
       ap (λ z. slice_get (cond z ((x.to, x.message) ∷ sent_of range sent) (sent_of range sent)) 0) own' ∙ ap (λ z. Some (z.to, z.message)) same,
     )
   where
-  some_same : ◌≡◌ {A = Option (Parcel AppliedState)} (Some x) (Some p) → x ≡ p
-  some_same e = cc
+    some_same : ◌≡◌ {A = Option (Parcel AppliedState)} (Some x) (Some p) → x ≡ p
+    some_same e = cc
 parcel_is range (x ∷ sent) (suc i) p at own =
     let rest = parcel_is range sent i p at own in
     let counted : number_in range (x ∷ sent) (suc (suc i)) ≡ cond (eqb x.range range) 1 0 + number_in range sent (suc i) = sum_by-cons (λ z. cond (eqb z.range range) 1 0) x (take (suc i) sent) in
@@ -83,8 +83,8 @@ pub message_seen : (range : ℕ) (w : World) (from number : ℕ) (p : Parcel App
     → raft.message_of (raft.site (view range w) from) (number_in range (sent_by w from) number) ≡ Some (p.to, p.message)
 message_seen range w from zero p at own = absurd (none_some at)
   where
-  none_some : ◌≡◌ {A = Option (Parcel AppliedState)} None (Some p) → ⊥
-  none_some e = cc
+    none_some : ◌≡◌ {A = Option (Parcel AppliedState)} None (Some p) → ⊥
+    none_some e = cc
 message_seen range w from (suc i) p at own =
     let is = parcel_is range (sent_by w from) i p at own in
     ap (raft.message_of (raft.site (view range w) from)) is.1 ∙ ap (λ z. slice_get z is.0) (sent_seen range w from) ∙ is.2
@@ -97,8 +97,8 @@ view_with range w (suc place) n = map-set (site_of range) w place n
 pub site_seen : (range : ℕ) (w : World) (node : ℕ) (n : Node) → node_of w node ≡ Some n → raft.site (view range w) node ≡ site_of range n
 site_seen range w zero n e = absurd (none_some e)
   where
-  none_some : ◌≡◌ {A = Option Node} None (Some n) → ⊥
-  none_some e = cc
+    none_some : ◌≡◌ {A = Option Node} None (Some n) → ⊥
+    none_some e = cc
 site_seen range w (suc place) n e = at w place e where
   at : (w : World) (place : ℕ) → node_of w (suc place) ≡ Some n → raft.site (view range w) (suc place) ≡ site_of range n
   at [] place e = absurd cc
