@@ -1,0 +1,5 @@
+pub mod Views
+pub mod Scenes
+pub mod Standing
+pub mod Steps
+pub mod Turned
