@@ -194,7 +194,7 @@ happened w x = by_node (node_of w x.node) refl where
   by_node None has = inl (ap (λ o. option_map_or (happens_at w x) o w) has)
   by_node (Some n) has = by_event n has (event_of w x.what) refl
 
-some_node : (a b : Node) → ◌≡◌ {A = Option Node} (Some a) (Some b) → a ≡ b
+pub some_node : (a b : Node) → ◌≡◌ {A = Option Node} (Some a) (Some b) → a ≡ b
 some_node a b e = cc
 
 pub one_node : (w : World) (node : ℕ) (a b : Node) → node_of w node ≡ Some a → node_of w node ≡ Some b → a ≡ b
