@@ -11,6 +11,7 @@ use Rattle.rp_events.specs.NodeEvents.{past_of, step}
 use Rattle.rp_events.specs.Worlds.{World, Scene, Happening, node_of, event_of, taken_in, happens}
 use Rattle.rp_events.specs.Lawful.{Lawful, IsReached, IsLater}
 use Rattle.rp_events.specs.Journals.{as_it_came, replayed, stood_before}
+use Rattle.rp_journals.specs.Growth.{Grows}
 
 -- an event of a journal is read from what the nodes have sent and from these requests
 pub record IsRead (w : World) (requests : List Request) (e : PastEvent) : Type 0 where
@@ -50,3 +51,5 @@ pub record WasWritten (nodes : ℕ) (w : World) (node place : ℕ) (e : JournalE
     event = past_of n event (taken_in what);
     answer = (step n event (taken_in what)).answer;
   }
+  -- what the event left has only grown since
+  pub grown : (now : Node) → node_of w node ≡ Some now → Grows (step n event (taken_in what)).node now
