@@ -5,3 +5,4 @@ pub mod Writing
 pub mod Staying
 pub mod Asking
 pub mod Admitting
+pub mod Counting
