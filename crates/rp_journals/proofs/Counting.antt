@@ -47,7 +47,7 @@ use Rattle.rp_events.specs.ReplicaEvents.{event}
 use Rattle.rp_events.specs.NodeEvents.{status_after}
 use Rattle.rp_journals.specs.Ended.{pending_at, is_granted}
 
-abbrev one_if : Bool → ℕ
+abbrev pub one_if : Bool → ℕ
 one_if b = cond b 1 0
 
 -- how often a list of ends, and one of proposals, names an attempt

@@ -6,3 +6,4 @@ pub mod Staying
 pub mod Asking
 pub mod Admitting
 pub mod Counting
+pub mod Balancing
