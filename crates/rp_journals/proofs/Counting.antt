@@ -205,7 +205,7 @@ joined_same : (r : Replica) (item : Item) → (joined r item).pending ≡ r.pend
 joined_same r (items.Write id) = refl
 joined_same r (items.Lease ask) = cond_both _ _ r (λ (z : Replica). z.pending ≡ r.pending) (λ _. refl) (λ _. refl)
 
-joined_all_same : (r : Replica) (taken : List Item) → (joined_all r taken).pending ≡ r.pending
+pub joined_all_same : (r : Replica) (taken : List Item) → (joined_all r taken).pending ≡ r.pending
 joined_all_same r [] = refl
 joined_all_same r (item ∷ taken) = joined_all_same (joined r item) taken ∙ joined_same r item
 

@@ -7,3 +7,4 @@ pub mod Asking
 pub mod Admitting
 pub mod Counting
 pub mod Balancing
+pub mod Coming
