@@ -30,6 +30,7 @@ use Rattle.rp_pending.specs.declared.refreshes.Refresh.{Refresh}
 use Rattle.rp_events.specs.declared.answers.EventAnswer.{EventAnswer}
 use Rattle.rp_events.specs.declared.answers.EventAnswer.TheVariants as answers
 use Rattle.rp_events.specs.declared.journals.JournalEntry.{JournalEntry}
+use Rattle.rp_events.specs.declared.journals.PastEvent.TheVariants as past
 use Rattle.rp_events.specs.declared.node_events.Event.{Event}
 use Rattle.rp_events.specs.declared.node_events.Event.TheVariants as events
 use Rattle.rp_events.specs.declared.replica_events.ReplicaEvent.{ReplicaEvent}
@@ -105,6 +106,11 @@ flush_above r = above_both (map GivesUp (assigning r).refused) _ (above_up (assi
 refresh_above : (f : Refresh) → AllAbove (refresh_moves f)
 refresh_above f = above_both (map TakesBack f.back) (map Repeats f.again) (above_back f.back) (above_again f.again)
 
+-- a new proposal
+abbrev pub AddsOf : (Proposal → Type 0) → Replica → ReplicaEvent AppliedState → Type 0
+AddsOf P r (Admit id request) = (e : Evaluated) → guarded r request ≡ Ok e → P (proposal id request e (lease_of r).seq)
+AddsOf P r _ = Unit {0}
+
 -- what the moves of proposals, and the other events of a replica, leave of each
 module _ (P : Proposal → Type 0) (waits : (p : Proposal) → P p → P (waiting_again p)) (gives : (p : Proposal) (max ticks round : ℕ) → 0 < max → P p → P (proposed max ticks round p))
     (positive : (p : Proposal) → P p → is_proposed p.stage ≡ true → 0 < p.max) where
@@ -160,16 +166,11 @@ module _ (P : Proposal → Type 0) (waits : (p : Proposal) → P p → P (waitin
     all_taken None = all
     all_taken (Some taken) = all_filter P _ r.pending all
 
-    -- a new one
-    abbrev AddsP : ReplicaEvent AppliedState → Type 0
-    AddsP (Admit id request) = (e : Evaluated) → guarded r request ≡ Ok e → P (proposal id request e (lease_of r).seq)
-    AddsP _ = Unit {0}
-
-    all_admitted : (id : CmdId) (request : Request) → AddsP (Admit id request) → (g : Result Evaluated Refusal) → guarded r request ≡ g → AllP (admitted_by r id request g).replica.pending
+    all_admitted : (id : CmdId) (request : Request) → AddsOf P r (Admit id request) → (g : Result Evaluated Refusal) → guarded r request ≡ g → AllP (admitted_by r id request g).replica.pending
     all_admitted id request new (Ok e) is = all_push P r.pending (proposal id request e (lease_of r).seq) all (new e is)
     all_admitted id request new (Err why) is = all
 
-    pub all_event : (e : ReplicaEvent AppliedState) → AddsP e → (ticks round : ℕ) (taken : List Item) → AllP (pending_at (status_after e (event r e ticks round taken).replica))
+    pub all_event : (e : ReplicaEvent AppliedState) → AddsOf P r e → (ticks round : ℕ) (taken : List Item) → AllP (pending_at (status_after e (event r e ticks round taken).replica))
     all_event (Admit id request) new ticks round taken = all_admitted id request new (guarded r request) refl
     all_event Ask new ticks round taken =
         cond_both (is_held r ticks) (leaves r (answers.LeaseHeld (lease_of r) ticks)) (answers_ask r (ask_for r r.raft.head.node (expiry_of r ticks))) (λ (z : Done). AllP z.replica.pending) (λ _. all) (λ _. all)
@@ -236,10 +237,138 @@ module _ (j : Node) where
     go (Removed applied) = all
 
   seats_replica : (n : Node) (range : ℕ) (r : Replica) (e : ReplicaEvent AppliedState) (taken : List Item) → seat n range ≡ Live r
-      → AllSeats n → ((all : AllByRecursion (IsFrom j range) r.pending) → AddsP (IsFrom j range) (from_waiting j range) (from_proposed j range) (λ p h. h.given) r all e) → AllSeats (after_replica n range e (event r e n.ticks n.rounds taken))
+      → AllSeats n → AddsOf (IsFrom j range) r e → AllSeats (after_replica n range e (event r e n.ticks n.rounds taken))
   seats_replica n range r e taken live all new =
       let d : Done = event r e n.ticks n.rounds taken in
       let here : AllByRecursion (IsFrom j range) r.pending = subst (λ s. AllByRecursion (IsFrom j range) (pending_at s)) live (all range) in
       seats_opened (after_turn n range (status_after e d.replica) d) d.right
       (seats_set SeatQ n.seats range (status_after e d.replica)
-      (all_event (IsFrom j range) (from_waiting j range) (from_proposed j range) (λ p h. h.given) r here e (new here) n.ticks n.rounds taken) all)
+      (all_event (IsFrom j range) (from_waiting j range) (from_proposed j range) (λ p h. h.given) r here e new n.ticks n.rounds taken) all)
+
+  seats_status : (n : Node) (range : ℕ) (e : ReplicaEvent AppliedState) (taken : List Item) → ((r : Replica) → AddsOf (IsFrom j range) r e) → AllSeats n → (status : Status) → seat n range ≡ status
+      → AllSeats (by_status n range e taken status).node
+  seats_status n range e taken new all Absent is = all
+  seats_status n range e taken new all (Live r) is = seats_replica n range r e taken is all (new r)
+  seats_status n range e taken new all (Removed applied) is = all
+
+  seats_live : (n : Node) (range : ℕ) (e : ReplicaEvent AppliedState) → ((k : ℕ) (r : Replica) → AddsOf (IsFrom j k) r e) → AllSeats n → (status : Status) → seat n range ≡ status
+      → AllSeats (live_turn e n range status)
+  seats_live n range e new all Absent is = all
+  seats_live n range e new all (Live r) is = seats_replica n range r e [] is all (new range r)
+  seats_live n range e new all (Removed applied) is = all
+
+  seats_all : (e : ReplicaEvent AppliedState) → ((k : ℕ) (r : Replica) → AddsOf (IsFrom j k) r e) → (ranges : List ℕ) (n : Node) → AllSeats n → AllSeats (all_turns e n ranges)
+  seats_all e new [] n all = all
+  seats_all e new (range ∷ ranges) n all = seats_all e new ranges (live_turn e n range (seat n range)) (seats_live n range e new all (seat n range) refl)
+
+  made_none : (n : Node) (from range : ℕ) (m : Message AppliedState) → SeatQ range (seat_by_message n from m)
+  made_none n from range (Vote term last_index last_term) = tt
+  made_none n from range (VoteReply term granted) = tt
+  made_none n from range (Append term prev_index prev_term entries commit) = tt
+  made_none n from range (AppendReply term ok index) = tt
+  made_none n from range (Forward payload) = tt
+  made_none n from range (Snap term index index_term snapshot) = tt
+
+  seats_message : (n : Node) (from range : ℕ) (m : Message AppliedState) → AllSeats n → (status : Status) → seat n range ≡ status → AllSeats (delivered n from range m status)
+  seats_message n from range m all Absent is = seats_set SeatQ n.seats range (seat_by_message n from m) (made_none n from range m) all
+  seats_message n from range m all (Live r) is = seats_replica n range r (Deliver from m) [] is all tt
+  seats_message n from range m all (Removed applied) is = all
+
+  -- what a new proposal is to be
+  abbrev Admits : Node → Event AppliedState → Type 0
+  Admits n (events.Admit range id request) = (r : Replica) → seat n range ≡ Live r → AddsOf (IsFrom j range) r (Admit id request)
+  Admits n _ = Unit {0}
+
+  seats_acted : (n : Node) (e : Event AppliedState) (taken : List Item) → Admits n e → AllSeats n → AllSeats (acted n e taken).node
+  seats_acted n (events.Admit range id request) taken new all = by_seat (seat n range) refl where
+    by_seat : (status : Status) → seat n range ≡ status → AllSeats (by_status (with_request n request) range (Admit id request) [] status).node
+    by_seat Absent is = all
+    by_seat (Live r) is = seats_replica (with_request n request) range r (Admit id request) [] is all (new r is)
+    by_seat (Removed applied) is = all
+  seats_acted n (events.Ask range) taken new all = seats_status n range Ask [] (λ r. tt) all (seat n range) refl
+  seats_acted n (events.Transfer range to) taken new all = seats_status n range (Transfer to) [] (λ r. tt) all (seat n range) refl
+  seats_acted n (events.Collect range) taken new all = seats_status n range Collect taken (λ r. tt) all (seat n range) refl
+  seats_acted n (events.Flush range) taken new all = seats_status n range Flush [] (λ r. tt) all (seat n range) refl
+  seats_acted n events.Tick taken new all = seats_all Tick (λ k r. tt) range_numbers (record n { ticks = n.ticks + 1 }) all
+  seats_acted n (events.Deliver from range number m) taken new all = seats_message n from range m all (seat n range) refl
+  seats_acted n (events.Apply range) taken new all = seats_status n range Apply [] (λ r. tt) all (seat n range) refl
+  seats_acted n (events.Cut range) taken new all = seats_status n range Cut [] (λ r. tt) all (seat n range) refl
+  seats_acted n (events.Remove range) taken new all = seats_status n range Remove [] (λ r. tt) all (seat n range) refl
+  seats_acted n (events.Peek range key) taken new all = seats_status n range (Peek key) [] (λ r. tt) all (seat n range) refl
+  seats_acted n events.Restart taken new all = seats_all Restart (λ k r. tt) range_numbers n all
+  seats_acted n events.Round taken new all = all
+
+-- a granted admission is written, with its request
+admit_from : (n : Node) (range : ℕ) (id : CmdId) (request : Request) (taken : List Item) (r : Replica) → seat n range ≡ Live r
+    → AddsOf (IsFrom (step n (events.Admit range id request) taken).node range) r (Admit id request)
+admit_from n range id request taken r live e passed = record {
+  place = length n.journal;
+  at = length n.requests;
+  here = ap (λ l. slice_get l (length n.journal)) (step_journal n (events.Admit range id request) taken)
+      ∙ get_end n.journal (entry_of n (events.Admit range id request) taken) []
+      ∙ ap (λ a. Some (entry_with a)) granted;
+  asked = asked_here n range id request taken;
+  given = λ is. absurd (waiting_no is);
+} where
+  entry_with : EventAnswer → JournalEntry
+  entry_with a = record { event = past.Admit range id (length n.requests); answer = a }
+
+  waiting_no : is_proposed (proposal id request e (lease_of r).seq).stage ≡ true → ⊥
+  waiting_no is = cc
+
+  granted : (step n (events.Admit range id request) taken).answer ≡ answers.Admitted
+  granted = ap (λ s. (by_status (with_request n request) range (Admit id request) [] s).answer) live
+      ∙ ap (λ g. (admitted_by r id request g).answer) passed
+
+admits_from : (n : Node) (e : Event AppliedState) (taken : List Item) → Admits (step n e taken).node n e
+admits_from n (events.Admit range id request) taken = λ r live. admit_from n range id request taken r live
+admits_from n (events.Ask range) taken = tt
+admits_from n (events.Transfer range to) taken = tt
+admits_from n (events.Collect range) taken = tt
+admits_from n (events.Flush range) taken = tt
+admits_from n events.Tick taken = tt
+admits_from n (events.Deliver from range number m) taken = tt
+admits_from n (events.Apply range) taken = tt
+admits_from n (events.Cut range) taken = tt
+admits_from n (events.Remove range) taken = tt
+admits_from n (events.Peek range key) taken = tt
+admits_from n events.Restart taken = tt
+admits_from n events.Round taken = tt
+
+abbrev FromAt : ℕ → Node → Type 0
+FromAt node n = (range : ℕ) → AllByRecursion (IsFrom n range) (pending_at (seat n range))
+
+from_step : (n : Node) (e : Event AppliedState) (taken : List Item) → FromAt n.node n → FromAt n.node (step n e taken).node
+from_step n e taken all =
+    let new : Node = (step n e taken).node in
+    let grown : Grows n new = step_grows n e taken in
+    seats_acted new n e taken (admits_from n e taken)
+    (λ range. all_weaker (IsFrom n range) (IsFrom new range) (λ p h. from_later n new grown range p h) (pending_at (seat n range)) (all range))
+
+from_scene : (w : World) (x : Scene) → AllFrom w → AllFrom (happens w x)
+from_scene w x all = ⊎_elim
+    (λ (same : happens w x ≡ w). subst AllFrom (sym same) all)
+    (λ (k : Happened w x). subst AllFrom (sym k.is)
+    (node_after FromAt w x.node k.n (step k.n k.event (taken_in x.what)).node k.has
+    (from_step k.n k.event (taken_in x.what) (all x.node k.n k.has)) (λ other m ne is. all other m is)))
+    (happened w x)
+
+from_run : (xs : Schedule) (w : World) → AllFrom w → AllFrom (run w xs)
+from_run [] w all = all
+from_run (x ∷ xs) w all = from_run xs (happens w x) (from_scene w x all)
+
+pub all_from : (nodes : ℕ) (w : World) → IsReached nodes w → AllFrom w
+all_from nodes w r = subst AllFrom r.reached (from_run r.schedule (first_world nodes) first) where
+  first_from : (node : ℕ) → FromAt node (first_node node nodes)
+  first_from node zero = tt
+  first_from node (suc zero) = tt
+  first_from node (suc (suc zero)) = tt
+  first_from node (suc (suc (suc zero))) = tt
+  first_from node (suc (suc (suc (suc zero)))) = tt
+  first_from node (suc (suc (suc (suc (suc zero))))) = tt
+  first_from node (suc (suc (suc (suc (suc (suc zero)))))) = tt
+  first_from node (suc (suc (suc (suc (suc (suc (suc zero))))))) = tt
+  first_from node (suc (suc (suc (suc (suc (suc (suc (suc k)))))))) = tt
+
+  first : AllFrom (first_world nodes)
+  first node n has = subst (FromAt node) (sym (first_at nodes node n has)) (first_from n.node)
