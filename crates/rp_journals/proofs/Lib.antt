@@ -8,3 +8,4 @@ pub mod Admitting
 pub mod Counting
 pub mod Balancing
 pub mod Coming
+pub mod Causing
