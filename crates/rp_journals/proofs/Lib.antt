@@ -9,3 +9,4 @@ pub mod Counting
 pub mod Balancing
 pub mod Coming
 pub mod Causing
+pub mod Ending
