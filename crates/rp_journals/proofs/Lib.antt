@@ -10,3 +10,4 @@ pub mod Balancing
 pub mod Coming
 pub mod Causing
 pub mod Ending
+pub mod Telling
