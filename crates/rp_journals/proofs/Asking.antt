@@ -56,7 +56,7 @@ node_any test w (suc place) n has is = any_at test w place n has is
 pub written_asked : (w : World) (id : CmdId) (node place : ℕ) (e : JournalEntry) → IsWritten w node place e → is_admission_of id e ≡ true → was_asked w id ≡ true
 written_asked w id node place e is adm = node_any (asked_at id) w node is.n is.has (any_at (is_admission_of id) is.n.journal place e is.here adm)
 
-true_not_false : (b : Bool) → b ≡ true → b ≡ false → ⊥
+pub true_not_false : (b : Bool) → b ≡ true → b ≡ false → ⊥
 true_not_false true e f = absurd cc
 true_not_false false e f = absurd cc
 

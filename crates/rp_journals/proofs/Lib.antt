@@ -11,3 +11,4 @@ pub mod Coming
 pub mod Causing
 pub mod Ending
 pub mod Telling
+pub mod Waiting

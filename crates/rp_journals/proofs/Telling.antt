@@ -113,7 +113,7 @@ sum_less f g (n ∷ w) less =
     omega (arith, a, b, here, more)
 
 -- a sum above 0 has a term above 0
-sum_some : {X : Type 0} (f : X → ℕ) (xs : List X) → 0 < sum_by f xs → (place : ℕ) × (x : X) × (slice_get xs place ≡ Some x) × (0 < f x)
+pub sum_some : {X : Type 0} (f : X → ℕ) (xs : List X) → 0 < sum_by f xs → (place : ℕ) × (x : X) × (slice_get xs place ≡ Some x) × (0 < f x)
 sum_some f [] l = absurd (omega (arith, l))
 sum_some {X} f (x ∷ xs) l = go (f x) refl (sum_some f xs) where
   go : (k : ℕ) → f x ≡ k → (0 < sum_by f xs → (place : ℕ) × (y : X) × (slice_get xs place ≡ Some y) × (0 < f y)) → (place : ℕ) × (y : X) × (slice_get (x ∷ xs) place ≡ Some y) × (0 < f y)
@@ -123,7 +123,7 @@ sum_some {X} f (x ∷ xs) l = go (f x) refl (sum_some f xs) where
       (suc rest.0, rest.1, rest.2, rest.3)
   go (suc k) is ih = (0, x, refl, omega (arith, is))
 
-count_some : {X : Type 0} (test : X → Bool) (xs : List X) → 0 < count_by test xs → (place : ℕ) × (x : X) × (slice_get xs place ≡ Some x) × (test x ≡ true)
+pub count_some : {X : Type 0} (test : X → Bool) (xs : List X) → 0 < count_by test xs → (place : ℕ) × (x : X) × (slice_get xs place ≡ Some x) × (test x ≡ true)
 count_some {X} test xs l = let k = sum_some (λ x. one_if (test x)) xs l in (k.0, k.1, k.2, passes (test k.1) k.3) where
   passes : (b : Bool) → 0 < one_if b → b ≡ true
   passes true h = refl
@@ -210,7 +210,7 @@ pub record OutcomeFrom (w : World) (id : CmdId) (o : Outcome) : Type 0 where
   pub has : node_of w node ≡ Some n
   pub at : outcome_at id n ≡ Some o
 
-found_place : {X : Type 0} (test : X → Bool) (xs : List X) (x : X) → find test xs ≡ Some x → (place : ℕ) × (slice_get xs place ≡ Some x)
+pub found_place : {X : Type 0} (test : X → Bool) (xs : List X) (x : X) → find test xs ≡ Some x → (place : ℕ) × (slice_get xs place ≡ Some x)
 found_place test [] x e = absurd cc
 found_place {X} test (z ∷ xs) x e = go (found_place test xs x) (test z) e where
   go : (find test xs ≡ Some x → (place : ℕ) × (slice_get xs place ≡ Some x)) → (b : Bool) → cond b (Some z) (find test xs) ≡ Some x → (place : ℕ) × (slice_get (z ∷ xs) place ≡ Some x)
