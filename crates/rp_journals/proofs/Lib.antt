@@ -12,3 +12,4 @@ pub mod Causing
 pub mod Ending
 pub mod Telling
 pub mod Waiting
+pub mod Elsewhere

@@ -167,7 +167,7 @@ pending_there nodes w r id e =
     by_answer x t (inr why) = absurd (refused_no why.0 (sym (ap (outcome_by x.n id) why.1) ∙ t.by))
 
 -- the outcome of an attempt is that of the node that was asked
-any_place : {X : Type 0} (test : X → Bool) (xs : List X) → list_any test xs ≡ true → (place : ℕ) × (x : X) × (slice_get xs place ≡ Some x) × (test x ≡ true)
+pub any_place : {X : Type 0} (test : X → Bool) (xs : List X) → list_any test xs ≡ true → (place : ℕ) × (x : X) × (slice_get xs place ≡ Some x) × (test x ≡ true)
 any_place test [] e = absurd cc
 any_place {X} test (x ∷ xs) e = go (test x) refl e (any_place test xs) where
   go : (b : Bool) → test x ≡ b → (b || list_any test xs) ≡ true → (list_any test xs ≡ true → (place : ℕ) × (y : X) × (slice_get xs place ≡ Some y) × (test y ≡ true))
@@ -175,7 +175,7 @@ any_place {X} test (x ∷ xs) e = go (test x) refl e (any_place test xs) where
   go true is e' ih = (0, x, refl, is)
   go false is e' ih = let k = ih e' in (suc k.0, k.1, k.2, k.3)
 
-found_any : {X : Type 0} (test : X → Bool) (xs : List X) (i : ℕ) (x : X) → slice_get xs i ≡ Some x → test x ≡ true → (y : X) × (find test xs ≡ Some y)
+pub found_any : {X : Type 0} (test : X → Bool) (xs : List X) (i : ℕ) (x : X) → slice_get xs i ≡ Some x → test x ≡ true → (y : X) × (find test xs ≡ Some y)
 found_any test [] i x at is = absurd cc
 found_any {X} test (z ∷ xs) zero x at is = first (test z) (ap test (some_is z x at) ∙ is) where
   some_is : (a b : X) → ◌≡◌ {A = Option X} (Some a) (Some b) → a ≡ b

@@ -2,3 +2,4 @@ pub mod Growth
 pub mod Entries
 pub mod Asked
 pub mod Ended
+pub mod Elsewhere

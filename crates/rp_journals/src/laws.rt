@@ -15,14 +15,15 @@ ghost use Rattle.rp_events.specs.declared.journals.JournalEntry.{JournalEntry};
 ghost use Rattle.rp_events.specs.declared.parcels.Parcel.{Parcel};
 ghost use Rattle.rp_events.specs.Replicas.{Replica, lease_of};
 ghost use Rattle.rp_events.specs.Nodes.{Node, parcel_of};
-ghost use Rattle.rp_events.specs.Worlds.{World, Scene, Schedule, node_of, sent_by, happens, run, is_admission_of, asked_at, outcome_at, outcome_of};
-ghost use Rattle.rp_events.specs.Lawful.{IsReached, IsLater};
+ghost use Rattle.rp_events.specs.Worlds.{World, Happening, Scene, Schedule, node_of, sent_by, happens, run, is_admission_of, asked_at, outcome_at, outcome_of};
+ghost use Rattle.rp_events.specs.Lawful.{AllLawful, IsReached, IsLater};
 ghost use Rattle.rp_events.specs.Journals.{Replays, stood_before};
 ghost use Rattle.rp_events.specs.Lists.{IsLiveAt, IsWritten, IsAdmitted, IsAdmittedUnder, StoodAs};
 ghost use Rattle.rp_events.specs.Promises.{HasCause, IsPendingThere, times_ended};
 ghost use Rattle.rp_journals.specs.Growth.{Grows, WorldGrows};
 ghost use Rattle.rp_journals.specs.Entries.{AllReadBack, WasWritten};
-ghost use Rattle.rp_journals.specs.Asked.{times_asked, AskedOnce, WasAdmitted};
+ghost use Rattle.rp_journals.specs.Asked.{times_asked, AskedOnce, WasAdmitted, AskedNowhereElse, all_at};
+ghost use Rattle.rp_journals.specs.Elsewhere.{IsAhead, HappensThere};
 ghost use Rattle.rp_journals.specs.Ended.{Balanced, AllFrom, AllTrueEnds, IsHeldThere};
 
 /// Each scene and each schedule adds to what the nodes keep, at the ends of their lists.
@@ -139,4 +140,13 @@ pub fn the_outcome_is_that_of_its_node()
         → (place : ℕ) (e : JournalEntry) → IsWritten w node place e
         → IsTrue (is_admission_of id e)
         → (e.answer ≡ Admitted) ⊎ ((why : Refusal) × (e.answer ≡ Refused why)) }
+{}
+
+/// Events of a node that are lawful in a world are lawful in one in which the other nodes have gone on,
+/// leave the same node there, and leave every other as it is: where no other node was asked for the
+/// attempts that begin in them.
+pub fn events_of_a_node_happen_elsewhere()
+    ensures { (w : World) (other : World) (node : ℕ) (xs : List Happening) → IsAhead w other node
+        → AskedNowhereElse other node xs → AllLawful w (all_at node xs)
+        → HappensThere w other node xs }
 {}
