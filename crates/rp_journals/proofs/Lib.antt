@@ -13,3 +13,4 @@ pub mod Ending
 pub mod Telling
 pub mod Waiting
 pub mod Elsewhere
+pub mod Alike

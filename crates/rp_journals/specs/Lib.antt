@@ -3,3 +3,4 @@ pub mod Entries
 pub mod Asked
 pub mod Ended
 pub mod Elsewhere
+pub mod Alike

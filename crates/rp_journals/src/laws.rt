@@ -23,6 +23,7 @@ ghost use Rattle.rp_events.specs.Promises.{HasCause, IsPendingThere, times_ended
 ghost use Rattle.rp_journals.specs.Growth.{Grows, WorldGrows};
 ghost use Rattle.rp_journals.specs.Entries.{AllReadBack, WasWritten};
 ghost use Rattle.rp_journals.specs.Asked.{times_asked, AskedOnce, WasAdmitted, AskedNowhereElse, all_at};
+ghost use Rattle.rp_journals.specs.Alike.{AllKeepSame};
 ghost use Rattle.rp_journals.specs.Elsewhere.{IsAhead, HappensThere};
 ghost use Rattle.rp_journals.specs.Ended.{Balanced, AllFrom, AllTrueEnds, IsHeldThere};
 
@@ -149,4 +150,11 @@ pub fn events_of_a_node_happen_elsewhere()
     ensures { (w : World) (other : World) (node : ℕ) (xs : List Happening) → IsAhead w other node
         → AskedNowhereElse other node xs → AllLawful w (all_at node xs)
         → HappensThere w other node xs }
+{}
+
+/// Nodes that are what their journals say, and have kept what those of a reached world have kept, are
+/// that world: so each law of reached worlds speaks of them.
+pub fn a_world_is_told_by_its_lists()
+    ensures { (nodes : ℕ) (w : World) (v : World) → IsReached nodes w → Replays v
+        → AllKeepSame w v → v ≡ w }
 {}
