@@ -2,6 +2,7 @@
 //! second reading of the rules. It reads well-formed scripts; any other is refused without a reason.
 mod base;
 mod draws;
+mod large;
 mod payload;
 mod raft;
 mod replica;
@@ -38,6 +39,8 @@ fn main() -> ExitCode {
             (Ok(number), Ok(size)) => (0, draws::script(number, size)),
             _ => (2, "usage\n".to_string()),
         },
+        ["large"] => (0, large::KINDS.map(|kind| format!("{kind}\n")).concat()),
+        ["large", kind] => large::script(kind).map_or_else(|| (2, "usage\n".to_string()), |text| (0, text)),
         ["run", form @ ..] => {
             let mut source = String::new();
             if std::io::stdin().read_to_string(&mut source).is_err() {
