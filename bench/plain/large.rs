@@ -1,4 +1,5 @@
-//! Scripts of about 65,000 lines on one node, one for each habit that could be slow.
+//! Scripts to measure by: about 65,000 lines on one node, one for each habit that could be slow; and
+//! commands over several nodes and ranges, to see how cost grows.
 use std::fmt::Write;
 
 pub const KINDS: [&str; 12] = [
@@ -75,4 +76,30 @@ pub fn script(kind: &str) -> Option<String> {
     }
     text.push_str("end\n");
     Some(text)
+}
+
+/// So many commands over the ranges of so many nodes, sixteen at a time, each sixteen settled in four
+/// rounds, with this percentage of messages lost.
+pub fn cost(nodes: u8, ranges: u8, commands: u64, loss: u8) -> String {
+    let mut text = format!("cluster {nodes}\nloss {loss} 7\n");
+    let splits = [(0, "k500", 1), (0, "k250", 2), (1, "k750", 3)];
+    for (left, key, _) in &splits[..ranges as usize - 1] {
+        let _ = write!(text, "send 1 {left} 64 split {key}\nsettle 30\n");
+    }
+    let starts: &[(u64, u8)] = match ranges {
+        1 => &[(0, 0)],
+        2 => &[(0, 0), (500, 1)],
+        3 => &[(0, 0), (250, 2), (500, 1)],
+        _ => &[(0, 0), (250, 2), (500, 1), (750, 3)],
+    };
+    for n in 0..commands {
+        let x = n * 619 % 1000;
+        let range = starts.iter().rev().find(|s| s.0 <= x).map_or(0, |s| s.1);
+        let _ = writeln!(text, "send 1 {range} {} add k{x:03} 1", 1 + n % 63);
+        if n % 16 == 15 {
+            text.push_str("settle 4\n");
+        }
+    }
+    text.push_str("settle 100\nend\n");
+    text
 }

@@ -41,6 +41,13 @@ fn main() -> ExitCode {
         },
         ["large"] => (0, large::KINDS.map(|kind| format!("{kind}\n")).concat()),
         ["large", kind] => large::script(kind).map_or_else(|| (2, "usage\n".to_string()), |text| (0, text)),
+        ["cost", nodes, ranges, commands, loss] => {
+            let numbers = (nodes.parse(), ranges.parse(), commands.parse(), loss.parse());
+            match numbers {
+                (Ok(n @ 1..=5), Ok(r @ 1..=4), Ok(c), Ok(l @ 0..=50)) => (0, large::cost(n, r, c, l)),
+                _ => (2, "usage\n".to_string()),
+            }
+        }
         ["run", form @ ..] => {
             let mut source = String::new();
             if std::io::stdin().read_to_string(&mut source).is_err() {
@@ -50,6 +57,7 @@ fn main() -> ExitCode {
                 (Err(refused), _) => refused,
                 (Ok(world), ["--form", "json"]) => (0, report::json(&world)),
                 (Ok(world), ["--form", "summary"]) => (0, report::summary(&world)),
+                (Ok(world), ["--form", "cost"]) => (0, report::cost(&world)),
                 (Ok(world), _) => (0, report::text(&world)),
             }
         }

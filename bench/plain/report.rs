@@ -1,6 +1,7 @@
 //! What is written of a world: a report as text or JSON, or ten counts.
 use crate::base::*;
 use crate::payload::Payload;
+use crate::raft::Message;
 use crate::replica::*;
 use crate::world::{Status, World};
 use std::collections::BTreeSet;
@@ -208,4 +209,20 @@ pub fn summary(world: &World) -> String {
         counts[3],
         ranges.len()
     )
+}
+
+/// What a run took: attempts, those that ended well, events of nodes and buffers, messages, and entries
+/// that messages carried.
+pub fn cost(world: &World) -> String {
+    let ok = world.replies.values().filter(|o| matches!(o, Outcome::Ok(_))).count();
+    let sent = || world.nodes.iter().flat_map(|n| &n.sent);
+    let entries: usize = sent().map(|(_, _, mail)| if let Message::Append { entries, .. } = mail { entries.len() } else { 0 }).sum();
+    let bytes: usize = sent()
+        .map(|(_, _, mail)| match mail {
+            Message::Append { entries, .. } => entries.iter().map(|e| e.payload.len()).sum(),
+            Message::Forward { payload } => payload.len(),
+            _ => 0,
+        })
+        .sum();
+    format!("{} {ok} {} {} {entries} {bytes}\n", world.replies.len(), world.events, sent().count())
 }

@@ -106,7 +106,7 @@ pub struct World {
     drawn: BTreeMap<CmdId, (u8, u8, usize)>,
     handled: Vec<Handled>,
     loss: (u8, u64),
-    events: u64,
+    pub events: u64,
     weight: u64,
 }
 
