@@ -5,6 +5,7 @@ mod draws;
 mod large;
 mod payload;
 mod raft;
+mod random;
 mod replica;
 mod report;
 mod script;
@@ -41,6 +42,14 @@ fn main() -> ExitCode {
         },
         ["large"] => (0, large::KINDS.map(|kind| format!("{kind}\n")).concat()),
         ["large", kind] => large::script(kind).map_or_else(|| (2, "usage\n".to_string()), |text| (0, text)),
+        ["random", number, "simple", lines] => match (number.parse(), lines.parse()) {
+            (Ok(number), Ok(lines)) => (0, random::simple(number, lines)),
+            _ => (2, "usage\n".to_string()),
+        },
+        ["random", number, nodes, lines] => match (number.parse(), nodes.parse(), lines.parse()) {
+            (Ok(number), Ok(nodes @ 1..=5), Ok(lines)) => (0, random::script(number, nodes, lines)),
+            _ => (2, "usage\n".to_string()),
+        },
         ["cost", nodes, ranges, commands, loss] => {
             let numbers = (nodes.parse(), ranges.parse(), commands.parse(), loss.parse());
             match numbers {
