@@ -14,3 +14,4 @@ pub mod Telling
 pub mod Waiting
 pub mod Elsewhere
 pub mod Alike
+pub mod Sizes
