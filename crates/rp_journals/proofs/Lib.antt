@@ -15,3 +15,4 @@ pub mod Waiting
 pub mod Elsewhere
 pub mod Alike
 pub mod Sizes
+pub mod Within

@@ -1,7 +1,7 @@
 -- How much an event of a replica adds to its lists.
 use Rattle.std.proofs.Common.{◌≡◌, ℕ, zero, suc, ◌+◌, ◌<◌, ◌≤◌, Bool, true, false, cond, ⊎_elim, Option, None, Some, Result, Ok, Err, List, [], ◌∷◌, ◌++◌, length, map, max, length-append, refl, sym, ap, subst, ◌∙◌, arith}
 use Rattle.std.specs.Prelude.{not, ◌&&◌, ◌||◌, ◌==◌, nat_lt, nat_le, filter_map, is_none, option_and_then}
-use Rattle.std.specs.List.{filter, find, cons_option}
+use Rattle.std.specs.List.{filter, find, list_any, cons_option}
 use Rattle.std.specs.Option.{option_map, option_map_or}
 use Rattle.std.proofs.lemmas.Bool.{cond_both, and_parts, ltb-true, leb-true}
 use Rattle.std.proofs.lemmas.List.{length-map}
@@ -43,7 +43,7 @@ use Rattle.rp_events.specs.Admissions.{guarded, admitted_by, proposal}
 use Rattle.rp_events.specs.Applications.{is_own, settled, proposer_told, payload_of, next_entry, applied_where}
 use Rattle.rp_events.specs.Ends.{end_of, ends_all, overtaken_by, removed_with, lost_under}
 use Rattle.rp_events.specs.Flushes.{assigning, flush_moves, emptied}
-use Rattle.rp_events.specs.LeaseAsks.{lease_ticks, is_held, expiry_of, ask_for, answers_ask, joined, joined_all}
+use Rattle.rp_events.specs.LeaseAsks.{lease_ticks, is_held, expiry_of, ask_for, answers_ask, same_ask, without_first, joined, joined_all}
 use Rattle.rp_events.specs.Moves.{write_of, payloads_of, ended, hands_out, gives_up, takes_back, repeats, moved, moved_all}
 use Rattle.rp_events.specs.Refreshes.{refreshing, refresh_moves, with_taken, delivered_by}
 use Rattle.rp_events.specs.ReplicaEvents.{event}
@@ -318,3 +318,81 @@ abbrev pub IsShort : Replica → ReplicaEvent AppliedState → List Item → Don
 IsShort r (Admit id request) taken d = length d.proposed + length d.replica.inbox ≤ length r.inbox
 IsShort r Collect taken d = length d.proposed + length d.replica.inbox ≤ length r.inbox + length taken
 IsShort r e taken d = length d.proposed + length d.replica.inbox ≤ length r.inbox + length r.pending + 1
+
+joined_few : (r : Replica) (item : Item) → length (joined r item).inbox ≤ length r.inbox + 1
+joined_few r (items.Write id) = let k = length-append r.inbox (items.Write id ∷ []) in omega (arith, k)
+joined_few r (items.Lease ask) = cond_both (list_any (λ x. same_ask x ask) r.asks) (record r { inbox = r.inbox ++ items.Lease ask ∷ []; asks = without_first ask r.asks }) r (λ (z : Replica). length z.inbox ≤ length r.inbox + 1) (λ _. let k = length-append r.inbox (items.Lease ask ∷ []) in omega (arith, k)) (λ _. omega arith)
+
+joined_all_few : (r : Replica) (taken : List Item) → length (joined_all r taken).inbox ≤ length r.inbox + length taken
+joined_all_few r [] = omega arith
+joined_all_few r (item ∷ taken) = let k = joined_few r item in let l = joined_all_few (joined r item) taken in omega (arith, k, l)
+
+module _ (r : Replica) where
+  settled_short : (c : Command) (v : Verdict) → length (settled r c v).replica.inbox ≤ length r.inbox + 1
+  settled_short c verdicts.Took = omega arith
+  settled_short c (verdicts.OldLease now) = omega arith
+  settled_short c (verdicts.OldIndex lai) = let k = length-append r.inbox (items.Write c.id ∷ []) in omega (arith, k)
+  settled_short c verdicts.LeaseMoved = omega arith
+  settled_short c verdicts.Nothing = omega arith
+
+  proposer_short : (p : Payload) → length (proposer_told r p).replica.inbox ≤ length r.inbox + 1
+  proposer_short payloads.Nothing = omega arith
+  proposer_short (payloads.Write c) = cond_both (is_own r c) (settled r c (command_verdict r.applied.state c)) (untold r) (λ (z : Told). length z.replica.inbox ≤ length r.inbox + 1)
+      (λ _. settled_short c (command_verdict r.applied.state c)) (λ _. omega arith)
+  proposer_short (payloads.Lease ask) = omega arith
+
+  -- a refresh, on what is pending then
+  refreshed_short : (ticks round : ℕ) (all : Bool) (t : Told) → length t.replica.inbox ≤ length r.inbox → length t.replica.pending ≤ length r.pending
+      → length (map spelling (payloads_of [] (moved_all ticks round t (refresh_moves (refreshing t.replica ticks all))).replica.pending (refreshing t.replica ticks all).again))
+      + length (moved_all ticks round t (refresh_moves (refreshing t.replica ticks all))).replica.inbox ≤ length r.inbox + length r.pending + 1
+  refreshed_short ticks round all t inbox pending =
+      let f = refreshing t.replica ticks all in
+      let a = spelled_few [] (moved_all ticks round t (refresh_moves f)).replica.pending f.again in
+      let b = moves_inbox ticks round t (refresh_moves f) in
+      let c = refresh_back f in
+      let d = refresh_few t.replica.applied.state.lai ticks all t.replica.pending in
+      omega (arith, a, b, c, d, inbox, pending)
+
+  taken_inbox : (o : Option (ℕ × AppliedState)) → length (with_taken r o).replica.inbox ≤ length r.inbox
+  taken_inbox None = omega arith
+  taken_inbox (Some taken) = omega arith
+
+  pub event_short : (e : ReplicaEvent AppliedState) (ticks round : ℕ) (taken : List Item) → IsShort r e taken (event r e ticks round taken)
+  event_short (Admit id request) ticks round taken = go (guarded r request) where
+    go : (g : Result Evaluated Refusal) → IsShort r (Admit id request) taken (admitted_by r id request g)
+    go (Ok e) = omega arith
+    go (Err why) = omega arith
+  event_short Ask ticks round taken =
+      cond_both (is_held r ticks) (leaves r (answers.LeaseHeld (lease_of r) ticks)) (answers_ask r (ask_for r r.raft.head.node (expiry_of r ticks))) (λ (z : Done). IsShort r Ask taken z) (λ _. omega arith) (λ _. omega arith)
+  event_short (Transfer to) ticks round taken =
+      cond_both (holds_lease r) (answers_ask r (ask_for r to (ticks + lease_ticks))) (leaves r (answers.Refused (NotLeaseHolder (lease_of r)))) (λ (z : Done). IsShort r (Transfer to) taken z) (λ _. omega arith) (λ _. omega arith)
+  event_short Collect ticks round taken = let k = joined_all_few r taken in omega (arith, k)
+  event_short Flush ticks round taken =
+      let s = assigning r in
+      let ids = map (λ (write : CmdId × ℕ). write.0) s.writes in
+      let t = moved_all ticks round (untold (emptied r s)) (flush_moves s) in
+      let a = spelled_few s.leases t.replica.pending ids in
+      let b = length-map s.writes (λ (write : CmdId × ℕ). write.0) in
+      let c = flush_few r in
+      let d = moves_inbox ticks round (untold (emptied r s)) (flush_moves s) in
+      let e = flush_back s in
+      omega (arith, a, b, c, d, e)
+  event_short Tick ticks round taken =
+      let draft : Draft AppliedState = tick r.raft in
+      refreshed_short ticks round (has_new_leader r.raft.head draft.state.head) (untold r) (omega arith) (omega arith)
+  event_short (Deliver from m) ticks round taken =
+      let draft : Draft AppliedState = received r.raft from m in
+      let t = with_taken r draft.taken in
+      let i = taken_inbox draft.taken in
+      let w = taken_weigh r draft.taken in
+      cond_both (has_new_leader r.raft.head draft.state.head) _ _ (λ (z : Done). IsShort r (Deliver from m) taken z)
+      (λ _. refreshed_short ticks round true t i (omega (arith, w)))
+      (λ _. omega (arith, i))
+  event_short Apply ticks round taken = go (payload_of (next_entry r)) where
+    go : (o : Option Payload) → IsShort r Apply taken (applied_where r o)
+    go None = omega arith
+    go (Some p) = let k = proposer_short p in omega (arith, k)
+  event_short Cut ticks round taken = omega arith
+  event_short Remove ticks round taken = omega arith
+  event_short (Peek key) ticks round taken = omega arith
+  event_short Restart ticks round taken = omega arith
