@@ -16,3 +16,4 @@ pub mod Elsewhere
 pub mod Alike
 pub mod Sizes
 pub mod Within
+pub mod Inboxes

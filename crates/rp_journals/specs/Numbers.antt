@@ -12,6 +12,7 @@ use Rattle.rp_events.specs.declared.replica_events.ReplicaEvent.{ReplicaEvent}
 use Rattle.rp_events.specs.declared.replica_events.ReplicaEvent.TheVariants as at_replica
 use Rattle.rp_events.specs.ReplicaEvents.{event}
 use Rattle.rp_events.specs.Nodes.{Node, Status, Absent, Live, Removed, seat}
+use Rattle.rp_events.specs.Worlds.{World, Scene, Schedule, node_of, event_of, taken_in, happens}
 use Rattle.rp_journals.specs.Ended.{pending_at}
 
 -- the inbox of a seat
@@ -74,6 +75,30 @@ handed_by Absent ticks rounds taken e = []
 handed_by (Live r) ticks rounds taken e = (event r e ticks rounds taken).proposed
 handed_by (Removed applied) ticks rounds taken e = []
 
+-- what the buffer gave to a collect
+abbrev pub given_to : Event AppliedState → List Item → List Item
+given_to (events.Collect at) taken = taken
+given_to _ taken = []
+
 abbrev pub handed : (range : ℕ) → Node → Event AppliedState → List Item → List (List ℕ)
 handed range n e taken =
-    option_map_or (handed_by (seat n range) (tick_in n e) n.rounds taken) (at_range range e) []
+    option_map_or (handed_by (seat n range) (tick_in n e) n.rounds (given_to e taken))
+    (at_range range e) []
+
+-- what the range's replica at the scene's node hands to Raft in it, and what that of one node hands to it
+-- along a schedule
+abbrev pub handed_here : (range : ℕ) → World → Scene → Node → ℕ
+handed_here range w x n =
+    option_map_or (λ e. length (handed range n e (taken_in x.what))) (event_of w x.what) 0
+
+abbrev pub handed_in : (range : ℕ) → World → Scene → ℕ
+handed_in range w x = option_map_or (handed_here range w x) (node_of w x.node) 0
+
+abbrev pub handed_along : (range node : ℕ) → World → Schedule → ℕ
+handed_along range node w [] = 0
+handed_along range node w (x ∷ xs) =
+    (if x.node == node then handed_in range w x else 0) + handed_along range node (happens w x) xs
+
+-- what a range's replica at this node has handed to Raft, and what waits in its inbox
+pub record IsHandedFew (range node : ℕ) (n : Node) (so_far : ℕ) : Type 0 where
+  pub few : so_far + length (inbox_at (seat n range)) ≤ other_events n * (admissions n + 16)
