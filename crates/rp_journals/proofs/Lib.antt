@@ -17,3 +17,5 @@ pub mod Alike
 pub mod Sizes
 pub mod Within
 pub mod Inboxes
+pub mod Handing
+pub mod Bounding

@@ -1,5 +1,5 @@
 -- How long the lists of a node can be: each event adds a little (this project).
-use Rattle.std.specs.Prelude.{◌≡◌, ℕ, ◌+◌, ◌*◌, ◌≤◌, Bool, true, false, not, ◌==◌, if◌then◌else◌, List, [], ◌∷◌, length, count_by, sum_by, Option, None, Some}
+use Rattle.std.specs.Prelude.{◌≡◌, ℕ, ◌+◌, ◌*◌, ◌^◌, ◌≤◌, Bool, true, false, not, ◌==◌, if◌then◌else◌, List, [], ◌∷◌, length, count_by, sum_by, Option, None, Some}
 use Rattle.std.specs.Option.{option_map_or}
 use Rattle.rp_base.specs.declared.items.Item.{Item}
 use Rattle.rp_request.specs.Applied.{AppliedState}
@@ -11,7 +11,7 @@ use Rattle.rp_events.specs.declared.node_events.Event.TheVariants as events
 use Rattle.rp_events.specs.declared.replica_events.ReplicaEvent.{ReplicaEvent}
 use Rattle.rp_events.specs.declared.replica_events.ReplicaEvent.TheVariants as at_replica
 use Rattle.rp_events.specs.ReplicaEvents.{event}
-use Rattle.rp_events.specs.Nodes.{Node, Status, Absent, Live, Removed, seat}
+use Rattle.rp_events.specs.Nodes.{Node, Status, Absent, Live, Removed, seat, journal_end}
 use Rattle.rp_events.specs.Worlds.{World, Scene, Schedule, node_of, event_of, taken_in, happens}
 use Rattle.rp_journals.specs.Ended.{pending_at}
 
@@ -102,3 +102,9 @@ handed_along range node w (x ∷ xs) =
 -- what a range's replica at this node has handed to Raft, and what waits in its inbox
 pub record IsHandedFew (range node : ℕ) (n : Node) (so_far : ℕ) : Type 0 where
   pub few : so_far + length (inbox_at (seat n range)) ≤ other_events n * (admissions n + 16)
+
+-- a journal has its end, and so has what a range's replica hands to Raft and what waits in its inbox: of
+-- five nodes it is less than 2^63
+pub record IsLow (n : Node) : Type 0 where
+  pub journal : length n.journal ≤ journal_end
+  pub product : other_events n * (admissions n + 16) ≤ 2 ^ 60 + 2 ^ 35

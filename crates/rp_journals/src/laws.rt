@@ -16,7 +16,7 @@ ghost use Rattle.rp_events.specs.declared.journals.JournalEntry.{JournalEntry};
 ghost use Rattle.rp_events.specs.declared.parcels.Parcel.{Parcel};
 ghost use Rattle.rp_events.specs.Replicas.{Replica, lease_of};
 ghost use Rattle.rp_events.specs.Nodes.{Node, parcel_of};
-ghost use Rattle.rp_events.specs.Worlds.{World, Happening, Scene, Schedule, node_of, sent_by, happens, run, is_admission_of, asked_at, outcome_at, outcome_of};
+ghost use Rattle.rp_events.specs.Worlds.{World, Happening, Scene, Schedule, first_world, node_of, sent_by, happens, run, is_admission_of, asked_at, outcome_at, outcome_of};
 ghost use Rattle.rp_events.specs.Lawful.{AllLawful, IsReached, IsLater};
 ghost use Rattle.rp_events.specs.Journals.{Replays, stood_before};
 ghost use Rattle.rp_events.specs.Lists.{IsLiveAt, IsWritten, IsAdmitted, IsAdmittedUnder, StoodAs};
@@ -26,6 +26,7 @@ ghost use Rattle.rp_journals.specs.Entries.{AllReadBack, WasWritten};
 ghost use Rattle.rp_journals.specs.Asked.{times_asked, AskedOnce, WasAdmitted, AskedNowhereElse, all_at};
 ghost use Rattle.rp_journals.specs.Alike.{AllKeepSame};
 ghost use Rattle.rp_journals.specs.Elsewhere.{IsAhead, HappensThere};
+ghost use Rattle.rp_journals.specs.Numbers.{IsWithin, IsHandedFew, IsLow, handed_along};
 ghost use Rattle.rp_journals.specs.Ended.{Balanced, AllFrom, AllTrueEnds, IsHeldThere};
 
 /// Each scene and each schedule adds to what the nodes keep, at the ends of their lists.
@@ -160,4 +161,22 @@ pub fn events_of_a_node_happen_elsewhere()
 pub fn a_world_is_told_by_its_lists()
     ensures { (nodes : ℕ) (w : World) (v : World) → IsReached nodes w → Replays v
         → AllKeepSame w v → v ≡ w }
+{}
+
+/// The lists and counts of a node stay within its journal: what is pending and told within its
+/// admissions, ticks and rounds within its other events; and no journal passes its end.
+pub fn a_nodes_lists_stay_within_its_journal()
+    ensures within { (nodes : ℕ) (w : World) → IsReached nodes w → (node : ℕ) (n : Node)
+        → node_of w node ≡ Some n → IsWithin n }
+    ensures low { (nodes : ℕ) (w : World) → IsReached nodes w → (node : ℕ) (n : Node)
+        → node_of w node ≡ Some n → IsWithin n → IsLow n }
+{}
+
+/// What a range's replica at a node has handed to Raft, with what waits in its inbox, is at most
+/// the events of its node that are no admissions times sixteen more than its admissions.
+pub fn few_payloads_are_handed_to_raft()
+    ensures { (nodes : ℕ) → IsReached nodes (first_world nodes) → (xs : Schedule)
+        → AllLawful (first_world nodes) xs → (range : ℕ) → range < 8 → (node : ℕ) (n : Node)
+        → node_of (run (first_world nodes) xs) node ≡ Some n
+        → IsHandedFew range node n (handed_along range node (first_world nodes) xs) }
 {}
