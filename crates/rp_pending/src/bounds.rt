@@ -6,6 +6,7 @@ ghost use Rattle.rp_pending.specs.Bounds.{bound_at, lowest, may_hold, wanted_of,
 ghost use Rattle.rp_pending.specs.Slots.{Slot};
 
 use crate::proposals::Proposal;
+use crate::refreshes::REFRESH_TICKS;
 use crate::slots::Slots;
 use rp_base::{LeaseIndex, NoMemory, Tick};
 use std::alloc::Global;
@@ -80,7 +81,7 @@ impl Bound {
     {
         match *wanted {
             Wanted::Back { lai } => self.max <= lai.get(),
-            Wanted::Again { now, .. } => now.get().saturating_sub(self.since) >= 5,
+            Wanted::Again { now, .. } => { now.get().saturating_sub(self.since) >= REFRESH_TICKS }
         }
     }
 }

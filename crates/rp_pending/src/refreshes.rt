@@ -38,7 +38,7 @@ pub(crate) struct Due {
 }
 
 /// A refresh proposes a proposal again after so many ticks.
-const REFRESH_TICKS: u64 = 5;
+pub(crate) const REFRESH_TICKS: u64 = 5;
 
 impl Stage {
     pub(crate) fn is_proposed(self) -> bool
