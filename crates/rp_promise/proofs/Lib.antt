@@ -1,1 +1,2 @@
 mod Replicas
+mod Turned

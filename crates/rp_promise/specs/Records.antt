@@ -62,8 +62,7 @@ SnapUpTo bound (Snap term index index_term snapshot) = index ≤ bound
 
 -- one range: the first `reach` entries of its list have a record at some node, and nothing that a node
 -- has applied or that a snapshot shows goes beyond
-pub record RecordsOk (w : World) (range : ℕ) (h : machine.World) : Type 0 where
-  pub reach : ℕ
+pub record RecordsOk (w : World) (range : ℕ) (h : machine.World) (reach : ℕ) : Type 0 where
   pub within : reach ≤ length h.log
   pub histories : (node : ℕ) (past : History) → HasApplied w node range past
       → HistoryOk h (base_of range) reach past
@@ -93,9 +92,10 @@ pub record KeepsReply (w : World) (node : ℕ) (id : CmdId) (reply : Reply) : Ty
 
 -- all ranges: their records, the entries that opened them, and the places of those that were told Success
 pub record AllRecords (w : World) (m : Ranges) : Type 0 where
-  pub each : (range : ℕ) → RecordsOk w range (m.range range)
-  pub origins : (range : ℕ) → 0 < range → IsHad w range
-      → IsOpenedBelow m (λ r. (each r).reach) range
+  -- of each range so many entries have a record
+  pub reach : ℕ → ℕ
+  pub each : (range : ℕ) → RecordsOk w range (m.range range) (reach range)
+  pub origins : (range : ℕ) → 0 < range → IsHad w range → IsOpenedBelow m reach range
   pub successes : (node : ℕ) (n : Node) (id : CmdId) (reply : Reply) → node_of w node ≡ Some n
       → Contains {X = Ended} n.outcomes (record { id = id; outcome = Success reply })
       → KeepsReply w node id reply
