@@ -1,2 +1,3 @@
 mod Replicas
 mod Turned
+mod Scenes
