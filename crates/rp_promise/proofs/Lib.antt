@@ -1,3 +1,5 @@
 mod Replicas
 mod Turned
 mod Scenes
+mod Stands
+mod Kept

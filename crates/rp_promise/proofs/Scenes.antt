@@ -42,6 +42,14 @@ pub get_last : {A : Type 0} (xs : List A) (x : A) → slice_get (xs ++ x ∷ [])
 get_last [] x = refl
 get_last (z ∷ xs) x = get_last xs x
 
+pub get_push : {A : Type 0} (xs : List A) (y : A) (i : ℕ) (x : A) → slice_get (xs ++ y ∷ []) i ≡ Some x → (slice_get xs i ≡ Some x) ⊎ ((i ≡ length xs) × (x ≡ y))
+get_push {A} [] y zero x e = inr (refl, some_is e) where
+  some_is : ◌≡◌ {A = Option A} (Some y) (Some x) → x ≡ y
+  some_is e' = cc
+get_push [] y (suc i) x e = inl e
+get_push (z ∷ xs) y zero x e = inl e
+get_push {A} (z ∷ xs) y (suc i) x e = ⊎_elim (λ (old : slice_get xs i ≡ Some x). inl old) (λ (new : (i ≡ length xs) × (x ≡ y)). inr (ap suc new.0, new.1)) (get_push xs y i x e)
+
 -- the node that changes, and the others
 get_set_same : (w : World) (place : ℕ) (n new : Node) → slice_get w place ≡ Some n → slice_get (set w place new) place ≡ Some new
 get_set_same [] place n new e = absurd cc
