@@ -171,19 +171,19 @@ module _ (lists : OneList AppliedState) (w : World) (m : Ranges) (seen : ℕ →
     }
 
     -- the records beside the machine as it is behind the scene
-    moved : RecordsOk w range k reach
+    pub moved : RecordsOk w range k reach
     moved = go (m.opened range) refl where
       go : (o : Bool) → m.opened range ≡ o → RecordsOk w range k reach
       go true e = records_later h k (later e) w range reach (a.each range)
       go false e = shut_records e
 
     -- the entry that is applied now
-    record Next (r : Replica) (p : Payload) : Type 0 where
-      o : HistoryOk k base reach r.applied
-      within : o.to < length k.log
-      entry_is : entry k.log o.to ≡ p
+    pub record Next (r : Replica) (p : Payload) : Type 0 where
+      pub o : HistoryOk k base reach r.applied
+      pub within : o.to < length k.log
+      pub entry_is : entry k.log o.to ≡ p
 
-    next_of : (r : Replica) (p : Payload) → AppliedAt t.n.seats t.new.seats range r p → Next r p
+    pub next_of : (r : Replica) (p : Payload) → AppliedAt t.n.seats t.new.seats range r p → Next r p
     next_of r p g =
         let o : HistoryOk k base reach r.applied = moved.histories node r.applied (record { n = t.n; has = t.has; history = ap history_in g.live }) in
         let s = seat_stands lists w m seen b node t.n range r t.has g.live in
@@ -208,19 +208,19 @@ module _ (lists : OneList AppliedState) (w : World) (m : Ranges) (seen : ℕ →
         (λ (s : (g.index ≡ right_base) × SplitNow t.n.seats t.new.seats range). let own = split_base s.1 in let e = s.0 in omega (arith, own, e))
         g.source
 
-    abbrev shows : ℕ
+    abbrev pub shows : ℕ
     shows = applied_in (seat t.new range)
 
-    abbrev reach' : ℕ
+    abbrev pub reach' : ℕ
     reach' = max reach (shows - base)
 
     -- the seat's index is one that has records, or one more
-    record Grown : Type 0 where
-      r : Replica
-      p : Payload
-      applied : AppliedAt t.n.seats t.new.seats range r p
-      next : Next r p
-      index : shows ≡ base + suc next.o.to
+    pub record Grown : Type 0 where
+      pub r : Replica
+      pub p : Payload
+      pub applied : AppliedAt t.n.seats t.new.seats range r p
+      pub next : Next r p
+      pub index : shows ≡ base + suc next.o.to
 
     tight_was : (o : Option History) → history_in (seat t.n range) ≡ o → option_map_or (λ (past : History). past.index) o 0 ≤ base + reach
     tight_was None e = omega arith
@@ -229,7 +229,7 @@ module _ (lists : OneList AppliedState) (w : World) (m : Ranges) (seen : ℕ →
         let at = o.at in let within = o.within in
         omega (arith, at, within)
 
-    grown_by : (r : Replica) (p : Payload) → AppliedAt t.n.seats t.new.seats range r p → Grown
+    abbrev pub grown_by : (r : Replica) (p : Payload) → AppliedAt t.n.seats t.new.seats range r p → Grown
     grown_by r p g =
         let next = next_of r p g in
         let is : shows ≡ r.applied.index + 1 = ap (λ z. option_map_or (λ (past : History). past.index) z 0) g.history in
@@ -339,11 +339,11 @@ module _ (lists : OneList AppliedState) (w : World) (m : Ranges) (seen : ℕ →
       go (begins g) = subst (λ z. HistoryOk k base reach' z) (sym g.history ∙ some_past g.replica.applied past (sym (ap history_in g.is) ∙ is)) (begun g)
 
     -- the nodes of the world behind the scene
-    now : (other : ℕ) (o : Node) → node_of after other ≡ Some o → ((other ≡ node) × (o ≡ t.new)) ⊎ (node_of w other ≡ Some o)
+    pub now : (other : ℕ) (o : Node) → node_of after other ≡ Some o → ((other ≡ node) × (o ≡ t.new)) ⊎ (node_of w other ≡ Some o)
     now other o has = node_now w node t.new other o (sym (ap (λ z. node_of z other) t.after) ∙ has)
 
     -- the record of the entry that is applied now
-    newly_kept : (v : Grown) → Keeps after node range (base + v.next.o.to + 1) (record_at k v.next.o.to)
+    pub newly_kept : (v : Grown) → Keeps after node range (base + v.next.o.to + 1) (record_at k v.next.o.to)
     newly_kept v =
         let past : History = v.r.applied in
         let rec : Record = record_of past.state v.p in

@@ -2,4 +2,6 @@ mod Replicas
 mod Turned
 mod Scenes
 mod Stands
+mod Places
 mod Kept
+mod Opened
