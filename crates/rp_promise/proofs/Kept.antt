@@ -116,12 +116,12 @@ history_lifts h base reach more past le o = record { to = o.to; at = o.at; withi
 abbrev applied_in : Status → ℕ
 applied_in status = option_map_or (λ (past : History). past.index) (history_in status) 0
 
-no_record : (index at : ℕ) (r : Record) → StandsIn (none_after index) at r → ⊥
+pub no_record : (index at : ℕ) (r : Record) → StandsIn (none_after index) at r → ⊥
 no_record index at r s = none_some s.here where
   none_some : ◌≡◌ {A = Option Record} None (Some r) → ⊥
   none_some e = cc
 
-one_piece : (piece other : Piece) → Contains (piece ∷ []) other → other ≡ piece
+pub one_piece : (piece other : Piece) → Contains (piece ∷ []) other → other ≡ piece
 one_piece piece other c = go c.0 c.1 c.2 where
   go : (i : ℕ) → i < length (piece ∷ []) → slice_index_or (piece ∷ []) i other ≡ other → other ≡ piece
   go zero lt e = sym e

@@ -5,3 +5,4 @@ mod Stands
 mod Places
 mod Kept
 mod Opened
+mod First

@@ -164,9 +164,11 @@ applied_keeps past p piece index r among stands =
     let rec : Record = record_of past.state p in
     ⊎_elim
     (λ (old : Contains past.earlier piece). (piece, Contains-append_left past.earlier (with_record past.records rec ∷ []) piece old, stands))
-    (λ (last : Contains (past.records ∷ []) piece).
-    (with_record past.records rec, Contains-append_right past.earlier (with_record past.records rec ∷ []) (with_record past.records rec) (0, omega arith, refl),
-    further rec (subst (λ z. StandsIn z index r) (one_is past.records piece last) stands)))
+    (λ (last : Contains (past.records ∷ []) piece). (
+      with_record past.records rec,
+      Contains-append_right past.earlier (with_record past.records rec ∷ []) (with_record past.records rec) (0, omega arith, refl),
+      further rec (subst (λ z. StandsIn z index r) (one_is past.records piece last) stands),
+    ))
     (Contains-append_cases past.earlier (past.records ∷ []) piece among)
   where
     further : (rec : Record) → StandsIn past.records index r → StandsIn (with_record past.records rec) index r

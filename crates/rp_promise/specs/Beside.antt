@@ -23,13 +23,14 @@ pub record StandsWith (lists : OneList AppliedState) (w : World) (m : Ranges)
   pub bound : Bound lists w m seen
   pub records : AllRecords w m
 
--- beside a later world the machine has gone on lawfully, and so has Raft in each range
+-- beside a later world the machine has gone on lawfully, and Raft in each range by further events
 pub record GoesOn (lists : OneList AppliedState) (m : Ranges) (seen : ℕ → List raft.Event)
     (later : World) : Type 0 where
   pub ranges : Ranges
   pub events : ℕ → List raft.Event
   pub onward : AreLater m ranges
-  pub stands : StandsWith lists later ranges (λ range. seen range ++ events range)
+  pub grown : (range : ℕ) → (more : List raft.Event) × (events range ≡ seen range ++ more)
+  pub stands : StandsWith lists later ranges events
 
 -- an attempt that the machine has in a range: one journal has its admission there, at its node, for its
 -- request and under its sequence

@@ -1,0 +1,5 @@
+use Rattle.rp_promise.proofs.laws.the_first_world_keeps_no_record.Goals as goal
+use Rattle.rp_promise.proofs.First.{first_records}
+
+pub returns : goal.returns
+returns c = λ lists nodes few m seen b. first_records lists nodes few m seen b
