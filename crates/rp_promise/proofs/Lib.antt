@@ -6,3 +6,5 @@ mod Places
 mod Kept
 mod Opened
 mod First
+mod Listed
+mod States
