@@ -8,3 +8,4 @@ mod Opened
 mod First
 mod Listed
 mod States
+mod Lawful

@@ -210,8 +210,8 @@ module _ (w : World) (m : Ranges) (reached : AreReached m) (a : AllRecords w m) 
         ∙ ap (λ n. places.Split opening.command.id opening.key n opening.command.seq ∷ []) right_is in (
           k.0,
           k.1
-          ∙ ap (λ xs. xs ++ k.0) (one_more (m.range left).start (m.range left).log index in_log ∙ ap (λ ys. items_to (m.range left) index ++ ys) last)
-          ∙ append_assoc (items_to (m.range left) index) (x ∷ []) k.0,
+              ∙ ap (λ xs. xs ++ k.0) (one_more (m.range left).start (m.range left).log index in_log ∙ ap (λ ys. items_to (m.range left) index ++ ys) last)
+              ∙ append_assoc (items_to (m.range left) index) (x ∷ []) k.0,
         )
 
     splits : SplitsOff (start left) (lists_of records left) range (start range)
