@@ -1,2 +1,4 @@
 pub mod Quiet
 pub mod Onward
+pub mod Below
+pub mod Asked
