@@ -2,3 +2,4 @@ pub mod Quiet
 pub mod Onward
 pub mod Below
 pub mod Asked
+pub mod Admissions
