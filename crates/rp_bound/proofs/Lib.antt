@@ -3,3 +3,5 @@ pub mod Onward
 pub mod Below
 pub mod Asked
 pub mod Admissions
+pub mod Led
+pub mod Owners
