@@ -5,3 +5,4 @@ pub mod Asked
 pub mod Admissions
 pub mod Led
 pub mod Owners
+pub mod Next
