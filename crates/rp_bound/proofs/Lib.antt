@@ -6,3 +6,5 @@ pub mod Admissions
 pub mod Led
 pub mod Owners
 pub mod Next
+pub mod First
+pub mod Along

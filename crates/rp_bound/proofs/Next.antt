@@ -43,7 +43,7 @@ some_nodes w zero n has = absurd cc
 some_nodes w (suc place) n has = let l = slice_get_within w place n has in omega (arith, l)
 
 -- a range that has just begun, at nodes that have nothing of it
-begun_ok : (lists : OneList AppliedState) (range : ℕ) (seen : List raft.Event) (w : World) (h : machine.World) (s : AppliedState) → h ≡ begin s → 0 < h.start.lease.holder → 0 < length w
+pub begun_ok : (lists : OneList AppliedState) (range : ℕ) (seen : List raft.Event) (w : World) (h : machine.World) (s : AppliedState) → h ≡ begin s → 0 < h.start.lease.holder → 0 < length w
     → IsShut range seen w → RangeOk lists (length w) range h.start seen w h
 begun_ok lists range seen w h s is holder some shut =
     subst (λ (z : machine.World). RangeOk lists (length w) range z.start seen w z) (sym is)
