@@ -1,0 +1,11 @@
+pub mod Lists
+pub mod Growing
+pub mod Reading
+pub mod Writing
+pub mod Staying
+pub mod Asking
+pub mod Admitting
+pub mod Counting
+pub mod Balancing
+pub mod Coming
+pub mod Causing

@@ -1,0 +1,4 @@
+pub mod Growth
+pub mod Entries
+pub mod Asked
+pub mod Ended
