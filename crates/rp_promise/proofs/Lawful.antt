@@ -19,16 +19,19 @@ use Rattle.rp_request.specs.declared.items.Record.TheVariants.{Took}
 use Rattle.rp_request.proofs.Opened.{item_tells}
 use Rattle.rp_raftsafe.specs.World as raft
 use Rattle.rp_raftsafe.specs.Safety.{OneList}
+use Rattle.rp_base.specs.declared.ids.CmdId.{CmdId}
 use Rattle.rp_rangesafe.specs.Along.{entry}
+use Rattle.rp_rangesafe.specs.Attempts as stages
 use Rattle.rp_rangesafe.specs.World as machine
 use Rattle.rp_rangesafe.specs.World.{state_at}
-use Rattle.rp_rangesafe.specs.Places.{IsPlace, items_to}
+use Rattle.rp_rangesafe.specs.Places.{IsReached, IsPlace, items_to}
 use Rattle.rp_rangesafe.specs.Places as machine_places
 use Rattle.rp_rangesafe.specs.Ranges.{Ranges, lists}
 use Rattle.rp_rangesafe.proofs.Joint.{range_reached}
 use Rattle.rp_rangesafe.proofs.Once.{once_in_all, placed_born}
-use Rattle.rp_rangesafe.proofs.OneRange.{fold_is_state, lawful_place}
+use Rattle.rp_rangesafe.proofs.OneRange.{fold_is_state, lawful_place, refused_never}
 use Rattle.rp_rangesafe.proofs.Rights.{begin_with}
+use Rattle.rp_rangesafe.proofs.Runs.{later_itself}
 use Rattle.rp_events.specs.Worlds.{World}
 use Rattle.rp_events.specs.Lists.{Claim, claim_of, IsAdmittedUnder}
 use Rattle.rp_events.specs.Promises.{lists_of, TakesEffect, IsLawfulPlace, IsLawfulLease, PlacesAreLawful}
@@ -37,7 +40,10 @@ use Rattle.rp_promise.proofs.Scenes.{get_front}
 use Rattle.rp_promise.proofs.Places.{claim_by, does, ItemAt, item_at, TakenCommand, TakenAsk, taken_by, PlaceAt, place_at, place_says}
 use Rattle.rp_promise.proofs.Listed.{records, start, lists_are}
 
--- the lease of an ask that is taken follows
+-- an attempt with a place was not refused
+pub placed_unrefused : (h : machine.World) → IsReached h → (id : CmdId) (i : ℕ) (c : Command) → IsPlace h id i c → (h.attempt id).stage ≡ stages.Refused → ⊥
+placed_unrefused h reached id i c p refused = refused_never h reached id refused h i c (later_itself h) p
+
 module _ (one : OneList AppliedState) (w : World) (m : Ranges) (seen : ℕ → List raft.Event) (k : IsPromising one w m seen) where
   abbrev all : ℕ → List Place
   all = lists_of (records w m k.now.bound.reached k.now.records)
@@ -109,7 +115,7 @@ module _ (one : OneList AppliedState) (w : World) (m : Ranges) (seen : ℕ → L
               takes_effect = record { under = sym l.seq; bounded = l.evaluates.bounded; effect_is = d.left; takes = d.takes; answers = sym d.reply };
               admitted = subst (λ z. IsAdmittedUnder w c.id range c.request z) (sym l.of.seq)
                   (subst (λ z. IsAdmittedUnder w c.id range z ((m.range range).attempt c.id).seq) (sym l.of.request)
-                  (k.journaled.admitted c.id range (placed_born (m.range range) reached c.id at.index c p)).0);
+                  (k.journaled.admitted c.id range (placed_born (m.range range) reached c.id at.index c p) (placed_unrefused (m.range range) reached c.id at.index c p)).0);
             }
 
   leased : (range place : ℕ) (lease : leases.Lease) → slice_get (all range) place ≡ Some (places.Lease lease) → IsLawfulLease (starts_at range) (all range) place lease

@@ -9,3 +9,4 @@ mod First
 mod Listed
 mod States
 mod Lawful
+mod Outcomes
