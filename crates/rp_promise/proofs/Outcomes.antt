@@ -7,7 +7,7 @@ use Rattle.std.proofs.lemmas.Bool.{cases_eq}
 use Rattle.std.proofs.lemmas.Option.{slice_get_within, get_or_from_slice_get}
 use Rattle.rp_base.specs.Ids.{same_id}
 use Rattle.rp_base.specs.declared.ids.CmdId.{CmdId}
-use Rattle.rp_base.proofs.IdLaws.{same_is}
+use Rattle.rp_base.proofs.IdLaws.{same_is, same_itself}
 use Rattle.rp_request.specs.Applied.{AppliedState}
 use Rattle.rp_request.specs.History.{History}
 use Rattle.rp_request.specs.declared.commands.Command.{Command}
@@ -35,6 +35,7 @@ use Rattle.rp_events.specs.declared.answers.Ended.{Ended}
 use Rattle.rp_events.specs.declared.answers.EventAnswer.{EventAnswer}
 use Rattle.rp_events.specs.declared.answers.EventAnswer.TheVariants as answers
 use Rattle.rp_events.specs.declared.journals.JournalEntry.{JournalEntry}
+use Rattle.rp_events.specs.declared.journals.PastEvent.TheVariants as past
 use Rattle.rp_events.specs.Nodes as nodes
 use Rattle.rp_events.specs.Nodes.{Node, Status, seat}
 use Rattle.rp_events.specs.Worlds.{World, node_of, is_admission_of, asked_at, ended_of, outcome_by, outcome_at, outcome_of}
@@ -235,3 +236,96 @@ module _ (lists : OneList AppliedState) (w : World) (m : Ranges) (seen : ℕ →
       in_range : (node : ℕ) (n : Node) (x : TellsMade id (Refused why) node n) (p : Option Proposal) → TellsOf node ((m.range x.range).attempt id) p (Some (Refused why)) → ((m.range x.range).attempt id).stage ≡ stages.Refused
       in_range node n x None tells = refused_stage ((m.range x.range).attempt id).stage why (tells (x.made.born, sym x.own))
       in_range node n x (Some p) tells = let f = tells.pending in absurd cc
+
+module _ (lists : OneList AppliedState) (w : World) (m : Ranges) (seen : ℕ → List raft.Event) (k : IsPromising lists w m seen) where
+  abbrev b : Bound lists w m seen
+  b = k.now.bound
+
+  -- Refused means never
+  refused : (id : CmdId) (why : Refusal) → outcome_of w id ≡ Some (Refused why) → NeverHasAPlace w id
+  refused id why e later node range index claim on kept same =
+      let z = k.later later on in
+      let p = kept_at lists later z.ranges z.events z.stands.bound z.stands.records node range index claim kept in
+      let named : p.at.command.id ≡ id = ap (λ (c : Claim). c.id) p.at.says ∙ same in
+      refused_nowhere m b.reached id (refused_is lists w m seen b id why e) z.ranges range p.place p.at.command z.onward
+      (subst (λ x. IsPlace (z.ranges.range range) x p.place p.at.command) named p.at.place)
+
+  -- what is pending has no place that its node keeps
+  pending_untaken : (id : CmdId) (node : ℕ) (n : Node) (x : TellsMade lists w m seen b id Pending node n) (p : Option Proposal) → TellsOf node ((m.range x.range).attempt id) p (Some Pending)
+      → IsUntaken ((m.range x.range).attempt id).stage
+  pending_untaken id node n x None tells = absurd (pending_stage ((m.range x.range).attempt id).stage (tells (x.made.born, sym x.own)))
+  pending_untaken id node n x (Some p) tells = placed_untaken p.stage p.max ((m.range x.range).attempt id) tells.place
+
+  unplaced : (id : CmdId) (node place range index : ℕ) (request : Request) (claim : Claim) → outcome_of w id ≡ Some Pending → IsAdmitted w id node place range request
+      → KeepsPlace w node range index claim → claim.id ≡ id → ⊥
+  unplaced id node place range index request claim e admitted kept same =
+      let t = told_at w id Pending e in
+      ⊎_elim
+      (λ (x : TellsMade lists w m seen b id Pending t.node t.n). made t.node t.n x (pending_untaken id t.node t.n x (proposal_of id (pending_in (seat t.n x.range))) x.tells))
+      (λ (x : TellsTurned lists w m seen b id Pending). pending_refused x.why x.is)
+      (who_tells lists w m seen b id Pending t.node t.n t.has t.told)
+    where
+      pending_refused : (why : Refusal) → Pending ≡ Refused why → ⊥
+      pending_refused why f = cc
+
+      made : (at : ℕ) (n : Node) (x : TellsMade lists w m seen b id Pending at n) → IsUntaken ((m.range x.range).attempt id).stage → ⊥
+      made at n x untaken =
+          let p = kept_at lists w m seen b k.now.records node range index claim kept in
+          let named : p.at.command.id ≡ id = ap (λ (c : Claim). c.id) p.at.says ∙ same in
+          let here : IsPlace (m.range range) id p.place p.at.command = subst (λ y. IsPlace (m.range range) y p.place p.at.command) named p.at.place in
+          let one : range ≡ x.range = one_range m b.reached id range x.range (placed_born (m.range range) (range_reached m b.reached range) id p.place p.at.command here) x.made.born in
+          let there : IsPlace (m.range x.range) id p.place p.at.command = subst (λ r. IsPlace (m.range r) id p.place p.at.command) one here in
+          let below : p.place < (m.range x.range).index node = subst (λ r. p.place < (m.range r).index node) one p.applied in
+          ⊎_elim
+          (λ (own : node ≡ ((m.range x.range).attempt id).node).
+          (dead_by_stage (m.range x.range) (range_reached m b.reached x.range) id).untaken untaken p.place p.at.command (subst (λ q. p.place < (m.range x.range).index q) own below) there)
+          (λ (other : node ≡ ((m.range x.range).attempt id).node → ⊥).
+          admitted_told admitted.n id place (record { event = past.Admit range id admitted.at; answer = answers.Admitted }) admitted.here (same_itself id)
+          (x.made.others node admitted.n admitted.has other))
+          (cases_eq node ((m.range x.range).attempt id).node)
+
+  -- Success is the reply at its place
+  success : (id : CmdId) (reply : Reply) → outcome_of w id ≡ Some (Success reply) → HasPlaceWith w id reply
+  success id reply e =
+      let t = told_at w id (Success reply) e in
+      let r = k.now.records.successes t.node t.n id reply t.has (told_success t.n id reply t.told) in
+      let claim : Claim = record { id = id; request = r.request; seq = r.seq; reply = reply } in
+      let p = kept_at lists w m seen b k.now.records t.node r.range r.index (record { id = id; request = r.request; seq = r.seq; reply = reply }) r.kept in
+      let reached = range_reached m b.reached r.range in
+      let named : p.at.command.id ≡ id = ap (λ (c : Claim). c.id) p.at.says in
+      let here : IsPlace (m.range r.range) id p.place p.at.command = subst (λ y. IsPlace (m.range r.range) y p.place p.at.command) named p.at.place in
+      let born = placed_born (m.range r.range) reached id p.place p.at.command here in
+      let under = k.journaled.admitted id r.range born (placed_unrefused (m.range r.range) reached id p.place p.at.command here) in
+      let of = (lawful_place (m.range r.range) reached id p.place p.at.command here).of in
+      let asks : r.request ≡ ((m.range r.range).attempt id).body.request = ap (λ (c : Claim). c.request) (sym p.at.says) ∙ of.request in
+      let node_is : t.node ≡ under.0.node = ⊎_elim
+      (λ (x : TellsMade lists w m seen b id (Success reply) t.node t.n).
+      let one : x.range ≡ r.range = one_range m b.reached id x.range r.range x.made.born born in
+      x.own ∙ ap (λ q. ((m.range q).attempt id).node) one ∙ sym under.1)
+      (λ (x : TellsTurned lists w m seen b id (Success reply)). absurd (success_refused x.why x.is))
+      (who_tells lists w m seen b id (Success reply) t.node t.n t.has t.told) in
+      record {
+        node = under.0.node;
+        admitted_at = under.0.place;
+        range = r.range;
+        request = ((m.range r.range).attempt id).body.request;
+        admitted = under.0.admitted;
+        index = r.index;
+        seq = r.seq;
+        kept = subst (λ q. KeepsPlace w q r.range r.index (record { id = id; request = ((m.range r.range).attempt id).body.request; seq = r.seq; reply = reply })) node_is
+            (subst (λ q. KeepsPlace w t.node r.range r.index (record { id = id; request = q; seq = r.seq; reply = reply })) asks r.kept);
+      }
+    where
+      success_refused : (why : Refusal) → Success reply ≡ Refused why → ⊥
+      success_refused why f = cc
+
+  pub outcomes_honest : OutcomesAreHonest w
+  outcomes_honest = record {
+    once = k.journaled.once;
+    known = k.journaled.known;
+    success = success;
+    refused = refused;
+    ambiguous = k.journaled.caused;
+    pending = k.journaled.pending;
+    unplaced = unplaced;
+  }
