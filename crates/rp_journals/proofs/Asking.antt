@@ -56,7 +56,7 @@ node_any test w (suc place) n has is = any_at test w place n has is
 pub written_asked : (w : World) (id : CmdId) (node place : ℕ) (e : JournalEntry) → IsWritten w node place e → is_admission_of id e ≡ true → was_asked w id ≡ true
 written_asked w id node place e is adm = node_any (asked_at id) w node is.n is.has (any_at (is_admission_of id) is.n.journal place e is.here adm)
 
-true_not_false : (b : Bool) → b ≡ true → b ≡ false → ⊥
+pub true_not_false : (b : Bool) → b ≡ true → b ≡ false → ⊥
 true_not_false true e f = absurd cc
 true_not_false false e f = absurd cc
 
@@ -103,7 +103,7 @@ module _ (w : World) (n : Node) (taken : List Item) (id : CmdId) where
   admits worlds.Restart ev came adm = other_event _ events.Restart ev (some_event _ ev came) refl adm
   admits worlds.Round ev came adm = other_event _ events.Round ev (some_event _ ev came) refl adm
 
-not_true : (b : Bool) → not b ≡ true → b ≡ false
+pub not_true : (b : Bool) → not b ≡ true → b ≡ false
 not_true true e = absurd cc
 not_true false e = refl
 
@@ -116,7 +116,7 @@ new_unasked w x k l id adm =
     let a : Admitting id x.what = admits w k.n (taken_in x.what) id x.what k.event k.came adm in
     begins_unasked w id a.request (subst (λ what. is_allowed w x.node what ≡ true) a.is (allowed w x k.n k.has l).1)
 
-once_scene : (w : World) (x : Scene) → IsTrue (is_lawful w x) → AskedOnce w → AskedOnce (happens w x)
+pub once_scene : (w : World) (x : Scene) → IsTrue (is_lawful w x) → AskedOnce w → AskedOnce (happens w x)
 once_scene w x l h = ⊎_elim
     (λ (same : happens w x ≡ w). subst AskedOnce (sym same) h)
     (λ (k : Happened w x). λ id node place e is adm other j f is' adm'.

@@ -68,13 +68,13 @@ seat_le f (s ∷ seats) (suc range) none =
     let more = seat_le f seats range none in
     omega (arith, a, more)
 
-abbrev in_seat : CmdId → Status → ℕ
+abbrev pub in_seat : CmdId → Status → ℕ
 in_seat q status = pending_of q (pending_at status)
 
-abbrev total : CmdId → Node → ℕ
+abbrev pub total : CmdId → Node → ℕ
 total q n = times_told q n + times_pending q n
 
-abbrev TotalOnce : Node → Type 0
+abbrev pub TotalOnce : Node → Type 0
 TotalOnce n = (q : CmdId) → total q n ≤ 1
 
 turn_total : (q : CmdId) (n : Node) (range : ℕ) (r : Replica) (status : Status) (d : Done) (k : ℕ) → seat n range ≡ Live r → told_of q d.outcomes + in_seat q status ≡ pending_of q r.pending + k

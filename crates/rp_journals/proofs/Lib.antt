@@ -9,3 +9,8 @@ pub mod Counting
 pub mod Balancing
 pub mod Coming
 pub mod Causing
+pub mod Ending
+pub mod Telling
+pub mod Waiting
+pub mod Elsewhere
+pub mod Alike

@@ -39,7 +39,7 @@ mapped_some {A} {B} f (Some a) b e = (a, refl, some_is (f a) b e) where
   some_is : (x y : B) → ◌≡◌ {A = Option B} (Some x) (Some y) → x ≡ y
   some_is x y e = cc
 
-abbrev admitting : (range : ℕ) → CmdId → Request → Event AppliedState
+abbrev pub admitting : (range : ℕ) → CmdId → Request → Event AppliedState
 admitting range id request = events.Admit range id request
 
 -- an event of a journal reads the same from lists that have grown

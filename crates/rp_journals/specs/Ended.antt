@@ -13,8 +13,9 @@ use Rattle.rp_events.specs.declared.answers.EventAnswer.TheVariants as answers
 use Rattle.rp_events.specs.declared.journals.JournalEntry.{JournalEntry}
 use Rattle.rp_events.specs.declared.journals.PastEvent.TheVariants as past
 use Rattle.rp_events.specs.Nodes.{Node, Status, Absent, Live, Removed, seat}
-use Rattle.rp_events.specs.Worlds.{World, node_of, is_admission_of}
-use Rattle.rp_events.specs.Promises.{HasCause}
+use Rattle.rp_events.specs.Worlds.{World, node_of, is_admission_of, outcome_of}
+use Rattle.rp_events.specs.Lists.{IsAdmitted}
+use Rattle.rp_events.specs.Promises.{HasCause, times_ended}
 
 -- the pending proposals of a seat
 abbrev pub pending_at : Status → List Proposal
@@ -70,3 +71,11 @@ IsTrueEnd w id outcomes.Pending = ⊥
 abbrev pub AllTrueEnds : World → Type 0
 AllTrueEnds w = (node : ℕ) (n : Node) → node_of w node ≡ Some n
     → AllByRecursion (λ (e : Ended). IsTrueEnd w e.id e.outcome) n.outcomes
+
+-- the proposal's attempt was admitted in this range of this node, for its request, is told that it is
+-- pending, and has no end
+pub record IsHeldThere (w : World) (id : CmdId) (node range : ℕ) (p : Proposal) : Type 0 where
+  pub place : ℕ
+  pub admitted : IsAdmitted w id node place range p.request
+  pub told : outcome_of w id ≡ Some outcomes.Pending
+  pub unended : times_ended w id ≡ 0

@@ -2,3 +2,5 @@ pub mod Growth
 pub mod Entries
 pub mod Asked
 pub mod Ended
+pub mod Elsewhere
+pub mod Alike

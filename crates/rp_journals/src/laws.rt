@@ -1,22 +1,31 @@
 //! Laws of the nodes' own lists, for every scene and every schedule. No program calls these functions.
-ghost use Rattle.std.specs.Prelude.{◌≡◌, ℕ, ◌≤◌, true, List, length, slice_get, Some};
+ghost use Rattle.std.specs.Prelude.{◌≡◌, ◌⊎◌, ℕ, ◌<◌, ◌≤◌, true, IsTrue, List, length, slice_get, count_by, Some};
 ghost use Rattle.std.specs.List.{find};
 ghost use Rattle.rp_base.specs.declared.ids.CmdId.{CmdId};
 ghost use Rattle.rp_request.specs.Applied.{AppliedState};
 ghost use Rattle.rp_request.specs.declared.outcomes.Outcome.{Outcome};
-ghost use Rattle.rp_request.specs.declared.outcomes.Outcome.TheVariants.{Pending};
+ghost use Rattle.rp_request.specs.declared.outcomes.Ambiguity.{Ambiguity};
+ghost use Rattle.rp_request.specs.declared.outcomes.Outcome.TheVariants.{Ambiguous, Pending};
+ghost use Rattle.rp_request.specs.declared.outcomes.Refusal.{Refusal};
+ghost use Rattle.rp_pending.specs.Proposals.{has_id, proposal_of};
+ghost use Rattle.rp_pending.specs.declared.proposals.Proposal.{Proposal};
+ghost use Rattle.rp_events.specs.declared.answers.EventAnswer.TheVariants.{Admitted, Refused};
 ghost use Rattle.rp_request.specs.declared.requests.Request.{Request};
 ghost use Rattle.rp_events.specs.declared.journals.JournalEntry.{JournalEntry};
 ghost use Rattle.rp_events.specs.declared.parcels.Parcel.{Parcel};
 ghost use Rattle.rp_events.specs.Replicas.{Replica, lease_of};
 ghost use Rattle.rp_events.specs.Nodes.{Node, parcel_of};
-ghost use Rattle.rp_events.specs.Worlds.{World, Scene, Schedule, node_of, sent_by, happens, run, is_admission_of, asked_at, outcome_at};
-ghost use Rattle.rp_events.specs.Lawful.{IsReached, IsLater};
+ghost use Rattle.rp_events.specs.Worlds.{World, Happening, Scene, Schedule, node_of, sent_by, happens, run, is_admission_of, asked_at, outcome_at, outcome_of};
+ghost use Rattle.rp_events.specs.Lawful.{AllLawful, IsReached, IsLater};
 ghost use Rattle.rp_events.specs.Journals.{Replays, stood_before};
-ghost use Rattle.rp_events.specs.Lists.{IsWritten, IsAdmitted, IsAdmittedUnder, StoodAs};
+ghost use Rattle.rp_events.specs.Lists.{IsLiveAt, IsWritten, IsAdmitted, IsAdmittedUnder, StoodAs};
+ghost use Rattle.rp_events.specs.Promises.{HasCause, IsPendingThere, times_ended};
 ghost use Rattle.rp_journals.specs.Growth.{Grows, WorldGrows};
 ghost use Rattle.rp_journals.specs.Entries.{AllReadBack, WasWritten};
-ghost use Rattle.rp_journals.specs.Asked.{times_asked, AskedOnce, WasAdmitted};
+ghost use Rattle.rp_journals.specs.Asked.{times_asked, AskedOnce, WasAdmitted, AskedNowhereElse, all_at};
+ghost use Rattle.rp_journals.specs.Alike.{AllKeepSame};
+ghost use Rattle.rp_journals.specs.Elsewhere.{IsAhead, HappensThere};
+ghost use Rattle.rp_journals.specs.Ended.{Balanced, AllFrom, AllTrueEnds, IsHeldThere};
 
 /// Each scene and each schedule adds to what the nodes keep, at the ends of their lists.
 pub fn the_nodes_lists_only_grow()
@@ -89,4 +98,63 @@ pub fn what_was_admitted_was_let_through()
         → IsAdmitted w id node place range request
         → (a : WasAdmitted w id node place range request) → a.replica.raft.head.node ≡ node
         → IsAdmittedUnder w id range request (lease_of a.replica).seq }
+{}
+
+/// What a node admitted is pending there or its end was told, never both and never twice; so an attempt
+/// ends at most once, and only what was admitted ends.
+pub fn each_attempt_ends_once()
+    ensures balanced { (nodes : ℕ) (w : World) → IsReached nodes w → Balanced w }
+    ensures once { (nodes : ℕ) (w : World) → IsReached nodes w → (id : CmdId)
+        → times_ended w id ≤ 1 }
+    ensures known { (nodes : ℕ) (w : World) → IsReached nodes w → (id : CmdId)
+        → 0 < times_ended w id → (node : ℕ) × (place : ℕ) × (range : ℕ) × (request : Request)
+        × IsAdmitted w id node place range request }
+{}
+
+/// What is pending was admitted, in its range and for its request, and has not ended; no two proposals
+/// of a replica have one id; and what is told to be pending is pending at the replica that admitted it.
+pub fn what_is_pending_was_admitted()
+    ensures from { (nodes : ℕ) (w : World) → IsReached nodes w → AllFrom w }
+    ensures distinct { (nodes : ℕ) (w : World) → IsReached nodes w → (node : ℕ) (range : ℕ)
+        → (r : Replica) → IsLiveAt w node range r → (id : CmdId)
+        → count_by (has_id id) r.pending ≤ 1 }
+    ensures held { (nodes : ℕ) (w : World) → IsReached nodes w → (node : ℕ) (range : ℕ)
+        → (r : Replica) → IsLiveAt w node range r → (id : CmdId) (p : Proposal)
+        → proposal_of id r.pending ≡ Some p → IsHeldThere w id node range p }
+    ensures there { (nodes : ℕ) (w : World) → IsReached nodes w → (id : CmdId)
+        → outcome_of w id ≡ Some Pending → IsPendingThere w id }
+{}
+
+/// Each ambiguous outcome has its cause: an event of its node's journal, behind its admission, while it
+/// was proposed; and no attempt ends as pending.
+pub fn each_ambiguous_outcome_has_its_cause()
+    ensures ends { (nodes : ℕ) (w : World) → IsReached nodes w → AllTrueEnds w }
+    ensures ambiguous { (nodes : ℕ) (w : World) → IsReached nodes w → (id : CmdId)
+        → (why : Ambiguity) → outcome_of w id ≡ Some (Ambiguous why) → HasCause w id why }
+{}
+
+/// The outcome of an attempt is what the node tells that was asked; an admission is granted or refused.
+pub fn the_outcome_is_that_of_its_node()
+    ensures here { (w : World) → AskedOnce w → (id : CmdId) (node : ℕ) (n : Node)
+        → node_of w node ≡ Some n → asked_at id n ≡ true → outcome_of w id ≡ outcome_at id n }
+    ensures answer { (nodes : ℕ) (w : World) → IsReached nodes w → (id : CmdId) (node : ℕ)
+        → (place : ℕ) (e : JournalEntry) → IsWritten w node place e
+        → IsTrue (is_admission_of id e)
+        → (e.answer ≡ Admitted) ⊎ ((why : Refusal) × (e.answer ≡ Refused why)) }
+{}
+
+/// Events of a node that are lawful in a world are lawful in one in which the other nodes have gone on,
+/// leave the same node there, and leave every other as it is: where no other node was asked for the
+/// attempts that begin in them.
+pub fn events_of_a_node_happen_elsewhere()
+    ensures { (w : World) (other : World) (node : ℕ) (xs : List Happening) → IsAhead w other node
+        → AskedNowhereElse other node xs → AllLawful w (all_at node xs)
+        → HappensThere w other node xs }
+{}
+
+/// Nodes that are what their journals say, and have kept what those of a reached world have kept, are
+/// that world: so each law of reached worlds speaks of them.
+pub fn a_world_is_told_by_its_lists()
+    ensures { (nodes : ℕ) (w : World) (v : World) → IsReached nodes w → Replays v
+        → AllKeepSame w v → v ≡ w }
 {}

@@ -2,3 +2,4 @@ pub mod Dues
 pub mod Proposals
 pub mod Refreshes
 pub mod Slots
+pub mod Turns

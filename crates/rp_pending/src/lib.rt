@@ -9,5 +9,5 @@ mod refreshes;
 mod slots;
 
 pub use lists::Pending;
-pub use proposals::{Proposal, Stage};
-pub use refreshes::{Ids, Refresh};
+pub use proposals::{Proposal, Stage, Standing};
+pub use refreshes::{Ids, Refresh, Standings};

@@ -4,11 +4,13 @@ ghost use Rattle.std.specs.List.{IsDistinct};
 ghost use Rattle.std.specs.Option.{option_copied};
 ghost use Rattle.rp_pending.specs.Refreshes.{first_round, to_refresh, waiting_of};
 ghost use Rattle.rp_base.specs.Ids.{same_id};
+ghost use Rattle.rp_pending.specs.Dues.{standing};
 ghost use Rattle.rp_pending.specs.Proposals.{proposal_of, without, with_changed, proposed, waiting_again};
+ghost use Rattle.rp_pending.specs.Turns.{dropped_back, given_up, goes_back_at, handed_out, is_made_at, is_proposed_at, repeated, taken_back, turned_at, waits_at};
 
 use crate::proposals::{Change, Proposal};
-use crate::refreshes::{self, Ids, Refresh};
-use crate::slots::{Slots, change, clear, get, put, take, tidy};
+use crate::refreshes::{self, Ids, Refresh, Standings};
+use crate::slots::{self, Slots, clear, get, keep_staying, put, take, tidy};
 use rp_base::{CmdId, LeaseIndex, NoMemory, Tick};
 use rp_request::WaitList;
 use std::alloc::Global;
@@ -103,7 +105,7 @@ impl Pending {
         ensures list { self.new.list ≡ with_changed id (proposed max now round) self.old.list }
         ensures spare { self.old.spare ≤ self.new.spare }
     {
-        change(&mut self.slots, id, Change::Propose { max, now, round });
+        let _ = slots::change(&mut self.slots, id, Change::Propose { max, now, round });
     }
 
     /// The proposal with this id waits for a lease index again.
@@ -112,7 +114,73 @@ impl Pending {
         ensures list { self.new.list ≡ with_changed id waiting_again self.old.list }
         ensures spare { self.old.spare ≤ self.new.spare }
     {
-        change(&mut self.slots, id, Change::WaitAgain);
+        let _ = slots::change(&mut self.slots, id, Change::WaitAgain);
+    }
+
+    /// Makes a change of the proposal with this id where it stands as the change wants it, and says
+    /// whether it did.
+    fn turn(&mut self, id: CmdId, change: Change) -> bool
+        ensures made { result ≡ is_made_at change (proposal_of id self.old.list) }
+        ensures list { self.new.list ≡ turned_at change id self.old.list }
+        ensures spare { self.old.spare ≤ self.new.spare }
+    {
+        slots::change(&mut self.slots, id, change)
+    }
+
+    /// The proposal with this id is proposed under a lease index, where it waits. It says whether
+    /// it did; else nothing is done.
+    pub fn hand_out(&mut self, id: CmdId, max: LeaseIndex, now: Tick, round: u64) -> bool
+        ensures done { result ≡ waits_at id self.old.list }
+        ensures list { self.new.list ≡ handed_out id max now round self.old.list }
+        ensures spare { self.old.spare ≤ self.new.spare }
+    {
+        self.turn(id, Change::HandOut { max, now, round })
+    }
+
+    /// The proposal with this id is pending no more, where it waits. It says whether it waited; else
+    /// nothing is done.
+    pub fn give_up(&mut self, id: CmdId) -> bool
+        ensures done { result ≡ waits_at id self.old.list }
+        ensures list { self.new.list ≡ given_up id self.old.list }
+        ensures spare { self.old.spare ≤ self.new.spare }
+    {
+        match self.find(id) {
+            Some(proposal) if !proposal.stage.is_proposed() => {
+                let _ = self.finish(id);
+                true
+            }
+            _ => false,
+        }
+    }
+
+    /// The proposal with this id waits for a lease index again, where it is proposed under an index
+    /// at or below the lease applied index. It says whether it does; else nothing is done.
+    pub fn take_back(&mut self, id: CmdId, lai: LeaseIndex) -> bool
+        ensures done { result ≡ goes_back_at lai id self.old.list }
+        ensures list { self.new.list ≡ taken_back id lai self.old.list }
+        ensures spare { self.old.spare ≤ self.new.spare }
+    {
+        self.turn(id, Change::TakeBack { lai })
+    }
+
+    /// The proposal with this id is proposed once more under its index, where it is proposed. It
+    /// says whether it was; else nothing is done.
+    pub fn repeat(&mut self, id: CmdId, now: Tick, round: u64) -> bool
+        ensures done { result ≡ is_proposed_at id self.old.list }
+        ensures list { self.new.list ≡ repeated id now round self.old.list }
+        ensures spare { self.old.spare ≤ self.new.spare }
+    {
+        self.turn(id, Change::Repeat { now, round })
+    }
+
+    /// Those that are proposed under an index at or below this one are pending no more. It goes
+    /// through all that is pending.
+    pub fn drop_back(&mut self, lai: LeaseIndex)
+        ensures list { self.new.list ≡ dropped_back lai self.old.list }
+        ensures spare { self.old.spare ≤ self.new.spare }
+    {
+        keep_staying(&mut self.slots, lai);
+        self.count = self.slots.len();
     }
 
     /// The least round at which a pending proposal was flushed first, `None` where none was
@@ -128,6 +196,13 @@ impl Pending {
         ensures { IfOk result (λ ids. ids ≡ map (λ p. p.id) self.now.list) }
     {
         refreshes::ids(&self.slots)
+    }
+
+    /// How far all pending proposals have come, in order of admission.
+    pub fn standings(&self) -> Result<Standings, NoMemory>
+        ensures { IfOk result (λ all. all ≡ map standing self.now.list) }
+    {
+        refreshes::standings(&self.slots)
     }
 
     /// The proposals that wait for a lease index, in order of admission.

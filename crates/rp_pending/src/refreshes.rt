@@ -5,9 +5,9 @@ ghost use Rattle.std.specs.Option.{option_and_then};
 ghost use Rattle.rp_pending.specs.Proposals.{is_proposed};
 ghost use Rattle.rp_pending.specs.Refreshes.{by_key, first_round, goes_again, goes_back, ids_by_max, to_refresh, waiting_of, waits};
 ghost use Rattle.rp_pending.specs.Slots.{proposals_in};
-ghost use Rattle.rp_pending.specs.Dues.{again_due, back_due, due, id_of};
+ghost use Rattle.rp_pending.specs.Dues.{again_due, back_due, due, id_of, standing, standing_of};
 
-use crate::proposals::{Proposal, Stage};
+use crate::proposals::{Proposal, Stage, Standing};
 use crate::slots::Slots;
 use rp_base::{CmdId, LeaseIndex, NoMemory, Seq, Tick};
 use rp_request::{WaitList, Waiting};
@@ -15,6 +15,9 @@ use std::alloc::{AllocError, Global};
 
 /// Attempts in an order that the function says.
 pub type Ids = Seq<CmdId>;
+
+/// How far proposals have come, in order of admission.
+pub type Standings = Seq<Standing>;
 
 /// What a refresh does with the proposals of a replica.
 #[derive(Drop)]
@@ -36,7 +39,7 @@ pub(crate) struct Due {
 const REFRESH_TICKS: u64 = 5;
 
 impl Stage {
-    fn is_proposed(self) -> bool
+    pub(crate) fn is_proposed(self) -> bool
         ensures { result ≡ is_proposed self }
     {
         match self {
@@ -47,7 +50,7 @@ impl Stage {
 }
 
 impl Proposal {
-    fn goes_back(&self, lai: LeaseIndex) -> bool
+    pub(crate) fn goes_back(&self, lai: LeaseIndex) -> bool
         ensures { result ≡ goes_back lai self.now }
     {
         self.stage.is_proposed() && self.max <= lai
@@ -151,6 +154,38 @@ pub(crate) fn ids(slots: &Slots) -> Result<Ids, NoMemory>
     ensures { IfOk result (λ ids. ids ≡ map (λ p. p.id) (proposals_in slots.now.entries)) }
 {
     Ok(Seq::from_vec(all_ids(slots)?))
+}
+
+fn standing_in(slot: &Option<Proposal>) -> Option<Standing>
+    ensures { result ≡ option_and_then standing_of slot.now }
+{
+    match slot {
+        None => None,
+        Some(proposal) => Some(Standing {
+            id: proposal.id,
+            max: proposal.max,
+            stage: proposal.stage,
+        }),
+    }
+}
+
+fn all_standings(slots: &Slots) -> Result<Vec<Standing>, AllocError>
+    ensures { IfOk result
+        (λ v. v.items ≡ filter_map standing_of (proposals_in slots.now.entries)) }
+{
+    let alloc = *slots.allocator();
+    slots
+        .values()
+        .filter_map(|slot| standing_in(slot))
+        .collect(alloc)
+}
+
+/// How far all proposals have come, in order of admission.
+#[tactic(auto, using(crate::proofs::Reading::standings_are))]
+pub(crate) fn standings(slots: &Slots) -> Result<Standings, NoMemory>
+    ensures { IfOk result (λ all. all ≡ map standing (proposals_in slots.now.entries)) }
+{
+    Ok(Seq::from_vec(all_standings(slots)?))
 }
 
 fn round_in(slot: &Option<Proposal>) -> Option<u64>

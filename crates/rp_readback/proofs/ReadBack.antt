@@ -16,7 +16,7 @@ use Rattle.rp_base.proofs.ValueLaws.{first_above_sign}
 use Rattle.rp_request.specs.Fits.{FitsOption, FitsEnd, FitsRequest}
 use Rattle.rp_request.specs.declared.requests.Request.{Request}
 use Rattle.rp_request.specs.declared.requests.Request.TheVariants as requests
-use Rattle.rp_script.specs.Words.{words_of}
+use Rattle.rp_request.specs.Words.{words_of}
 use Rattle.rp_script.specs.Readers.{number_in, number_at, key_in, key_at, as_text, as_number, value_in, value_at, expect_at, bound_in, spanned, span_at}
 use Rattle.rp_script.specs.Requests.{request, request_of, put, add, cput, del, wipe, moving, split}
 use Rattle.rp_script.specs.Keywords.{request_word_of}
