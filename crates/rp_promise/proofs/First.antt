@@ -31,7 +31,7 @@ all_absent (suc count) zero = refl
 all_absent (suc count) (suc place) = all_absent count place
 
 -- what a node has at first
-first_seat : (node nodes k : ℕ) → seat (first_node node nodes) (suc k) ≡ Absent
+pub first_seat : (node nodes k : ℕ) → seat (first_node node nodes) (suc k) ≡ Absent
 first_seat node nodes k = all_absent 7 k
 
 none_some : (past : History) → ◌≡◌ {A = Option History} None (Some past) → ⊥

@@ -44,7 +44,7 @@ use Rattle.rp_promise.proofs.Listed.{records, start, lists_are}
 pub placed_unrefused : (h : machine.World) → IsReached h → (id : CmdId) (i : ℕ) (c : Command) → IsPlace h id i c → (h.attempt id).stage ≡ stages.Refused → ⊥
 placed_unrefused h reached id i c p refused = refused_never h reached id refused h i c (later_itself h) p
 
-module _ (one : OneList AppliedState) (w : World) (m : Ranges) (seen : ℕ → List raft.Event) (k : IsPromising one w m seen) where
+module _ (one : OneList AppliedState) (w : World) (m : Ranges) (seen : ℕ → List raft.Event) (nodes : ℕ) (k : IsPromising one nodes w m seen) where
   abbrev all : ℕ → List Place
   all = lists_of (records w m k.now.bound.reached k.now.records)
 
@@ -115,7 +115,7 @@ module _ (one : OneList AppliedState) (w : World) (m : Ranges) (seen : ℕ → L
               takes_effect = record { under = sym l.seq; bounded = l.evaluates.bounded; effect_is = d.left; takes = d.takes; answers = sym d.reply };
               admitted = subst (λ z. IsAdmittedUnder w c.id range c.request z) (sym l.of.seq)
                   (subst (λ z. IsAdmittedUnder w c.id range z ((m.range range).attempt c.id).seq) (sym l.of.request)
-                  (k.journaled.admitted c.id range (placed_born (m.range range) reached c.id at.index c p) (placed_unrefused (m.range range) reached c.id at.index c p)).0);
+                  (k.now.admitted c.id range (placed_born (m.range range) reached c.id at.index c p) (placed_unrefused (m.range range) reached c.id at.index c p)).0);
             }
 
   leased : (range place : ℕ) (lease : leases.Lease) → slice_get (all range) place ≡ Some (places.Lease lease) → IsLawfulLease (starts_at range) (all range) place lease

@@ -42,6 +42,8 @@ use Rattle.rp_events.specs.Worlds.{World, node_of, is_admission_of, asked_at, en
 use Rattle.rp_events.specs.Lawful.{IsLater}
 use Rattle.rp_events.specs.Lists.{base_of, history_in, HasApplied, Claim, KeepsPlace, IsAdmitted}
 use Rattle.rp_events.specs.Promises.{HasPlaceWith, NeverHasAPlace, OutcomesAreHonest}
+use Rattle.rp_journals.proofs.Telling.{told_once, known, ambiguous}
+use Rattle.rp_journals.proofs.Waiting.{pending_there}
 use Rattle.rp_seats.specs.Standing.{Bound, pending_in, StandsAs, HasPlace, IsToldAs, TellsOf, SeatOk, IsTurnedAway, IsMadeIn, IsOwned}
 use Rattle.rp_promise.specs.Records.{record_at, AllRecords}
 use Rattle.rp_promise.specs.Beside.{IsPromising}
@@ -237,7 +239,7 @@ module _ (lists : OneList AppliedState) (w : World) (m : Ranges) (seen : ℕ →
       in_range node n x None tells = refused_stage ((m.range x.range).attempt id).stage why (tells (x.made.born, sym x.own))
       in_range node n x (Some p) tells = let f = tells.pending in absurd cc
 
-module _ (lists : OneList AppliedState) (w : World) (m : Ranges) (seen : ℕ → List raft.Event) (k : IsPromising lists w m seen) where
+module _ (lists : OneList AppliedState) (w : World) (m : Ranges) (seen : ℕ → List raft.Event) (count : ℕ) (k : IsPromising lists count w m seen) where
   abbrev b : Bound lists w m seen
   b = k.now.bound
 
@@ -295,7 +297,7 @@ module _ (lists : OneList AppliedState) (w : World) (m : Ranges) (seen : ℕ →
       let named : p.at.command.id ≡ id = ap (λ (c : Claim). c.id) p.at.says in
       let here : IsPlace (m.range r.range) id p.place p.at.command = subst (λ y. IsPlace (m.range r.range) y p.place p.at.command) named p.at.place in
       let born = placed_born (m.range r.range) reached id p.place p.at.command here in
-      let under = k.journaled.admitted id r.range born (placed_unrefused (m.range r.range) reached id p.place p.at.command here) in
+      let under = k.now.admitted id r.range born (placed_unrefused (m.range r.range) reached id p.place p.at.command here) in
       let of = (lawful_place (m.range r.range) reached id p.place p.at.command here).of in
       let asks : r.request ≡ ((m.range r.range).attempt id).body.request = ap (λ (c : Claim). c.request) (sym p.at.says) ∙ of.request in
       let node_is : t.node ≡ under.0.node = ⊎_elim
@@ -321,11 +323,11 @@ module _ (lists : OneList AppliedState) (w : World) (m : Ranges) (seen : ℕ →
 
   pub outcomes_honest : OutcomesAreHonest w
   outcomes_honest = record {
-    once = k.journaled.once;
-    known = k.journaled.known;
+    once = told_once count w k.reached;
+    known = known count w k.reached;
     success = success;
     refused = refused;
-    ambiguous = k.journaled.caused;
-    pending = k.journaled.pending;
+    ambiguous = ambiguous count w k.reached;
+    pending = pending_there count w k.reached;
     unplaced = unplaced;
   }

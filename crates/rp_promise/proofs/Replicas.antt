@@ -40,7 +40,9 @@ use Rattle.rp_events.specs.declared.answers.EventAnswer.TheVariants as answers
 use Rattle.rp_events.specs.declared.replica_events.ReplicaEvent.{ReplicaEvent}
 use Rattle.rp_events.specs.declared.replica_events.ReplicaEvent.TheVariants.{Admit, Ask, Transfer, Collect, Flush, Tick, Deliver, Apply, Cut, Remove, Peek, Restart}
 use Rattle.rp_events.specs.Replicas.{Replica, Done, Told, untold, has_new_leader, lease_of, holds_lease, leaves}
-use Rattle.rp_events.specs.Moves.{Move, HandsOut, GivesUp, TakesBack, Repeats, hands_out, gives_up, takes_back, repeats, moved, moved_all, ended, then_told, then_is, hands_to_raft, proposed_under, waits_again}
+use Rattle.rp_events.specs.declared.moves.Move.{Move}
+use Rattle.rp_events.specs.declared.moves.Move.TheVariants.{HandsOut, GivesUp, TakesBack, Repeats}
+use Rattle.rp_events.specs.Moves.{hands_out, gives_up, takes_back, repeats, moved, moved_all, ended, then_told, then_is, hands_to_raft, proposed_under, waits_again}
 use Rattle.rp_events.specs.Admissions.{guarded, admitted_by, with_proposal, proposal}
 use Rattle.rp_events.specs.Flushes.{assigning, emptied, flush_moves}
 use Rattle.rp_events.specs.LeaseAsks.{joined, joined_all, same_ask, without_first, is_held, answers_ask, ask_for, expiry_of, lease_ticks}

@@ -21,6 +21,7 @@ use Rattle.rp_events.specs.Worlds.{World, Schedule, node_of, happens, run}
 use Rattle.rp_events.specs.Lawful.{AllLawful, IsLater}
 use Rattle.rp_events.specs.Lists.{IsLiveAt, history_in, HasApplied, Keeps}
 use Rattle.rp_events.specs.Promises.{LeadsAt, BothShow, StatesAgree}
+use Rattle.rp_journals.proofs.Reading.{replays}
 use Rattle.rp_seats.specs.Views.{core, core_of, view, range_at}
 use Rattle.rp_seats.specs.Standing.{Bound, RangeOk}
 use Rattle.rp_seats.proofs.Shaped.{length_with}
@@ -57,7 +58,7 @@ module _ (lists : OneList AppliedState) (w : World) (m : Ranges) (seen : ℕ →
       ap (λ (z : raft.Site AppliedState). z.status) (site_seen range w node l.n l.has)
       ∙ ap core_of l.live
 
-module _ (lists : OneList AppliedState) (w : World) (m : Ranges) (seen : ℕ → List raft.Event) (k : IsPromising lists w m seen) where
+module _ (lists : OneList AppliedState) (w : World) (m : Ranges) (seen : ℕ → List raft.Event) (nodes : ℕ) (k : IsPromising lists nodes w m seen) where
   abbrev b : Bound lists w m seen
   b = k.now.bound
 
@@ -118,5 +119,5 @@ module _ (lists : OneList AppliedState) (w : World) (m : Ranges) (seen : ℕ →
     onward = onward;
     one_leader = λ later p q range term on first second. leader_one range (live_there lists w m seen b p range first.replica first.live) later on (k.later later on) p q term first second;
     commits_agree = λ later p q range index r s on first second both. commits_one range (live_there lists w m seen b p range r first) later on (k.later later on) p q r s first second index both;
-    replays = k.journaled.replays;
+    replays = replays nodes w k.reached;
   }
