@@ -1,23 +1,23 @@
-mod Turns
-mod Nodes
-mod Worlds
-mod Proposals
-mod Moves
-mod Ends
-mod Told
-mod Shaped
-mod Others
-mod Commits
-mod Shown
-mod Seats
-mod Outcomes
-mod Bound
-mod Scenes
-mod Events
-mod Ticks
-mod Jumps
-mod Messages
-mod Opens
-mod Begins
-mod Shut
-mod Admits
+pub mod Turns
+pub mod Nodes
+pub mod Worlds
+pub mod Proposals
+pub mod Moves
+pub mod Ends
+pub mod Told
+pub mod Shaped
+pub mod Others
+pub mod Commits
+pub mod Shown
+pub mod Seats
+pub mod Outcomes
+pub mod Bound
+pub mod Scenes
+pub mod Events
+pub mod Ticks
+pub mod Jumps
+pub mod Messages
+pub mod Opens
+pub mod Begins
+pub mod Shut
+pub mod Admits
