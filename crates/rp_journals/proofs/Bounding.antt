@@ -1,17 +1,16 @@
 -- How large all that can be, while no journal is full.
-use Rattle.std.proofs.Common.{◌≡◌, ℕ, zero, suc, ◌+◌, ◌-◌, ◌*◌, ◌^◌, ◌<◌, ◌≤◌, Bool, true, false, ⊎_elim, Option, None, Some, List, [], ◌∷◌, ◌++◌, length, length-append, refl, sym, ap, subst, ◌∙◌, arith}
-use Rattle.std.specs.Prelude.{not, ◌&&◌, nat_le}
-use Rattle.std.specs.Option.{option_map_or}
+use Rattle.std.proofs.Common.{◌≡◌, ℕ, ◌+◌, ◌-◌, ◌*◌, ◌^◌, ◌<◌, ◌≤◌, false, ⊎_elim, Some, [], ◌∷◌, length, length-append, sym, ap, subst, ◌∙◌, arith}
+use Rattle.std.specs.Prelude.{nat_le}
 use Rattle.std.proofs.lemmas.Bool.{cases_lt, leb-false}
 use Rattle.std.proofs.Math.Nat.{mul-le-mul, mul-add, add-mul, mul_comm}
-use Rattle.rp_events.specs.Nodes.{Node, is_full, journal_end, first_node}
+use Rattle.rp_events.specs.Nodes.{Node, is_full, journal_end}
 use Rattle.rp_events.specs.NodeEvents.{step}
 use Rattle.rp_events.specs.Worlds.{World, Scene, Schedule, first_world, node_of, taken_in, happens, run}
-use Rattle.rp_events.specs.Lawful.{is_allowed, is_lawful, Lawful, AllLawful, IsReached}
-use Rattle.rp_journals.specs.Numbers.{admissions, other_events, IsWithin, IsHandedFew, IsLow}
+use Rattle.rp_events.specs.Lawful.{Lawful, AllLawful, IsReached}
+use Rattle.rp_journals.specs.Numbers.{admissions, other_events, IsWithin, IsLow}
 use Rattle.rp_journals.proofs.Growing.{Happened, happened}
 use Rattle.rp_journals.proofs.Reading.{entry_of, step_journal, node_after, first_at}
-use Rattle.rp_journals.proofs.Asking.{allowed, not_true, true_not_false}
+use Rattle.rp_journals.proofs.Asking.{allowed, not_true}
 
 -- twice a product is no more than the sum of the squares
 module _ (a d : ℕ) where

@@ -1,21 +1,17 @@
 -- What a range's replica at a node hands to Raft along a schedule.
-use Rattle.std.proofs.Common.{◌≡◌, ℕ, zero, suc, ◌+◌, ◌*◌, ◌<◌, ◌≤◌, Bool, true, false, cond, eqb, ⊎_elim, Option, None, Some, List, [], ◌∷◌, ◌++◌, length, refl, sym, ap, subst, ◌∙◌, arith, eq-eqb}
-use Rattle.std.specs.Prelude.{◌==◌, not, nat_le, count_by}
+use Rattle.std.proofs.Common.{◌≡◌, ℕ, zero, suc, ◌+◌, ◌*◌, ◌<◌, ◌≤◌, Bool, true, false, cond, eqb, Some, [], ◌∷◌, length, refl, sym, ap, subst, ◌∙◌, arith, eq-eqb}
+use Rattle.std.specs.Prelude.{not, count_by}
 use Rattle.std.specs.Option.{option_map_or}
-use Rattle.std.proofs.lemmas.Bool.{cases_eq, ne_eqb, leb-true}
+use Rattle.std.proofs.lemmas.Bool.{ne_eqb, leb-true}
 use Rattle.std.proofs.Math.Nat.{mul-le-mul_left, suc-mul}
 use Rattle.rp_base.proofs.Counts.{count_push}
-use Rattle.rp_base.specs.declared.items.Item.{Item}
-use Rattle.rp_request.specs.Applied.{AppliedState}
 use Rattle.rp_events.specs.declared.journals.JournalEntry.{JournalEntry}
-use Rattle.rp_events.specs.declared.node_events.Event.{Event}
-use Rattle.rp_events.specs.Nodes.{Node, Status, Absent, Live, seat, first_node}
+use Rattle.rp_events.specs.Nodes.{Node, seat, first_node}
 use Rattle.rp_events.specs.NodeEvents.{step, past_of}
 use Rattle.rp_events.specs.Worlds as worlds
 use Rattle.rp_events.specs.Worlds.{World, Happening, Scene, Schedule, first_world, node_of, with_node, event_of, taken_in, happens, run}
 use Rattle.rp_events.specs.Lawful.{is_allowed, Lawful, AllLawful, IsReached}
-use Rattle.rp_journals.specs.Ended.{pending_at}
-use Rattle.rp_journals.specs.Numbers.{inbox_at, handed, is_admission, admissions, other_events, all_pending, IsWithin, handed_here, handed_in, handed_along, IsHandedFew}
+use Rattle.rp_journals.specs.Numbers.{handed, is_admission, admissions, other_events, all_pending, IsWithin, handed_here, handed_in, handed_along, IsHandedFew}
 use Rattle.rp_journals.proofs.Growing.{reached_later}
 use Rattle.rp_journals.proofs.Reading.{entry_of, step_journal, node_after, first_at}
 use Rattle.rp_journals.proofs.Writing.{later_scene}
@@ -83,13 +79,13 @@ module _ (range : ℕ) (below : range < 8) where
       let le : pending_long (seat n range) ≤ all_pending n = seat_le pending_long n.seats range refl in
       let b : Bool = is_admission (past_of n e.0 (taken_in x.what)) in
       let admitted : admissions new ≡ admissions n + one_if b =
-          ap (count_by (λ (z : JournalEntry). is_admission z.event)) (step_journal n e.0 (taken_in x.what)) ∙ count_push (λ (z : JournalEntry). is_admission z.event) n.journal (entry_of n e.0 (taken_in x.what)) in
+      ap (count_by (λ (z : JournalEntry). is_admission z.event)) (step_journal n e.0 (taken_in x.what)) ∙ count_push (λ (z : JournalEntry). is_admission z.event) n.journal (entry_of n e.0 (taken_in x.what)) in
       let others : other_events new ≡ other_events n + one_if (not b) =
-          ap (count_by (λ (z : JournalEntry). not (is_admission z.event))) (step_journal n e.0 (taken_in x.what)) ∙ count_push (λ (z : JournalEntry). not (is_admission z.event)) n.journal (entry_of n e.0 (taken_in x.what)) in
+      ap (count_by (λ (z : JournalEntry). not (is_admission z.event))) (step_journal n e.0 (taken_in x.what)) ∙ count_push (λ (z : JournalEntry). not (is_admission z.event)) n.journal (entry_of n e.0 (taken_in x.what)) in
       let handed_is : handed_in range w x ≡ length (handed range n e.0 (taken_in x.what)) = ap (λ o. option_map_or (handed_here range w x) o 0) f.1 ∙ ap (λ o. option_map_or (λ z. length (handed range n z (taken_in x.what))) o 0) e.1 in
       let here : cond (eqb x.node x.node) (handed_in range w x) 0 ≡ length (handed range n e.0 (taken_in x.what)) = ap (λ c. cond c (handed_in range w x) 0) (eq-eqb x.node x.node refl) ∙ handed_is in
       let grown = product_grows b (other_events n) (admissions n) (pending_long (seat n range)) (waiting_at (seat n range)) (waiting_at (seat new range)) (so_far x.node) (length (handed range n e.0 (taken_in x.what)))
-          (few x.node n f.1) short (omega (arith, le, pending)) in
+      (few x.node n f.1) short (omega (arith, le, pending)) in
       let product : other_events new * (admissions new + 16) ≡ (other_events n + one_if (not b)) * (admissions n + one_if b + 16) = ap (λ z. z * (admissions new + 16)) others ∙ ap (λ z. (other_events n + one_if (not b)) * (z + 16)) admitted in
       subst (Few (and_here so_far w x)) (sym (happens_is w x n e.0 f.1 e.1))
       (node_after (FewAt (and_here so_far w x)) w x.node n new f.1

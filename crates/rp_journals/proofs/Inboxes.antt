@@ -1,9 +1,9 @@
 -- What a range's replica hands to Raft, and what waits in its inbox.
-use Rattle.std.proofs.Common.{◌≡◌, ℕ, zero, suc, ◌+◌, ◌*◌, ◌<◌, ◌≤◌, Bool, true, false, cond, eqb, ⊎_elim, Option, None, Some, List, [], ◌∷◌, ◌++◌, length, set, refl, sym, ap, subst, ◌∙◌, arith, eq-eqb, eqb-true, get_or-set_same, get_or-set_other}
-use Rattle.std.specs.Prelude.{◌==◌, slice_index_or}
+use Rattle.std.proofs.Common.{◌≡◌, ℕ, zero, suc, ◌+◌, ◌<◌, ◌≤◌, cond, eqb, ⊎_elim, Option, None, Some, List, [], ◌∷◌, length, set, refl, sym, ap, subst, ◌∙◌, arith, eq-eqb, get_or-set_same, get_or-set_other}
+use Rattle.std.specs.Prelude.{slice_index_or}
 use Rattle.std.specs.List.{AllByRecursion}
 use Rattle.std.specs.Option.{option_map_or}
-use Rattle.std.proofs.lemmas.Bool.{cond_both, cases_eq, cases_lt, ne_eqb, eqb-false}
+use Rattle.std.proofs.lemmas.Bool.{cases_eq, cases_lt, ne_eqb}
 use Rattle.std.proofs.lemmas.List.{get_or_past}
 use Rattle.rp_base.specs.declared.items.Item.{Item}
 use Rattle.rp_raftstep.specs.declared.messages.Message.{Message}
@@ -15,12 +15,11 @@ use Rattle.rp_events.specs.declared.replica_events.ReplicaEvent.{ReplicaEvent}
 use Rattle.rp_events.specs.declared.replica_events.ReplicaEvent.TheVariants.{Admit, Ask, Transfer, Collect, Flush, Tick, Deliver, Apply, Cut, Remove, Peek, Restart}
 use Rattle.rp_events.specs.Replicas.{Replica, Done, started}
 use Rattle.rp_events.specs.ReplicaEvents.{event}
-use Rattle.rp_events.specs.Nodes.{Node, NodeDone, Status, Absent, Live, Removed, seat, opened, opened_by, after_turn, range_numbers, right_base, right_base_term}
-use Rattle.rp_events.specs.NodeEvents.{status_after, after_replica, by_status, live_turn, all_turns, delivered, seat_by_message, acted, step, with_request, past_of}
+use Rattle.rp_events.specs.Nodes.{Node, Status, Absent, Live, Removed, seat, opened, opened_by, after_turn, range_numbers, right_base, right_base_term}
+use Rattle.rp_events.specs.NodeEvents.{status_after, after_replica, by_status, live_turn, all_turns, delivered, seat_by_message, acted, with_request, past_of}
 use Rattle.rp_journals.specs.Ended.{pending_at}
-use Rattle.rp_journals.specs.Numbers.{inbox_at, at_range, tick_in, handed_by, handed, is_admission}
-use Rattle.rp_journals.proofs.Counting.{one_if}
-use Rattle.rp_journals.proofs.Sizes.{IsShort, event_short}
+use Rattle.rp_journals.specs.Numbers.{inbox_at, handed_by, handed, is_admission}
+use Rattle.rp_journals.proofs.Sizes.{event_short}
 
 abbrev pub waiting_at : Status → ℕ
 waiting_at status = length (inbox_at status)

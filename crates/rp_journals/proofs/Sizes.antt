@@ -1,6 +1,6 @@
 -- How much an event of a replica adds to its lists.
-use Rattle.std.proofs.Common.{◌≡◌, ℕ, zero, suc, ◌+◌, ◌<◌, ◌≤◌, Bool, true, false, cond, ⊎_elim, Option, None, Some, Result, Ok, Err, List, [], ◌∷◌, ◌++◌, length, map, max, length-append, refl, sym, ap, subst, ◌∙◌, arith}
-use Rattle.std.specs.Prelude.{not, ◌&&◌, ◌||◌, ◌==◌, nat_lt, nat_le, filter_map, is_none, option_and_then}
+use Rattle.std.proofs.Common.{◌≡◌, ℕ, suc, ◌+◌, ◌≤◌, Bool, true, false, cond, Option, None, Some, Result, Ok, Err, List, [], ◌∷◌, ◌++◌, length, map, max, length-append, refl, ap, ◌∙◌, arith}
+use Rattle.std.specs.Prelude.{not, ◌&&◌, ◌==◌, nat_lt, nat_le, filter_map, is_none, option_and_then}
 use Rattle.std.specs.List.{filter, find, list_any, cons_option}
 use Rattle.std.specs.Option.{option_map, option_map_or}
 use Rattle.std.proofs.lemmas.Bool.{cond_both, and_parts, ltb-true, leb-true}
@@ -9,9 +9,7 @@ use Rattle.rp_base.specs.Ids.{same_id}
 use Rattle.rp_base.specs.declared.ids.CmdId.{CmdId}
 use Rattle.rp_base.specs.declared.items.Item.{Item}
 use Rattle.rp_base.specs.declared.items.Item.TheVariants as items
-use Rattle.rp_base.specs.declared.leases.Lease.{Lease}
 use Rattle.rp_base.specs.declared.leases.LeaseAsk.{LeaseAsk}
-use Rattle.rp_raftstep.specs.declared.messages.Message.{Message}
 use Rattle.rp_raftstep.specs.Step.{Draft, tick, received}
 use Rattle.rp_request.specs.Applied.{AppliedState, command_verdict}
 use Rattle.rp_request.specs.declared.commands.Command.{Command}
@@ -22,7 +20,6 @@ use Rattle.rp_request.specs.declared.outcomes.Outcome.{Outcome}
 use Rattle.rp_request.specs.declared.outcomes.Outcome.TheVariants as outcomes
 use Rattle.rp_request.specs.declared.outcomes.Refusal.{Refusal}
 use Rattle.rp_request.specs.declared.outcomes.Refusal.TheVariants.{NotLeaseHolder}
-use Rattle.rp_request.specs.declared.requests.Request.{Request}
 use Rattle.rp_request.specs.declared.verdicts.Verdict.{Verdict}
 use Rattle.rp_request.specs.declared.verdicts.Verdict.TheVariants as verdicts
 use Rattle.rp_pending.specs.Proposals.{has_id, proposal_of, without, with_changed, proposed, waiting_again, is_proposed}
@@ -32,7 +29,6 @@ use Rattle.rp_flush.specs.declared.assigns.Assigned.{Assigned}
 use Rattle.rp_pending.specs.Refreshes.{waiting_of, goes_back, goes_again, put_by, by_key, ids_by_max, to_refresh}
 use Rattle.rp_pending.specs.declared.proposals.Proposal.{Proposal}
 use Rattle.rp_pending.specs.declared.refreshes.Refresh.{Refresh}
-use Rattle.rp_events.specs.declared.answers.Ended.{Ended}
 use Rattle.rp_events.specs.declared.answers.EventAnswer.TheVariants as answers
 use Rattle.rp_events.specs.declared.moves.Move.{Move}
 use Rattle.rp_events.specs.declared.moves.Move.TheVariants.{HandsOut, GivesUp, TakesBack, Repeats}
@@ -41,11 +37,11 @@ use Rattle.rp_events.specs.declared.replica_events.ReplicaEvent.TheVariants.{Adm
 use Rattle.rp_events.specs.Replicas.{Replica, Done, Told, leaves, untold, lease_of, holds_lease, has_new_leader}
 use Rattle.rp_events.specs.Admissions.{guarded, admitted_by, proposal}
 use Rattle.rp_events.specs.Applications.{is_own, settled, proposer_told, payload_of, next_entry, applied_where}
-use Rattle.rp_events.specs.Ends.{end_of, ends_all, overtaken_by, removed_with, lost_under}
+use Rattle.rp_events.specs.Ends.{end_of, overtaken_by, removed_with, lost_under}
 use Rattle.rp_events.specs.Flushes.{assigning, flush_moves, emptied}
 use Rattle.rp_events.specs.LeaseAsks.{lease_ticks, is_held, expiry_of, ask_for, answers_ask, same_ask, without_first, joined, joined_all}
 use Rattle.rp_events.specs.Moves.{write_of, payloads_of, ended, hands_out, gives_up, takes_back, repeats, moved, moved_all}
-use Rattle.rp_events.specs.Refreshes.{refreshing, refresh_moves, with_taken, delivered_by}
+use Rattle.rp_events.specs.Refreshes.{refreshing, refresh_moves, with_taken}
 use Rattle.rp_events.specs.ReplicaEvents.{event}
 use Rattle.rp_events.specs.NodeEvents.{status_after}
 use Rattle.rp_journals.specs.Ended.{pending_at}

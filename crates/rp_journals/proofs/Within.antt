@@ -1,7 +1,6 @@
 -- A node's lists and counts stay within its journal.
-use Rattle.std.proofs.Common.{◌≡◌, ℕ, zero, suc, ◌+◌, ◌-◌, ◌<◌, ◌≤◌, Bool, true, false, cond, max, ⊎_elim, Option, None, Some, List, [], ◌∷◌, ◌++◌, length, length-append, refl, sym, ap, subst, ◌∙◌, arith}
-use Rattle.std.specs.Prelude.{not, count_by, sum_by, filter_map, fold}
-use Rattle.std.proofs.lemmas.Bool.{cond_both}
+use Rattle.std.proofs.Common.{◌≡◌, ℕ, ◌+◌, ◌-◌, ◌≤◌, Bool, true, false, max, ⊎_elim, Option, None, Some, List, [], ◌∷◌, ◌++◌, length, length-append, refl, sym, ap, subst, ◌∙◌, arith}
+use Rattle.std.specs.Prelude.{not, count_by, filter_map, fold}
 use Rattle.rp_base.specs.declared.ids.CmdId.{CmdId}
 use Rattle.rp_base.specs.declared.items.Item.{Item}
 use Rattle.rp_base.proofs.Counts.{count_cons, count_push}
@@ -16,7 +15,7 @@ use Rattle.rp_events.specs.declared.replica_events.ReplicaEvent.{ReplicaEvent}
 use Rattle.rp_events.specs.declared.replica_events.ReplicaEvent.TheVariants.{Admit, Ask, Transfer, Collect, Flush, Tick, Deliver, Apply, Cut, Remove, Peek, Restart}
 use Rattle.rp_events.specs.Replicas.{Replica, Done, started}
 use Rattle.rp_events.specs.ReplicaEvents.{event}
-use Rattle.rp_events.specs.Nodes.{Node, NodeDone, Status, Absent, Live, Removed, seat, opened, opened_by, after_turn, first_node, first_round_in, longest_wait, range_numbers, right_base, right_base_term}
+use Rattle.rp_events.specs.Nodes.{Node, Status, Absent, Live, Removed, seat, opened, opened_by, after_turn, first_round_in, range_numbers, right_base, right_base_term}
 use Rattle.rp_events.specs.NodeEvents.{status_after, after_replica, by_status, live_turn, all_turns, delivered, seat_by_message, acted, step, with_request, past_of}
 use Rattle.rp_events.specs.Worlds.{World, Scene, Schedule, first_world, node_of, taken_in, happens, run}
 use Rattle.rp_events.specs.Lawful.{IsReached}
@@ -26,7 +25,7 @@ use Rattle.rp_journals.proofs.Growing.{Happened, happened}
 use Rattle.rp_journals.proofs.Reading.{entry_of, step_journal, node_after, first_at}
 use Rattle.rp_journals.proofs.Counting.{one_if}
 use Rattle.rp_journals.proofs.Balancing.{sum_seat, sum_same}
-use Rattle.rp_journals.proofs.Sizes.{one_more, IsLight, event_light}
+use Rattle.rp_journals.proofs.Sizes.{one_more, event_light}
 
 -- what the turns of seats leave
 record SameCounts (n m : Node) : Type 0 where
@@ -225,9 +224,9 @@ within_step n e taken w =
     let new : Node = (step n e taken).node in
     let a : ActsWithin n e taken = acts_within n e taken in
     let admitted : admissions new ≡ admissions n + one_if (is_admission (past_of n e taken)) =
-        ap (count_by (λ (x : JournalEntry). is_admission x.event)) (step_journal n e taken) ∙ count_push (λ (x : JournalEntry). is_admission x.event) n.journal (entry_of n e taken) in
+    ap (count_by (λ (x : JournalEntry). is_admission x.event)) (step_journal n e taken) ∙ count_push (λ (x : JournalEntry). is_admission x.event) n.journal (entry_of n e taken) in
     let others : other_events new ≡ other_events n + one_if (not (is_admission (past_of n e taken))) =
-        ap (count_by (λ (x : JournalEntry). not (is_admission x.event))) (step_journal n e taken) ∙ count_push (λ (x : JournalEntry). not (is_admission x.event)) n.journal (entry_of n e taken) in
+    ap (count_by (λ (x : JournalEntry). not (is_admission x.event))) (step_journal n e taken) ∙ count_push (λ (x : JournalEntry). not (is_admission x.event)) n.journal (entry_of n e taken) in
     let requests = a.requests in
     let was_requests = w.requests in
     let weighs = a.weighs in

@@ -3,7 +3,6 @@ use Rattle.std.specs.Prelude.{◌≡◌, ℕ, ◌+◌, ◌*◌, ◌^◌, ◌≤�
 use Rattle.std.specs.Option.{option_map_or}
 use Rattle.rp_base.specs.declared.items.Item.{Item}
 use Rattle.rp_request.specs.Applied.{AppliedState}
-use Rattle.rp_events.specs.declared.journals.JournalEntry.{JournalEntry}
 use Rattle.rp_events.specs.declared.journals.PastEvent.{PastEvent}
 use Rattle.rp_events.specs.declared.journals.PastEvent.TheVariants as past
 use Rattle.rp_events.specs.declared.node_events.Event.{Event}
@@ -37,7 +36,8 @@ other_events n = count_by (λ e. not (is_admission e.event)) n.journal
 abbrev pub all_pending : Node → ℕ
 all_pending n = sum_by (λ status. length (pending_at status)) n.seats
 
--- a node's numbers stay within its journal: each list and each count grows by an event at most by one
+-- a node's numbers stay within its journal: each list and each count grows by an event at most by
+-- one
 pub record IsWithin (n : Node) : Type 0 where
   pub events : length n.journal ≡ admissions n + other_events n
   pub requests : length n.requests ≤ admissions n
@@ -70,7 +70,8 @@ tick_in n events.Tick = n.ticks + 1
 tick_in n _ = n.ticks
 
 -- the payloads that a seat hands to Raft in an event
-abbrev pub handed_by : Status → (ticks rounds : ℕ) → List Item → ReplicaEvent AppliedState → List (List ℕ)
+abbrev pub handed_by : Status → (ticks rounds : ℕ) → List Item → ReplicaEvent AppliedState
+    → List (List ℕ)
 handed_by Absent ticks rounds taken e = []
 handed_by (Live r) ticks rounds taken e = (event r e ticks rounds taken).proposed
 handed_by (Removed applied) ticks rounds taken e = []
@@ -85,8 +86,8 @@ handed range n e taken =
     option_map_or (handed_by (seat n range) (tick_in n e) n.rounds (given_to e taken))
     (at_range range e) []
 
--- what the range's replica at the scene's node hands to Raft in it, and what that of one node hands to it
--- along a schedule
+-- what the range's replica at the scene's node hands to Raft in it, and what that of one node hands
+-- to it along a schedule
 abbrev pub handed_here : (range : ℕ) → World → Scene → Node → ℕ
 handed_here range w x n =
     option_map_or (λ e. length (handed range n e (taken_in x.what))) (event_of w x.what) 0
@@ -103,8 +104,8 @@ handed_along range node w (x ∷ xs) =
 pub record IsHandedFew (range node : ℕ) (n : Node) (so_far : ℕ) : Type 0 where
   pub few : so_far + length (inbox_at (seat n range)) ≤ other_events n * (admissions n + 16)
 
--- a journal has its end, and so has what a range's replica hands to Raft and what waits in its inbox: of
--- five nodes it is less than 2^63
+-- a journal has its end, and so has what a range's replica hands to Raft and what waits in its
+-- inbox: of five nodes it is less than 2^63
 pub record IsLow (n : Node) : Type 0 where
   pub journal : length n.journal ≤ journal_end
   pub product : other_events n * (admissions n + 16) ≤ 2 ^ 60 + 2 ^ 35
