@@ -8,3 +8,4 @@ pub mod Owners
 pub mod Next
 pub mod First
 pub mod Along
+pub mod Counts
