@@ -4,3 +4,4 @@ pub mod Replicas
 pub mod Doings
 pub mod Seated
 pub mod All
+pub mod Scenes
