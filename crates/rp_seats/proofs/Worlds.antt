@@ -175,7 +175,7 @@ module _ (range : ℕ) (start : AppliedState) (w : World) (node : ℕ) where
   after ds site = site_after (length w) range start node ds site
 
   -- the message stands among what its sender has sent, and is for the node
-  abbrev IsSent : (from number : ℕ) → Message AppliedState → Type 0
+  abbrev pub IsSent : (from number : ℕ) → Message AppliedState → Type 0
   IsSent from number m = raft.message_of (raft.site seen from) (number_in range (sent_by w from) number) ≡ Some (node, m)
 
   -- a message comes first, if at all
@@ -286,13 +286,13 @@ module _ (range : ℕ) (start : AppliedState) (w : World) (node : ℕ) where
   brings worlds.Restart e is k = subst Brings (some_event _ e is) tt
   brings worlds.Round e is k = subst Brings (some_event _ e is) tt
 
-  placed : (n : Node) → node_of w node ≡ Some n → (place : ℕ) × (node ≡ suc place) × (place < length seen)
+  pub placed : (n : Node) → node_of w node ≡ Some n → (place : ℕ) × (node ≡ suc place) × (place < length seen)
   placed n has = at node refl has where
     at : (k : ℕ) → node ≡ k → node_of w k ≡ Some n → (place : ℕ) × (node ≡ suc place) × (place < length seen)
     at zero is has' = absurd cc
     at (suc place) is has' = (place, is, omega (arith, slice_get_within w place n has', length-map w (site_of range)))
 
-and_right : (b c : Bool) → IsTrue (b && c) → IsTrue c
+pub and_right : (b c : Bool) → IsTrue (b && c) → IsTrue c
 and_right true c h = h
 and_right false c h = absurd cc
 
