@@ -9,3 +9,4 @@ pub mod Next
 pub mod First
 pub mod Along
 pub mod Counts
+pub mod Grows
