@@ -10,3 +10,5 @@ pub mod First
 pub mod Along
 pub mod Counts
 pub mod Grows
+pub mod Heights
+pub mod Seats
