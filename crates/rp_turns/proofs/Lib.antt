@@ -5,3 +5,4 @@ pub mod Doings
 pub mod Seated
 pub mod All
 pub mod Scenes
+pub mod Happenings
