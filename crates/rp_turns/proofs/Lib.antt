@@ -6,3 +6,6 @@ pub mod Seated
 pub mod All
 pub mod Scenes
 pub mod Happenings
+pub mod Admissions
+pub mod Far
+pub mod Whole
