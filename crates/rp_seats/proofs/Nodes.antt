@@ -56,7 +56,7 @@ other_parcels range r (x ∷ xs) ne = ap (λ z. cond z (x ∷ sent_of range (par
 sent_own : (range : ℕ) (sent : List (Parcel AppliedState)) (sends : List (ℕ × Message AppliedState)) → sent_of range (sent ++ parcels range sends) ≡ sent_of range sent ++ sends
 sent_own range sent sends = sent_more range sent (parcels range sends) ∙ ap (λ z. sent_of range sent ++ z) (own_parcels range sends)
 
-sent_other : (range r : ℕ) (sent : List (Parcel AppliedState)) (sends : List (ℕ × Message AppliedState)) → (r ≡ range → ⊥) → sent_of range (sent ++ parcels r sends) ≡ sent_of range sent
+pub sent_other : (range r : ℕ) (sent : List (Parcel AppliedState)) (sends : List (ℕ × Message AppliedState)) → (r ≡ range → ⊥) → sent_of range (sent ++ parcels r sends) ≡ sent_of range sent
 sent_other range r sent sends ne = sent_more range sent (parcels r sends) ∙ ap (λ z. sent_of range sent ++ z) (other_parcels range r sends ne) ∙ append-nil (sent_of range sent)
 
 -- a seat after it was changed, or another

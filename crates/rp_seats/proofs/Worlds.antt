@@ -90,7 +90,7 @@ message_seen range w from (suc i) p at own =
     ap (raft.message_of (raft.site (view range w) from)) is.1 ∙ ap (λ z. slice_get z is.0) (sent_seen range w from) ∙ is.2
 
 -- a node of the world is a site of the view
-view_with : (range : ℕ) (w : World) (node : ℕ) (n : Node) → view range (with_node w node n) ≡ raft.with_site (view range w) node (site_of range n)
+pub view_with : (range : ℕ) (w : World) (node : ℕ) (n : Node) → view range (with_node w node n) ≡ raft.with_site (view range w) node (site_of range n)
 view_with range w zero n = refl
 view_with range w (suc place) n = map-set (site_of range) w place n
 
@@ -107,7 +107,7 @@ site_seen range w (suc place) n e = at w place e where
     some_same a b e = cc
   at (m ∷ w) (suc place) e = at w place e
 
-same_site : (w : raft.World AppliedState) (node : ℕ) → raft.with_site w node (raft.site w node) ≡ w
+pub same_site : (w : raft.World AppliedState) (node : ℕ) → raft.with_site w node (raft.site w node) ≡ w
 same_site w zero = refl
 same_site w (suc place) = set-get_or w place (record { status = raft.Absent; sent = [] })
 

@@ -5,3 +5,7 @@ pub mod Doings
 pub mod Seated
 pub mod All
 pub mod Scenes
+pub mod Happenings
+pub mod Admissions
+pub mod Far
+pub mod Whole
