@@ -12,3 +12,6 @@ pub mod Counts
 pub mod Grows
 pub mod Heights
 pub mod Seats
+pub mod Work
+pub mod Grown
+pub mod Small
