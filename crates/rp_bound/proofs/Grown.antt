@@ -25,7 +25,7 @@ use Rattle.rp_bound.specs.Numbers.{ItemBelow, AskBelow, ProposalBelow, PayloadBe
 use Rattle.rp_bound.proofs.Counts.{below_more}
 use Rattle.rp_bound.proofs.Grows.{After, IsOther, event_after, admit_after}
 use Rattle.rp_bound.proofs.Seats.{IsBlank, IsStill, IsOwn, IsFresh, Changes, Hands, status_change, message_change, all_change}
-use Rattle.rp_bound.proofs.Work.{requests_then, ticks_then}
+use Rattle.rp_bound.proofs.Work.{requests_then, ticks_then, gain_then}
 
 pub status_more : (top seqs expiry most top' seqs' expiry' most' : ℕ) → top ≤ top' → seqs ≤ seqs' → expiry ≤ expiry' → most ≤ most' → (status : Status)
     → StatusBelow top seqs expiry most status → StatusBelow top' seqs' expiry' most' status
@@ -119,12 +119,8 @@ module _ (w : World) (node range : ℕ) (n : Node) (below8 : range < 8) (within 
       let f = fits r live in
       event_after top seqs ticks (length n.requests) r (live_below ticks later r live) f.0 f.1 f.2 e other n.rounds given le
 
-  abbrev pub gain_in : Event AppliedState → ℕ
-  gain_in (events.Admit at id request) = 0
-  gain_in e = length n.requests + 16
-
   abbrev pub Left : Event AppliedState → List Item → Type 0
-  Left ev given = Grown top seqs (ticks_then n ev + 40) (requests_then n ev) (gain_in ev) (seat n range) (seat (step n ev given).node range) (Hands w node range (node_doings range n ev given))
+  Left ev given = Grown top seqs (ticks_then n ev + 40) (requests_then n ev) (gain_then n ev) (seat n range) (seat (step n ev given).node range) (Hands w node range (node_doings range n ev given))
 
   -- an event of one seat
   by_seat : (at : ℕ) (e : ReplicaEvent AppliedState) → IsOther e → (given : List Item) → length given ≤ 16

@@ -103,30 +103,49 @@ abbrev pub ticks_then : Node → Event AppliedState → ℕ
 ticks_then n events.Tick = n.ticks + 1
 ticks_then n e = n.ticks
 
+-- how many items it may bring to the inboxes
+abbrev pub gain_then : Node → Event AppliedState → ℕ
+gain_then n (events.Admit at id request) = 0
+gain_then n e = length n.requests + 16
+
+pub work_then : (n : Node) → length n.requests ≤ length n.journal → (ev : Event AppliedState) → work_of n + gain_then n ev ≤ (length n.journal + 1 - requests_then n ev) * (requests_then n ev + 16)
+work_then n le (events.Admit at id request) = let k = work_still (length n.journal) (length n.requests) in omega (arith, k)
+work_then n le (events.Ask at) = let k = work_more (length n.journal) (length n.requests) le in omega (arith, k)
+work_then n le (events.Transfer at to) = let k = work_more (length n.journal) (length n.requests) le in omega (arith, k)
+work_then n le (events.Collect at) = let k = work_more (length n.journal) (length n.requests) le in omega (arith, k)
+work_then n le (events.Flush at) = let k = work_more (length n.journal) (length n.requests) le in omega (arith, k)
+work_then n le events.Tick = let k = work_more (length n.journal) (length n.requests) le in omega (arith, k)
+work_then n le (events.Deliver from at number m) = let k = work_more (length n.journal) (length n.requests) le in omega (arith, k)
+work_then n le (events.Apply at) = let k = work_more (length n.journal) (length n.requests) le in omega (arith, k)
+work_then n le (events.Cut at) = let k = work_more (length n.journal) (length n.requests) le in omega (arith, k)
+work_then n le (events.Remove at) = let k = work_more (length n.journal) (length n.requests) le in omega (arith, k)
+work_then n le (events.Peek at key) = let k = work_more (length n.journal) (length n.requests) le in omega (arith, k)
+work_then n le events.Restart = let k = work_more (length n.journal) (length n.requests) le in omega (arith, k)
+work_then n le events.Round = let k = work_more (length n.journal) (length n.requests) le in omega (arith, k)
+
 -- nothing so far
 pub record Same (n m : Node) : Type 0 where
   pub ticks : m.ticks ≡ n.ticks
-  pub rounds : m.rounds ≡ n.rounds
   pub requests : m.requests ≡ n.requests
   pub journal : m.journal ≡ n.journal
 
 same_itself : (n : Node) → Same n n
-same_itself n = record { ticks = refl; rounds = refl; requests = refl; journal = refl }
+same_itself n = record { ticks = refl; requests = refl; journal = refl }
 
 same_further : (a b c : Node) → Same a b → Same b c → Same a c
-same_further a b c s t = record { ticks = t.ticks ∙ s.ticks; rounds = t.rounds ∙ s.rounds; requests = t.requests ∙ s.requests; journal = t.journal ∙ s.journal }
+same_further a b c s t = record { ticks = t.ticks ∙ s.ticks; requests = t.requests ∙ s.requests; journal = t.journal ∙ s.journal }
 
 same_opened : (n : Node) (o : Option AppliedState) → Same n (opened n o)
 same_opened n None = same_itself n
 same_opened n (Some t) = go (seat n t.desc.id) where
   go : (status : Status) → Same n (opened_by n t status)
-  go Absent = record { ticks = refl; rounds = refl; requests = refl; journal = refl }
+  go Absent = record { ticks = refl; requests = refl; journal = refl }
   go (Live r) = same_itself n
   go (Removed applied) = same_itself n
 
 same_replica : (n : Node) (at : ℕ) (e : ReplicaEvent AppliedState) (d : Done) → Same n (after_replica n at e d)
 same_replica n at e d =
-    same_further n (after_turn n at (status_after e d.replica) d) (after_replica n at e d) (record { ticks = refl; rounds = refl; requests = refl; journal = refl })
+    same_further n (after_turn n at (status_after e d.replica) d) (after_replica n at e d) (record { ticks = refl; requests = refl; journal = refl })
     (same_opened (after_turn n at (status_after e d.replica) d) d.right)
 
 same_status : (n : Node) (at : ℕ) (e : ReplicaEvent AppliedState) (given : List Item) (status : Status) → Same n (by_status n at e given status).node
@@ -144,7 +163,7 @@ same_all e [] n = same_itself n
 same_all e (at ∷ more) n = same_further n (live_turn e n at (seat n at)) (all_turns e n (at ∷ more)) (same_live n at e (seat n at)) (same_all e more (live_turn e n at (seat n at)))
 
 same_message : (n : Node) (from at : ℕ) (m : Message AppliedState) (status : Status) → Same n (delivered n from at m status)
-same_message n from at m Absent = record { ticks = refl; rounds = refl; requests = refl; journal = refl }
+same_message n from at m Absent = record { ticks = refl; requests = refl; journal = refl }
 same_message n from at m (Live r) = same_replica n at (Deliver from m) (event r (Deliver from m) n.ticks n.rounds [])
 same_message n from at m (Removed applied) = same_itself n
 
@@ -190,4 +209,4 @@ step_adds n (events.Cut at) given = adds_none n _ _ _ refl refl refl (same_statu
 step_adds n (events.Remove at) given = adds_none n _ _ _ refl refl refl (same_status n at Remove [] (seat n at))
 step_adds n (events.Peek at key) given = adds_none n _ _ _ refl refl refl (same_status n at (Peek key) [] (seat n at))
 step_adds n events.Restart given = adds_none n _ _ _ refl refl refl (same_all Restart range_numbers n)
-step_adds n events.Round given = adds_none n (rounded n) _ _ refl refl refl (record { ticks = refl; rounds = refl; requests = refl; journal = refl })
+step_adds n events.Round given = adds_none n (rounded n) _ _ refl refl refl (record { ticks = refl; requests = refl; journal = refl })
