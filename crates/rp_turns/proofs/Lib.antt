@@ -9,3 +9,6 @@ pub mod Happenings
 pub mod Admissions
 pub mod Far
 pub mod Whole
+pub mod Rows
+pub mod States
+pub mod Wide
