@@ -111,7 +111,7 @@ one_more : (i : ℕ) → 1 + i ≡ suc i
 one_more i = omega arith
 
 -- a node of the first world
-first_is : (count : ℕ) → count ≤ 5 → (node : ℕ) (n : Node) → node_of (first_world count) node ≡ Some n → n ≡ first_node node count
+pub first_is : (count : ℕ) → count ≤ 5 → (node : ℕ) (n : Node) → node_of (first_world count) node ≡ Some n → n ≡ first_node node count
 first_is count le zero n has = absurd cc
 first_is count le (suc i) n has = go (slice_get (nodes_to count) i) refl (sym (slice_get-map (λ node. first_node node count) (nodes_to count) i) ∙ has) where
   some_node : (a b : Node) → ◌≡◌ {A = Option Node} (Some a) (Some b) → a ≡ b

@@ -12,3 +12,5 @@ pub mod Whole
 pub mod Rows
 pub mod States
 pub mod Wide
+pub mod Handed
+pub mod Kept
