@@ -27,7 +27,7 @@ use Rattle.rp_bound.proofs.Next.{begun_ok}
 abbrev bare : raft.Site AppliedState
 bare = record { status = raft.Absent; sent = [] }
 
-all_absent : (n place : ℕ) → get_or (replicate n Absent) place Absent ≡ Absent
+pub all_absent : (n place : ℕ) → get_or (replicate n Absent) place Absent ≡ Absent
 all_absent zero place = refl
 all_absent (suc n) zero = refl
 all_absent (suc n) (suc place) = all_absent n place

@@ -15,3 +15,4 @@ pub mod Seats
 pub mod Work
 pub mod Grown
 pub mod Small
+pub mod Starts

@@ -10,13 +10,16 @@ use Rattle.std.proofs.lemmas.List.Elements.{Contains-append_cases}
 use Rattle.std.proofs.lemmas.Grind.{flat_map-append}
 use Rattle.rp_base.specs.Limits.{buffer_capacity}
 use Rattle.rp_base.specs.declared.items.Item.{Item}
+use Rattle.rp_base.specs.declared.items.Item.TheVariants as items
 use Rattle.rp_request.specs.Applied.{AppliedState}
+use Rattle.rp_pending.specs.declared.proposals.Proposal.{Proposal}
 use Rattle.rp_raftsafe.specs.World as raft
 use Rattle.rp_raftsafe.specs.Safety.{OneList}
 use Rattle.rp_raftsafe.specs.Proposed.{event_payloads, payloads_of}
 use Rattle.rp_rangesafe.specs.World as machine
 use Rattle.rp_rangesafe.specs.World.{here}
 use Rattle.rp_rangesafe.specs.Ranges.{Ranges}
+use Rattle.rp_rangesafe.proofs.Joint.{range_reached}
 use Rattle.rp_events.specs.declared.node_events.Event.{Event}
 use Rattle.rp_events.specs.declared.node_events.Event.TheVariants as events
 use Rattle.rp_events.specs.declared.parcels.Parcel.{Parcel}
@@ -28,20 +31,23 @@ use Rattle.rp_events.specs.Lawful.{is_allowed, is_lawful, Lawful}
 use Rattle.rp_seats.specs.Views.{read}
 use Rattle.rp_seats.specs.Scenes.{raft_events, node_doings}
 use Rattle.rp_seats.specs.Standing.{Bound}
+use Rattle.rp_seats.specs.Steps.{AreEnds}
+use Rattle.rp_seats.specs.Turned.{IsSeated}
 use Rattle.rp_seats.proofs.Events as seat_events
+use Rattle.rp_seats.proofs.Shut.{shut_seat}
 use Rattle.rp_seats.proofs.Shaped.{length_with, node_after, shaped_scene}
 use Rattle.rp_turns.specs.Fitting.{AreFit, IsFit}
 use Rattle.rp_turns.specs.Turning.{SceneTurned}
 use Rattle.rp_turns.proofs.Scenes.{happens_is, doings_are}
-use Rattle.rp_turns.proofs.Seated.{seated, has_opened}
-use Rattle.rp_bound.specs.Numbers.{PayloadBelow, StatusBelow, items_in, waiting_in, work_of, all_work, events_of, NodeBelow, RangeBelow, AreSmall}
+use Rattle.rp_turns.specs.Keeping.{AreBelow, IsItemBelow, IsBelow}
+use Rattle.rp_bound.specs.Numbers.{ItemBelow, ProposalBelow, PayloadBelow, ReplicaBelow, StatusBelow, items_in, waiting_in, work_of, all_work, events_of, NodeBelow, RangeBelow, AreSmall}
 use Rattle.rp_bound.proofs.Admissions.{MayHappen, may_happen, and_left, and_right}
 use Rattle.rp_bound.proofs.Below.{opened_below}
-use Rattle.rp_bound.proofs.Counts.{payload_more}
+use Rattle.rp_bound.proofs.Counts.{payload_more, assigning_low}
 use Rattle.rp_bound.proofs.Grown.{Grown, status_more, node_grown}
 use Rattle.rp_bound.proofs.Heights.{lai_height, seq_height}
 use Rattle.rp_bound.proofs.Seats.{Hands}
-use Rattle.rp_bound.proofs.Work.{sum_changed, work_then, gain_then, requests_then, ticks_then, Adds, step_adds}
+use Rattle.rp_bound.proofs.Work.{sum_changed, sum_within, sum_bounded, work_low, work_then, gain_then, requests_then, ticks_then, Adds, step_adds}
 
 -- the items of a collect
 pub given_few : (w : World) (node : ℕ) (what : Happening) → IsTrue (is_allowed w node what) → length (taken_in what) ≤ 16
@@ -110,22 +116,87 @@ nothing_behind (x ∷ xs) ys e = absurd cc
 no_payload : (bytes : List ℕ) → Contains (payloads_of []) bytes → ⊥
 no_payload bytes c = omega (arith, c.1)
 
-module _ (lists : OneList AppliedState) (w : World) (m : Ranges) (seen : ℕ → List raft.Event) (bound : Bound lists w m seen) (fit : AreFit w) (small : AreSmall w seen) where
-  abbrev top : ℕ → ℕ
+-- how far the numbers of a world have grown, where its outcomes are ends
+module _ (lists : OneList AppliedState) (w : World) (m : Ranges) (seen : ℕ → List raft.Event) (bound : Bound lists w m seen)
+    (ends : (node : ℕ) (n : Node) → node_of w node ≡ Some n → AreEnds n.outcomes) (small : AreSmall w seen) where
+  abbrev pub top : ℕ → ℕ
   top range = (small.ranges range).0
 
   handed : (range : ℕ) (bytes : List ℕ) → Contains (payloads_of (seen range)) bytes → PayloadBelow (top range) (events_of w) (read bytes)
   handed range = (small.ranges range).1.handed
 
+  there : (node range : ℕ) (n : Node) (r : Replica) → node_of w node ≡ Some n → seat n range ≡ Live r → m.opened range ≡ true
+  there node range n r has live = go (m.opened range) refl where
+    absent_live : ◌≡◌ {A = Status} Absent (Live r) → ⊥
+    absent_live e = cc
+
+    go : (b : Bool) → m.opened range ≡ b → b ≡ true
+    go true is = refl
+    go false is = absurd (absent_live (sym (shut_seat range (seen range) w (bound.shut range is) node n has) ∙ live))
+
+  stands : (node range : ℕ) (n : Node) (r : Replica) → node_of w node ≡ Some n → seat n range ≡ Live r → IsSeated lists range (m.range range).start (seen range) w (m.range range) node n r
+  stands node range n r has live = record {
+    below = opened_below m bound.reached range (there node range n r has live);
+    shaped = bound.shaped;
+    ok = bound.ranges range (there node range n r has live);
+    reached = range_reached m bound.reached range;
+    has = has;
+    ends = ends node n has;
+    live = live;
+  }
+
   -- each replica's lease index and sequence
   pub replica_low : (node range : ℕ) (n : Node) (r : Replica) → node_of w node ≡ Some n → seat n range ≡ Live r
       → (r.applied.state.lai ≤ top range) × ((lease_of r).seq ≤ suc (events_of w))
   replica_low node range n r has live =
-      let there = has_opened lists w m seen bound fit node range n r has live in
-      let state = seat_events.state lists range (m.range range).start (seen range) w (m.range range) node n r (seated lists w m seen bound fit node range n r has live) in
-      (subst (λ (s : AppliedState). s.lai ≤ top range) state (lai_height lists w m seen bound top (events_of w) handed range there ((m.range range).index node)),
-      subst (λ (s : AppliedState). s.lease.seq ≤ suc (events_of w)) state (seq_height lists w m seen bound top (events_of w) handed range there ((m.range range).index node)))
+      let o = there node range n r has live in
+      let state = seat_events.state lists range (m.range range).start (seen range) w (m.range range) node n r (stands node range n r has live) in
+      (subst (λ (s : AppliedState). s.lai ≤ top range) state (lai_height lists w m seen bound top (events_of w) handed range o ((m.range range).index node)),
+      subst (λ (s : AppliedState). s.lease.seq ≤ suc (events_of w)) state (seq_height lists w m seen bound top (events_of w) handed range o ((m.range range).index node)))
 
+  -- and all that it holds
+  work_below : all_work w < 2 ^ 64
+  work_below =
+      let a = sum_bounded work_of 2305843043573432448 w (λ place n e. work_low n (small.nodes (suc place) n e)) in
+      let f = small.few in omega (arith, a, f)
+
+  events_below : events_of w ≤ 5 * 2 ^ 31
+  events_below =
+      let a = sum_bounded (λ (n : Node). length n.journal) (2 ^ 31) w (λ place n e. (small.nodes (suc place) n e).journal) in
+      let f = small.few in omega (arith, a, f)
+
+  pending_below : (top' : ℕ) → top' < 2 ^ 64 → (ps : List Proposal) → AllByRecursion (ProposalBelow top' (events_of w)) ps → AllByRecursion AreBelow ps
+  pending_below top' low [] h = tt
+  pending_below top' low (p ∷ ps) h = ((let a = h.0.1 in let e = events_below in omega (arith, a, e), let a = h.0.0 in omega (arith, a, low)), pending_below top' low ps h.1)
+
+  item_low : (expiry : ℕ) → expiry < 2 ^ 64 → (item : Item) → ItemBelow (events_of w) expiry item → IsItemBelow item
+  item_low expiry low (items.Write id) h = tt
+  item_low expiry low (items.Lease ask) h = (let a = h.0 in let e = events_below in omega (arith, a, e), let a = h.1 in omega (arith, a, low))
+
+  inbox_below : (expiry : ℕ) → expiry < 2 ^ 64 → (inbox : List Item) → AllByRecursion (ItemBelow (events_of w) expiry) inbox → AllByRecursion IsItemBelow inbox
+  inbox_below expiry low [] h = tt
+  inbox_below expiry low (item ∷ inbox) h = (item_low expiry low item h.0, inbox_below expiry low inbox h.1)
+
+  pub replica_below : (node range : ℕ) (n : Node) (r : Replica) → node_of w node ≡ Some n → seat n range ≡ Live r → IsBelow r
+  replica_below node range n r has live =
+      let k = (small.ranges range).1 in
+      let b : ReplicaBelow (top range) (events_of w) (n.ticks + 40) (length n.requests) r = subst (StatusBelow (top range) (events_of w) (n.ticks + 40) (length n.requests)) live (k.seats node n has) in
+      let room = k.room in
+      let part = sum_within (λ (z : Node). items_in (seat z range)) w node n has in
+      let items = ap items_in live in
+      let low = work_below in
+      let last = assigning_low (top range) r (replica_low node range n r has live).0 b.assigned in
+      let nb = small.nodes node n has in
+      let ticks = nb.ticks in
+      let journal = nb.journal in
+      record {
+        pending = pending_below (top range) (omega (arith, room, low)) r.pending b.pending;
+        inbox = inbox_below (n.ticks + 40) (omega (arith, ticks, journal)) r.inbox b.inbox;
+        last = omega (arith, last, room, part, items, low);
+      }
+
+-- the numbers after a lawful scene
+module _ (lists : OneList AppliedState) (w : World) (m : Ranges) (seen : ℕ → List raft.Event) (bound : Bound lists w m seen) (fit : AreFit w) (small : AreSmall w seen) where
   module _ (x : Scene) (lawful : Lawful w x) (t : SceneTurned lists w m seen x) where
     at : HasEvent w x
     at = has_event w x lawful.lawful
@@ -203,16 +274,16 @@ module _ (lists : OneList AppliedState) (w : World) (m : Ranges) (seen : ℕ →
       Given bytes = Contains (payloads_of (raft_events q w x)) bytes
 
       abbrev Whole : Type 0
-      Whole = Grown (top q) (suc (events_of w)) (new.ticks + 40) (length new.requests) (gain_then n at.ev) (seat n q) (seat new q) Given
+      Whole = Grown (top lists w m seen bound fit.ends small q) (suc (events_of w)) (new.ticks + 40) (length new.requests) (gain_then n at.ev) (seat n q) (seat new q) Given
 
-      seat_below : StatusBelow (top q) (suc (events_of w)) (n.ticks + 40) (length n.requests) (seat n q)
-      seat_below = status_more (top q) (events_of w) (n.ticks + 40) (length n.requests) (top q) (suc (events_of w)) (n.ticks + 40) (length n.requests)
+      seat_below : StatusBelow (top lists w m seen bound fit.ends small q) (suc (events_of w)) (n.ticks + 40) (length n.requests) (seat n q)
+      seat_below = status_more (top lists w m seen bound fit.ends small q) (events_of w) (n.ticks + 40) (length n.requests) (top lists w m seen bound fit.ends small q) (suc (events_of w)) (n.ticks + 40) (length n.requests)
           (omega arith) (omega arith) (omega arith) (omega arith) (seat n q) ((small.ranges q).1.seats x.node n at.has)
 
       near : q < 8 → Whole
       near below =
-          let g = node_grown w x.node q n below (let e = (bound.shaped.each x.node n at.has).eight in omega (arith, below, e)) (top q) (suc (events_of w)) seat_below
-              (λ r live. (fit.replicas x.node q n r at.has live, (replica_low x.node q n r at.has live).0, (replica_low x.node q n r at.has live).1)) at.ev (taken_in x.what) few in
+          let g = node_grown w x.node q n below (let e = (bound.shaped.each x.node n at.has).eight in omega (arith, below, e)) (top lists w m seen bound fit.ends small q) (suc (events_of w)) seat_below
+              (λ r live. (fit.replicas x.node q n r at.has live, (replica_low lists w m seen bound fit.ends small x.node q n r at.has live).0, (replica_low lists w m seen bound fit.ends small x.node q n r at.has live).1)) at.ev (taken_in x.what) few in
           record {
             highest = g.highest;
             above = g.above;
@@ -233,9 +304,9 @@ module _ (lists : OneList AppliedState) (w : World) (m : Ranges) (seen : ℕ →
           let old : seat n q ≡ Absent = get_or_past n.seats q Absent (let e = (bound.shaped.each x.node n at.has).eight in omega (arith, past, e)) in
           let now : seat new q ≡ Absent = get_or_past new.seats q Absent (let e = ((shaped_scene w bound.shaped x).each x.node new after_is).eight in omega (arith, past, e)) in
           record {
-            highest = top q;
+            highest = top lists w m seen bound fit.ends small q;
             above = omega arith;
-            below = subst (StatusBelow (top q) (suc (events_of w)) (new.ticks + 40) (length new.requests)) (sym now) tt;
+            below = subst (StatusBelow (top lists w m seen bound fit.ends small q) (suc (events_of w)) (new.ticks + 40) (length new.requests)) (sym now) tt;
             room = (let k = ap items_in old in let l = ap items_in now in omega (arith, k, l));
             handed = λ bytes does. absurd (no_payload bytes (subst (λ es. Contains (payloads_of es) bytes) (nothing_behind (seen q) (raft_events q w x) (t.shut q shut).unseen) does));
           }
@@ -256,11 +327,11 @@ module _ (lists : OneList AppliedState) (w : World) (m : Ranges) (seen : ℕ →
         seats = λ node z has.
             node_after (λ (i : ℕ) (y : Node). StatusBelow whole.highest seqs (y.ticks + 40) (length y.requests) (seat y q)) w x.node new
             (subst (λ s. StatusBelow whole.highest s (new.ticks + 40) (length new.requests) (seat new q)) (sym one_event) whole.below)
-            (λ i y was. status_more (top q) (events_of w) (y.ticks + 40) (length y.requests) whole.highest seqs (y.ticks + 40) (length y.requests)
+            (λ i y was. status_more (top lists w m seen bound fit.ends small q) (events_of w) (y.ticks + 40) (length y.requests) whole.highest seqs (y.ticks + 40) (length y.requests)
             whole.above (let e = one_event in omega (arith, e)) (omega arith) (omega arith) (seat y q) ((small.ranges q).1.seats i y was))
             node z (subst (λ v. node_of v node ≡ Some z) world_is has);
         handed = λ bytes c. ⊎_elim
-            (λ (before : Contains (payloads_of (seen q)) bytes). payload_more (top q) (events_of w) whole.highest seqs whole.above (let e = one_event in omega (arith, e)) (read bytes) (handed q bytes before))
+            (λ (before : Contains (payloads_of (seen q)) bytes). payload_more (top lists w m seen bound fit.ends small q) (events_of w) whole.highest seqs whole.above (let e = one_event in omega (arith, e)) (read bytes) ((small.ranges q).1.handed bytes before))
             (λ (now : Given bytes). subst (λ s. PayloadBelow whole.highest s (read bytes)) (sym one_event) (whole.handed bytes now))
             (Contains-append_cases (payloads_of (seen q)) (payloads_of (raft_events q w x)) bytes (subst (λ l. Contains l bytes) (flat_map-append event_payloads (seen q) (raft_events q w x)) c));
       }
