@@ -7,7 +7,6 @@ pub mod Led
 pub mod Owners
 pub mod Next
 pub mod First
-pub mod Along
 pub mod Counts
 pub mod Grows
 pub mod Heights
@@ -16,3 +15,4 @@ pub mod Work
 pub mod Grown
 pub mod Small
 pub mod Starts
+pub mod Along

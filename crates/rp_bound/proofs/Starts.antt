@@ -13,7 +13,7 @@ use Rattle.rp_bound.specs.Numbers.{PayloadBelow, StatusBelow, items_in, waiting_
 use Rattle.rp_bound.proofs.First.{all_absent}
 use Rattle.rp_bound.proofs.Work.{sum_bounded}
 
-none_handed : (xs : List ℕ) (bytes : List ℕ) → Contains (payloads_of (map (λ node. raft.Acts node raft.Begin) xs)) bytes → ⊥
+pub none_handed : (xs : List ℕ) (bytes : List ℕ) → Contains (payloads_of (map (λ node. raft.Acts node raft.Begin) xs)) bytes → ⊥
 none_handed [] bytes c = omega (arith, c.1)
 none_handed (x ∷ xs) bytes c = none_handed xs bytes c
 
