@@ -142,19 +142,31 @@ pub record IsShaped (nodes : ℕ) (node : ℕ) (n : Node) : Type 0 where
 pub record AreShaped (w : World) : Type 0 where
   pub each : (node : ℕ) (n : Node) → node_of w node ≡ Some n → IsShaped (length w) node n
 
--- where an attempt was made, and what the nodes tell of it: nothing where it was not made; a refusal at
--- one node where it was turned away; and where it was made in a range, nothing at other nodes
+-- an attempt that was turned away: one node refused it, and no other tells of it
+pub record IsTurnedAway (w : World) (id : CmdId) : Type 0 where
+  pub at : ℕ
+  pub n : Node
+  pub has : node_of w at ≡ Some n
+  pub why : Refusal
+  pub told : outcome_at id n ≡ Some (outcomes.Refused why)
+  pub others : (node : ℕ) (other : Node) → node_of w node ≡ Some other → (node ≡ at → ⊥)
+      → outcome_at id other ≡ None
+
+-- an attempt that was made in a range, at a node: no other node tells of it
+pub record IsMadeIn (m : Ranges) (w : World) (id : CmdId) (range : ℕ) : Type 0 where
+  pub there : m.opened range ≡ true
+  pub born : IsBorn ((m.range range).attempt id).stage
+  pub n : Node
+  pub has : node_of w ((m.range range).attempt id).node ≡ Some n
+  pub others : (node : ℕ) (other : Node) → node_of w node ≡ Some other
+      → (node ≡ ((m.range range).attempt id).node → ⊥) → outcome_at id other ≡ None
+
+-- where an attempt was made, and what the nodes tell of it: nothing where it was not made
 abbrev pub IsOwned : Ranges → World → CmdId → Owner → Type 0
 IsOwned m w id Nobody =
     (node : ℕ) (n : Node) → node_of w node ≡ Some n → outcome_at id n ≡ None
-IsOwned m w id Turned =
-    (at : ℕ) × ((node : ℕ) (n : Node) → node_of w node ≡ Some n
-    → ((node ≡ at) × (why : Refusal) × (outcome_at id n ≡ Some (outcomes.Refused why)))
-    ⊎ ((node ≡ at → ⊥) × (outcome_at id n ≡ None)))
-IsOwned m w id (At range) =
-    (m.opened range ≡ true) × IsBorn ((m.range range).attempt id).stage
-    × ((node : ℕ) (n : Node) → node_of w node ≡ Some n
-    → (node ≡ ((m.range range).attempt id).node → ⊥) → outcome_at id n ≡ None)
+IsOwned m w id Turned = IsTurnedAway w id
+IsOwned m w id (At range) = IsMadeIn m w id range
 
 -- the nodes beside all ranges of the machine, and beside Raft's events in each so far
 pub record Bound (lists : OneList AppliedState) (w : World) (m : Ranges)
