@@ -6,7 +6,9 @@ use Rattle.rp_flush.specs.declared.assigns.Assigned.{Assigned}
 use Rattle.rp_pending.specs.Refreshes.{waiting_of}
 use Rattle.rp_raftstep.specs.Step.{quiet}
 use Rattle.rp_events.specs.Replicas.{Replica, Done, untold, lease_of}
-use Rattle.rp_events.specs.Moves.{Move, HandsOut, GivesUp, moved_all, hands_to_raft}
+use Rattle.rp_events.specs.declared.moves.Move.{Move}
+use Rattle.rp_events.specs.declared.moves.Move.TheVariants.{HandsOut, GivesUp}
+use Rattle.rp_events.specs.Moves.{moved_all, hands_to_raft}
 
 -- what a flush assigns here, under the present lease
 abbrev pub assigning : Replica → Assigned

@@ -20,6 +20,8 @@ use Rattle.rp_pending.specs.Refreshes.{goes_back}
 use Rattle.rp_pending.specs.declared.proposals.Proposal.{Proposal}
 use Rattle.rp_raftstep.specs.Step.{Draft, step_then}
 use Rattle.rp_events.specs.declared.answers.EventAnswer.TheVariants as answers
+use Rattle.rp_events.specs.declared.moves.Move.{Move}
+use Rattle.rp_events.specs.declared.moves.Move.TheVariants.{HandsOut, GivesUp, TakesBack, Repeats}
 use Rattle.rp_events.specs.Replicas.{Replica, Done, Told, lease_of}
 
 -- a pending attempt ends: its latches are free
@@ -43,17 +45,6 @@ waits_again r id = record r {
 abbrev pub proposed_under : Replica → (ticks round : ℕ) → CmdId → (max : ℕ) → Replica
 proposed_under r ticks round id max =
     record r { pending = with_changed id (proposed max ticks round) r.pending }
-
--- what becomes of one proposal
-pub data Move : Type 0 where
-  -- a waiting one is proposed under this lease index
-  HandsOut : CmdId → (max : ℕ) → Move
-  -- a waiting one is refused, with the lease that holds now
-  GivesUp : CmdId → Move
-  -- one that is proposed under an index at or below the lease applied index waits again
-  TakesBack : CmdId → Move
-  -- a proposed one is proposed once more under its index
-  Repeats : CmdId → Move
 
 -- a further part of an event: the attempts that it ends come behind the others
 abbrev pub then_told : Told → Told → Told

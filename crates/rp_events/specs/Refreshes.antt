@@ -7,7 +7,9 @@ use Rattle.rp_pending.specs.declared.refreshes.Refresh.{Refresh}
 use Rattle.rp_raftstep.specs.declared.messages.Message.{Message}
 use Rattle.rp_raftstep.specs.Step.{Draft, tick, received}
 use Rattle.rp_events.specs.Replicas.{Replica, Done, Told, untold, has_new_leader}
-use Rattle.rp_events.specs.Moves.{Move, TakesBack, Repeats, moved_all, hands_to_raft}
+use Rattle.rp_events.specs.declared.moves.Move.{Move}
+use Rattle.rp_events.specs.declared.moves.Move.TheVariants.{TakesBack, Repeats}
+use Rattle.rp_events.specs.Moves.{moved_all, hands_to_raft}
 use Rattle.rp_events.specs.Ends.{snapshot_taken}
 
 -- what a refresh concerns here: all that is proposed, or what was proposed five ticks ago

@@ -6,6 +6,7 @@
 mod answers;
 mod journals;
 pub mod laws;
+mod moves;
 mod node_events;
 mod parcels;
 mod replica_events;
@@ -13,6 +14,7 @@ mod world_events;
 
 pub use answers::{Effects, Ended, EventAnswer, Outcomes};
 pub use journals::{Journal, JournalEntry, PastEvent};
+pub use moves::Move;
 pub use node_events::Event;
 pub use parcels::{Parcel, Sent};
 pub use replica_events::ReplicaEvent;

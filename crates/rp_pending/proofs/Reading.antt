@@ -4,7 +4,7 @@ use Rattle.std.specs.List.{filter, cons_option}
 use Rattle.std.specs.Map.{values_of}
 use Rattle.std.specs.Option.{option_and_then}
 use Rattle.rp_pending.specs.Refreshes.{put_by, by_key, ids_by_max}
-use Rattle.rp_pending.specs.Dues.{due, id_of}
+use Rattle.rp_pending.specs.Dues.{due, id_of, standing, standing_of}
 use Rattle.rp_pending.specs.declared.proposals.Proposal.{Proposal}
 use Rattle.rp_pending.specs.Slots.{Slot, proposals_in}
 
@@ -49,3 +49,7 @@ ids_in_order test ps =
 pub ids_are : (ps : List Proposal) → filter_map id_of ps ≡ map (λ p. p.id) ps
 ids_are [] = refl
 ids_are (p ∷ ps) = ap (λ ids. p.id ∷ ids) (ids_are ps)
+
+pub standings_are : (ps : List Proposal) → filter_map standing_of ps ≡ map standing ps
+standings_are [] = refl
+standings_are (p ∷ ps) = ap (λ all. standing p ∷ all) (standings_are ps)

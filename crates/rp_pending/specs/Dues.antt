@@ -1,7 +1,9 @@
--- What is read of a proposal: its maximum and id where a refresh concerns it, and its id.
+-- What is read of a proposal: its maximum and id where a refresh concerns it, its id, and how far it
+-- has come.
 use Rattle.std.specs.Prelude.{ℕ, Bool, if◌then◌else◌, Option, None, Some}
 use Rattle.rp_base.specs.declared.ids.CmdId.{CmdId}
 use Rattle.rp_pending.specs.declared.proposals.Proposal.{Proposal}
+use Rattle.rp_pending.specs.declared.proposals.Standing.{Standing}
 use Rattle.rp_pending.specs.declared.refreshes.Due.{Due}
 use Rattle.rp_pending.specs.Refreshes.{goes_again, goes_back}
 
@@ -16,3 +18,10 @@ again_due lai now all p = if goes_again lai now all p then Some (due p) else Non
 
 abbrev pub id_of : Proposal → Option CmdId
 id_of p = Some p.id
+
+-- how far a proposal has come
+abbrev pub standing : Proposal → Standing
+standing p = record { id = p.id; max = p.max; stage = p.stage }
+
+abbrev pub standing_of : Proposal → Option Standing
+standing_of p = Some (standing p)

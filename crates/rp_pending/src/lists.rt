@@ -4,11 +4,13 @@ ghost use Rattle.std.specs.List.{IsDistinct};
 ghost use Rattle.std.specs.Option.{option_copied};
 ghost use Rattle.rp_pending.specs.Refreshes.{first_round, to_refresh, waiting_of};
 ghost use Rattle.rp_base.specs.Ids.{same_id};
+ghost use Rattle.rp_pending.specs.Dues.{standing};
 ghost use Rattle.rp_pending.specs.Proposals.{proposal_of, without, with_changed, proposed, waiting_again};
+ghost use Rattle.rp_pending.specs.Turns.{dropped_back, given_up, goes_back_at, handed_out, is_made_at, is_proposed_at, repeated, taken_back, turned_at, waits_at};
 
 use crate::proposals::{Change, Proposal};
-use crate::refreshes::{self, Ids, Refresh};
-use crate::slots::{Slots, change, clear, get, put, take, tidy};
+use crate::refreshes::{self, Ids, Refresh, Standings};
+use crate::shelf::Shelf;
 use rp_base::{CmdId, LeaseIndex, NoMemory, Tick};
 use rp_request::WaitList;
 use std::alloc::Global;
@@ -18,19 +20,18 @@ use std::marker::Model;
 /// distinct, and apart from it the spare room: how many can be added without memory.
 #[derive(Drop)]
 pub struct Pending {
-    slots: Slots,
+    slots: Shelf,
     count: usize,
 }
 
 impl Model for Pending {
     ghost use Rattle.rp_base.specs.Kept.{Kept};
-    ghost use Rattle.indexmap.specs.IndexMap.{spare};
     ghost use Rattle.rp_pending.specs.declared.proposals.Proposal.{Proposal};
     ghost use Rattle.rp_pending.specs.Slots.{proposals_in, AreSound};
 
     ghost Value = { Kept Proposal };
 
-    ghost view = { λ p. record { list = proposals_in p.slots.entries; spare = spare p.slots } };
+    ghost view = { λ p. record { list = proposals_in p.slots.entries; spare = p.slots.spare } };
 
     ghost invariant = { λ p. AreSound p.slots.entries p.count };
 }
@@ -41,7 +42,7 @@ impl Pending {
         ensures { result.list ≡ [] }
     {
         Pending {
-            slots: Slots::new(alloc),
+            slots: Shelf::new(alloc),
             count: 0,
         }
     }
@@ -52,8 +53,7 @@ impl Pending {
         ensures room { OnOk result (n ≤ self.new.spare) }
         ensures kept { self.old.spare ≤ self.new.spare }
     {
-        self.slots.reserve(n)?;
-        Ok(())
+        self.slots.reserve(n)
     }
 
     /// Puts a proposal at the end, without memory.
@@ -65,8 +65,8 @@ impl Pending {
     {
         let id = proposal.id;
         // An empty slot of this id would keep its place.
-        clear(&mut self.slots, id, self.count);
-        put(&mut self.slots, id, proposal);
+        self.slots.clear(id, self.count);
+        self.slots.put(id, proposal);
         self.count += 1;
     }
 
@@ -74,7 +74,7 @@ impl Pending {
     pub fn find(&self, id: CmdId) -> Option<&Proposal>
         ensures { option_copied result ≡ proposal_of id self.now.list }
     {
-        match get(&self.slots, id) {
+        match self.slots.get(id) {
             None => None,
             Some(slot) => slot.as_ref(),
         }
@@ -86,11 +86,11 @@ impl Pending {
         ensures list { self.new.list ≡ without id self.old.list }
         ensures spare { self.old.spare ≤ self.new.spare }
     {
-        match take(&mut self.slots, id) {
+        match self.slots.take(id) {
             None => None,
             Some(taken) => {
                 self.count -= 1;
-                tidy(&mut self.slots, self.count);
+                self.slots.tidy(self.count);
                 Some(taken)
             }
         }
@@ -103,7 +103,7 @@ impl Pending {
         ensures list { self.new.list ≡ with_changed id (proposed max now round) self.old.list }
         ensures spare { self.old.spare ≤ self.new.spare }
     {
-        change(&mut self.slots, id, Change::Propose { max, now, round });
+        let _ = self.slots.change(id, Change::Propose { max, now, round });
     }
 
     /// The proposal with this id waits for a lease index again.
@@ -112,7 +112,73 @@ impl Pending {
         ensures list { self.new.list ≡ with_changed id waiting_again self.old.list }
         ensures spare { self.old.spare ≤ self.new.spare }
     {
-        change(&mut self.slots, id, Change::WaitAgain);
+        let _ = self.slots.change(id, Change::WaitAgain);
+    }
+
+    /// Makes a change of the proposal with this id where it stands as the change wants it, and says
+    /// whether it did.
+    fn turn(&mut self, id: CmdId, change: Change) -> bool
+        ensures made { result ≡ is_made_at change (proposal_of id self.old.list) }
+        ensures list { self.new.list ≡ turned_at change id self.old.list }
+        ensures spare { self.old.spare ≤ self.new.spare }
+    {
+        self.slots.change(id, change)
+    }
+
+    /// The proposal with this id is proposed under a lease index, where it waits. It says whether
+    /// it did; else nothing is done.
+    pub fn hand_out(&mut self, id: CmdId, max: LeaseIndex, now: Tick, round: u64) -> bool
+        ensures done { result ≡ waits_at id self.old.list }
+        ensures list { self.new.list ≡ handed_out id max now round self.old.list }
+        ensures spare { self.old.spare ≤ self.new.spare }
+    {
+        self.turn(id, Change::HandOut { max, now, round })
+    }
+
+    /// The proposal with this id is pending no more, where it waits. It says whether it waited; else
+    /// nothing is done.
+    pub fn give_up(&mut self, id: CmdId) -> bool
+        ensures done { result ≡ waits_at id self.old.list }
+        ensures list { self.new.list ≡ given_up id self.old.list }
+        ensures spare { self.old.spare ≤ self.new.spare }
+    {
+        match self.find(id) {
+            Some(proposal) if !proposal.stage.is_proposed() => {
+                let _ = self.finish(id);
+                true
+            }
+            _ => false,
+        }
+    }
+
+    /// The proposal with this id waits for a lease index again, where it is proposed under an index
+    /// at or below the lease applied index. It says whether it does; else nothing is done.
+    pub fn take_back(&mut self, id: CmdId, lai: LeaseIndex) -> bool
+        ensures done { result ≡ goes_back_at lai id self.old.list }
+        ensures list { self.new.list ≡ taken_back id lai self.old.list }
+        ensures spare { self.old.spare ≤ self.new.spare }
+    {
+        self.turn(id, Change::TakeBack { lai })
+    }
+
+    /// The proposal with this id is proposed once more under its index, where it is proposed. It
+    /// says whether it was; else nothing is done.
+    pub fn repeat(&mut self, id: CmdId, now: Tick, round: u64) -> bool
+        ensures done { result ≡ is_proposed_at id self.old.list }
+        ensures list { self.new.list ≡ repeated id now round self.old.list }
+        ensures spare { self.old.spare ≤ self.new.spare }
+    {
+        self.turn(id, Change::Repeat { now, round })
+    }
+
+    /// Those that are proposed under an index at or below this one are pending no more. It goes
+    /// through all that is pending.
+    pub fn drop_back(&mut self, lai: LeaseIndex)
+        ensures list { self.new.list ≡ dropped_back lai self.old.list }
+        ensures spare { self.old.spare ≤ self.new.spare }
+    {
+        self.slots.keep_staying(lai);
+        self.count = self.slots.len();
     }
 
     /// The least round at which a pending proposal was flushed first, `None` where none was
@@ -120,21 +186,28 @@ impl Pending {
     pub fn first_round(&self) -> Option<u64>
         ensures { result ≡ first_round self.now.list }
     {
-        refreshes::first_round(&self.slots)
+        refreshes::first_round(self.slots.slots())
     }
 
     /// The ids of all pending proposals, in order of admission.
     pub fn ids(&self) -> Result<Ids, NoMemory>
         ensures { IfOk result (λ ids. ids ≡ map (λ p. p.id) self.now.list) }
     {
-        refreshes::ids(&self.slots)
+        refreshes::ids(self.slots.slots())
+    }
+
+    /// How far all pending proposals have come, in order of admission.
+    pub fn standings(&self) -> Result<Standings, NoMemory>
+        ensures { IfOk result (λ all. all ≡ map standing self.now.list) }
+    {
+        refreshes::standings(self.slots.slots())
     }
 
     /// The proposals that wait for a lease index, in order of admission.
     pub fn waiting(&self) -> Result<WaitList, NoMemory>
         ensures { IfOk result (λ w. w ≡ waiting_of self.now.list) }
     {
-        refreshes::waiting(&self.slots)
+        refreshes::waiting(self.slots.slots())
     }
 
     /// What a refresh is to do at a tick, under this lease applied index (CockroachDB's refresh of

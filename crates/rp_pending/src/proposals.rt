@@ -32,6 +32,14 @@ pub struct Proposal {
     pub round: Option<u64>,
 }
 
+/// How far a proposal has come.
+#[derive(Clone, Copy, PartialEq, Eq)]
+pub struct Standing {
+    pub id: CmdId,
+    pub max: LeaseIndex,
+    pub stage: Stage,
+}
+
 /// What happens to a proposal that stays pending.
 #[derive(Clone, Copy)]
 pub(crate) enum Change {
@@ -43,11 +51,27 @@ pub(crate) enum Change {
     },
     /// It waits for a lease index again.
     WaitAgain,
+    /// A waiting one is proposed under a lease index.
+    HandOut {
+        max: LeaseIndex,
+        now: Tick,
+        round: u64,
+    },
+    /// One that is proposed under an index at or below this one waits again.
+    TakeBack {
+        lai: LeaseIndex,
+    },
+    /// A proposed one is proposed once more under its index.
+    Repeat {
+        now: Tick,
+        round: u64,
+    },
 }
 
 impl Proposal {
     ghost use Rattle.rp_pending.specs.Proposals.{proposed, waiting_again};
     ghost use Rattle.rp_pending.specs.Slots.{changed};
+    ghost use Rattle.rp_pending.specs.Turns.{is_made};
 
     /// It is proposed under a lease index. The round is that of the first time.
     fn propose(&mut self, max: LeaseIndex, now: Tick, round: u64)
@@ -61,12 +85,34 @@ impl Proposal {
         }
     }
 
-    pub(crate) fn change(&mut self, change: Change)
-        ensures { self.new ≡ changed change self.old }
+    /// Makes a change where the proposal stands as the change wants it, and says whether it did.
+    pub(crate) fn change(&mut self, change: Change) -> bool
+        ensures made { result ≡ is_made change self.old }
+        ensures changed { self.new ≡ changed change self.old }
     {
+        let proposed = self.stage.is_proposed();
         match change {
             Change::Propose { max, now, round } => self.propose(max, now, round),
             Change::WaitAgain => self.stage = Stage::Waiting,
+            Change::HandOut { max, now, round } => {
+                if proposed {
+                    return false;
+                }
+                self.propose(max, now, round);
+            }
+            Change::TakeBack { lai } => {
+                if !self.goes_back(lai) {
+                    return false;
+                }
+                self.stage = Stage::Waiting;
+            }
+            Change::Repeat { now, round } => {
+                if !proposed {
+                    return false;
+                }
+                self.propose(self.max, now, round);
+            }
         }
+        true
     }
 }

@@ -5,9 +5,11 @@ ghost use Rattle.std.specs.Option.{option_and_then};
 ghost use Rattle.rp_pending.specs.Proposals.{is_proposed};
 ghost use Rattle.rp_pending.specs.Refreshes.{by_key, first_round, goes_again, goes_back, ids_by_max, to_refresh, waiting_of, waits};
 ghost use Rattle.rp_pending.specs.Slots.{proposals_in};
-ghost use Rattle.rp_pending.specs.Dues.{again_due, back_due, due, id_of};
+ghost use Rattle.rp_pending.specs.Dues.{again_due, back_due, due, id_of, standing, standing_of};
 
-use crate::proposals::{Proposal, Stage};
+use crate::bounds::Wanted;
+use crate::proposals::{Proposal, Stage, Standing};
+use crate::shelf::Shelf;
 use crate::slots::Slots;
 use rp_base::{CmdId, LeaseIndex, NoMemory, Seq, Tick};
 use rp_request::{WaitList, Waiting};
@@ -15,6 +17,9 @@ use std::alloc::{AllocError, Global};
 
 /// Attempts in an order that the function says.
 pub type Ids = Seq<CmdId>;
+
+/// How far proposals have come, in order of admission.
+pub type Standings = Seq<Standing>;
 
 /// What a refresh does with the proposals of a replica.
 #[derive(Drop)]
@@ -33,10 +38,10 @@ pub(crate) struct Due {
 }
 
 /// A refresh proposes a proposal again after so many ticks.
-const REFRESH_TICKS: u64 = 5;
+pub(crate) const REFRESH_TICKS: u64 = 5;
 
 impl Stage {
-    fn is_proposed(self) -> bool
+    pub(crate) fn is_proposed(self) -> bool
         ensures { result ≡ is_proposed self }
     {
         match self {
@@ -47,7 +52,7 @@ impl Stage {
 }
 
 impl Proposal {
-    fn goes_back(&self, lai: LeaseIndex) -> bool
+    pub(crate) fn goes_back(&self, lai: LeaseIndex) -> bool
         ensures { result ≡ goes_back lai self.now }
     {
         self.stage.is_proposed() && self.max <= lai
@@ -153,6 +158,38 @@ pub(crate) fn ids(slots: &Slots) -> Result<Ids, NoMemory>
     Ok(Seq::from_vec(all_ids(slots)?))
 }
 
+fn standing_in(slot: &Option<Proposal>) -> Option<Standing>
+    ensures { result ≡ option_and_then standing_of slot.now }
+{
+    match slot {
+        None => None,
+        Some(proposal) => Some(Standing {
+            id: proposal.id,
+            max: proposal.max,
+            stage: proposal.stage,
+        }),
+    }
+}
+
+fn all_standings(slots: &Slots) -> Result<Vec<Standing>, AllocError>
+    ensures { IfOk result
+        (λ v. v.items ≡ filter_map standing_of (proposals_in slots.now.entries)) }
+{
+    let alloc = *slots.allocator();
+    slots
+        .values()
+        .filter_map(|slot| standing_in(slot))
+        .collect(alloc)
+}
+
+/// How far all proposals have come, in order of admission.
+#[tactic(auto, using(crate::proofs::Reading::standings_are))]
+pub(crate) fn standings(slots: &Slots) -> Result<Standings, NoMemory>
+    ensures { IfOk result (λ all. all ≡ map standing (proposals_in slots.now.entries)) }
+{
+    Ok(Seq::from_vec(all_standings(slots)?))
+}
+
 fn round_in(slot: &Option<Proposal>) -> Option<u64>
     ensures { result ≡ option_and_then (λ p. p.round) slot.now }
 {
@@ -168,7 +205,7 @@ pub(crate) fn first_round(slots: &Slots) -> Option<u64>
     slots.values().filter_map(|slot| round_in(slot)).min()
 }
 
-fn back_in(slot: &Option<Proposal>, lai: LeaseIndex) -> Option<Due>
+pub(crate) fn back_in(slot: &Option<Proposal>, lai: LeaseIndex) -> Option<Due>
     ensures { result ≡ option_and_then (back_due lai) slot.now }
 {
     match slot {
@@ -177,24 +214,18 @@ fn back_in(slot: &Option<Proposal>, lai: LeaseIndex) -> Option<Due>
     }
 }
 
-fn again_in(slot: &Option<Proposal>, lai: LeaseIndex, now: Tick, all: bool) -> Option<Due>
+pub(crate) fn again_in(
+    slot: &Option<Proposal>,
+    lai: LeaseIndex,
+    now: Tick,
+    all: bool,
+) -> Option<Due>
     ensures { result ≡ option_and_then (again_due lai now all) slot.now }
 {
     match slot {
         None => None,
         Some(proposal) => proposal.again(lai, now, all),
     }
-}
-
-fn back_dues(slots: &Slots, lai: LeaseIndex) -> Result<Vec<Due>, AllocError>
-    ensures { IfOk result
-        (λ v. v.items ≡ filter_map (back_due lai) (proposals_in slots.now.entries)) }
-{
-    let alloc = *slots.allocator();
-    slots
-        .values()
-        .filter_map(|slot| back_in(slot, lai))
-        .collect(alloc)
 }
 
 fn again_dues(slots: &Slots, lai: LeaseIndex, now: Tick, all: bool) -> Result<Vec<Due>, AllocError>
@@ -223,17 +254,29 @@ fn in_order(mut dues: Vec<Due>) -> Result<Ids, NoMemory>
     Ok(Seq::from_vec(ids))
 }
 
-/// What a refresh is to do, in one pass for each list and one sort.
+/// What is proposed again. Where that is not all, blocks in which nothing is due are passed over.
+fn dues_again(shelf: &Shelf, lai: LeaseIndex, now: Tick, all: bool) -> Result<Vec<Due>, AllocError>
+    ensures { IfOk result
+        (λ v. v.items ≡ filter_map (again_due lai now all) (proposals_in shelf.now.entries)) }
+{
+    if !all {
+        return shelf.dues(Wanted::Again { lai, now });
+    }
+    again_dues(shelf.slots(), lai, now, all)
+}
+
+/// What a refresh is to do: of all in one pass, else only where something may be due; and a sort
+/// of what is.
 pub(crate) fn to_refresh(
-    slots: &Slots,
+    shelf: &Shelf,
     lai: LeaseIndex,
     now: Tick,
     all: bool,
 ) -> Result<Refresh, NoMemory>
-    ensures { IfOk result (λ r. r ≡ to_refresh lai now all (proposals_in slots.now.entries)) }
+    ensures { IfOk result (λ r. r ≡ to_refresh lai now all (proposals_in shelf.now.entries)) }
 {
-    let again = again_dues(slots, lai, now, all)?;
-    let back = back_dues(slots, lai)?;
+    let again = dues_again(shelf, lai, now, all)?;
+    let back = shelf.dues(Wanted::Back { lai })?;
     Ok(Refresh {
         again: in_order(again)?,
         back: in_order(back)?,

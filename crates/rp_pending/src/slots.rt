@@ -1,16 +1,17 @@
 //! Slots of proposals, by id and in order of admission.
-ghost use Rattle.std.specs.Prelude.{◌≡◌, ◌+◌, ◌≤◌, ◌<◌, ◌^◌, [], ◌∷◌, ◌++◌, is_some, Option, filter};
+ghost use Rattle.std.specs.Prelude.{◌≡◌, ◌+◌, ◌≤◌, ◌<◌, ◌^◌, [], ◌∷◌, ◌++◌, is_some, length, position, Option, filter};
 ghost use Rattle.std.specs.List.{IsDistinct};
 ghost use Rattle.std.specs.Map.{keys_of, remove_entry};
 ghost use Rattle.std.specs.Option.{option_copied, option_flatten, option_map};
 ghost use Rattle.indexmap.specs.IndexMap.{spare};
 ghost use Rattle.rp_pending.specs.declared.proposals.Proposal.{Proposal};
 ghost use Rattle.rp_base.specs.Ids.{same_id};
-ghost use Rattle.rp_pending.specs.Slots.{changed, proposals_in, slot_of, with_slot, AreSound};
+ghost use Rattle.rp_pending.specs.Turns.{is_made_at};
+ghost use Rattle.rp_pending.specs.Slots.{changed, proposals_in, slot_of, stays, with_slot, AreSound};
 
 use crate::proposals::{Change, Proposal};
 use indexmap::IndexMap;
-use rp_base::CmdId;
+use rp_base::{CmdId, LeaseIndex};
 
 /// A slot for each id, in order of admission, empty where the proposal has ended.
 pub(crate) type Slots = IndexMap<CmdId, Option<Proposal>>;
@@ -18,24 +19,29 @@ pub(crate) type Slots = IndexMap<CmdId, Option<Proposal>>;
 /// So few empty slots are left as they are.
 const FEW_SLOTS: usize = 64;
 
-/// Changes the proposal of a slot.
-fn change_in(slot: &mut Option<Proposal>, change: Change)
-    ensures { slot.new ≡ option_map (changed change) slot.old }
+/// Changes the proposal of a slot, and says whether it did.
+fn change_in(slot: &mut Option<Proposal>, change: Change) -> bool
+    ensures made { result ≡ is_made_at change slot.old }
+    ensures slot { slot.new ≡ option_map (changed change) slot.old }
 {
-    if let Some(proposal) = slot {
-        proposal.change(change);
+    match slot {
+        None => false,
+        Some(proposal) => proposal.change(change),
     }
 }
 
-/// Changes the proposal with this id.
-pub(crate) fn change(slots: &mut Slots, id: CmdId, change: Change)
+/// Changes the proposal with this id, and says whether it did.
+pub(crate) fn change(slots: &mut Slots, id: CmdId, change: Change) -> bool
+    ensures made { result ≡ is_made_at change (option_flatten (slot_of id slots.old.entries)) }
+    ensures none { slot_of id slots.old.entries ≡ None → slots.new.entries ≡ slots.old.entries }
     ensures entries { (slot : Option Proposal) → slot_of id slots.old.entries ≡ Some slot
         → slots.new.entries ≡ with_slot id slots.old.entries (option_map (changed change) slot) }
     ensures spare { spare slots.old ≤ spare slots.new }
 {
-    if let Some(slot) = slots.get_mut(&id) {
-        change_in(slot, change);
-    }
+    let Some(slot) = slots.get_mut(&id) else {
+        return false;
+    };
+    change_in(slot, change)
 }
 
 /// Empties the slot of this id and gives its proposal.
@@ -56,6 +62,14 @@ pub(crate) fn get(slots: &Slots, id: CmdId) -> Option<&Option<Proposal>>
     ensures { option_copied result ≡ slot_of id slots.now.entries }
 {
     slots.get(&id)
+}
+
+/// The place of this id's slot, where there is one.
+pub(crate) fn place_of(slots: &Slots, id: CmdId) -> Option<usize>
+    ensures place { result ≡ position (same_id id) (keys_of slots.now.entries) }
+    ensures there { is_some result ≡ is_some (slot_of id slots.now.entries) }
+{
+    slots.get_index_of(&id)
 }
 
 /// Puts a proposal into a new slot at the end, without memory.
@@ -86,6 +100,8 @@ pub(crate) fn clear(slots: &mut Slots, id: CmdId, count: usize)
     ensures sound { AreSound slots.new.entries count }
     ensures same { proposals_in slots.new.entries ≡ proposals_in slots.old.entries }
     ensures new_id { slot_of id slots.new.entries ≡ None }
+    ensures kept { length slots.new.entries ≡ length slots.old.entries
+        → slots.new.entries ≡ slots.old.entries }
     ensures small { count < 2 ^ 63 }
     ensures spare { spare slots.old ≤ spare slots.new }
 {
@@ -114,10 +130,35 @@ pub(crate) fn tidy(slots: &mut Slots, count: usize)
     requires { AreSound slots.old.entries count }
     ensures sound { AreSound slots.new.entries count }
     ensures same { proposals_in slots.new.entries ≡ proposals_in slots.old.entries }
+    ensures kept { length slots.new.entries ≡ length slots.old.entries
+        → slots.new.entries ≡ slots.old.entries }
     ensures spare { spare slots.old ≤ spare slots.new }
 {
     let empty = slots.len() - count;
     if empty > count && empty > FEW_SLOTS {
         compact(slots);
     }
+}
+
+/// Whether the slot has a proposal that does not go back under a lease applied index.
+fn stays(slot: &Option<Proposal>, lai: LeaseIndex) -> bool
+    ensures { result ≡ stays lai slot.now }
+{
+    match slot {
+        None => false,
+        Some(proposal) => !proposal.goes_back(lai),
+    }
+}
+
+/// Takes the slots out that are empty or whose proposals go back under a lease applied index.
+pub(crate) fn keep_staying(slots: &mut Slots, lai: LeaseIndex)
+    ensures entries { slots.new.entries ≡ filter (λ s. stays lai s.1) slots.old.entries }
+    ensures distinct { IsDistinct same_id (keys_of slots.new.entries) }
+    ensures spare { spare slots.old ≤ spare slots.new }
+{
+    slots.retain(
+        |_id: &CmdId, slot: &mut Option<Proposal>| -> bool
+            ensures { (result ≡ stays lai slot.old) × (slot.new ≡ slot.old) }
+        { stays(slot, lai) },
+    );
 }

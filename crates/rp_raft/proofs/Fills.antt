@@ -28,7 +28,7 @@ sent_from : {S : Type 0} (applied : ℕ) (snapshot : S) (st z : RaftState) (mess
     → ◌≡◌ {A = Done S} (record { state = z; out = record { messages = messages ++ last_sends applied snapshot z due; taken = taken } }) (sent applied snapshot (record { state = st; replies = messages; due = due; taken = taken }))
 sent_from {S} applied snapshot st z messages due taken e = ap (λ (x : RaftState). record { state = x; out = record { messages = messages ++ last_sends applied snapshot x due; taken = taken } }) e
 
-nothing_behind : (log : LogState) → appended log [] ≡ log
+pub nothing_behind : (log : LogState) → appended log [] ≡ log
 nothing_behind log = ap (λ (z : List Entry). record log { entries = z }) (append-nil log.entries)
 
 -- who is no leader keeps its state

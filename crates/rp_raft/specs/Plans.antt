@@ -1,5 +1,5 @@
 -- What a plan is: a change of the head, an edit of the log, and messages that are made already.
-use Rattle.std.specs.Prelude.{◌≡◌, ℕ, ◌+◌, ◌^◌, ◌<◌, ◌≤◌, true, false, Option, None, List, [], ◌∷◌, ◌++◌, length, take, count_by, nat_le}
+use Rattle.std.specs.Prelude.{◌≡◌, ℕ, ◌+◌, ◌^◌, ◌<◌, ◌≤◌, Bool, true, false, Option, None, List, [], ◌∷◌, ◌++◌, length, take, count_by, nat_le}
 use Rattle.rp_raftlog.specs.declared.entries.Entry.{Entry}
 use Rattle.rp_raftlog.specs.LogState.{LogState, log_at, last_index, matches, appended, accepted, cut}
 use Rattle.rp_raftstep.specs.declared.heads.Due.{Due}
@@ -49,6 +49,13 @@ IsNoCut (Appends entries) = Unit {0}
 IsNoCut (Accepts prev_index prev_term entries) = Unit {0}
 IsNoCut (Cuts to) = ⊥
 IsNoCut (Resets index term) = Unit {0}
+
+abbrev pub is_no_cut : LogEdit → Bool
+is_no_cut Stays = true
+is_no_cut (Appends entries) = true
+is_no_cut (Accepts prev_index prev_term entries) = true
+is_no_cut (Cuts to) = false
+is_no_cut (Resets index term) = true
 
 -- who takes entries or a snapshot of a leader is no leader, and sends no entries
 abbrev pub IsSendable : LogEdit → Head → Due → Type 0
@@ -137,28 +144,39 @@ drafted_by st p = record {
   taken = p.draft.taken;
 }
 
--- the head that the planned event leaves, and what it takes in
+-- the head that the planned event leaves, what it sends, and what it takes in
 abbrev pub head_after : {S : Type 0} → RaftPlan S → Head
 head_after p = p.after
 
+abbrev pub sends_of : {S : Type 0} → RaftPlan S → List (ℕ × Message S)
+sends_of p = p.draft.messages
+
 abbrev pub taken_in : {S : Type 0} → RaftPlan S → Option (ℕ × S)
 taken_in p = p.draft.taken
+
+-- the plan without the snapshot that it takes in: all else is as before
+abbrev pub snapshot_out : {S : Type 0} → RaftPlan S → RaftPlan S
+snapshot_out p = record p { draft = record p.draft { taken = None } }
 
 -- what the plan does
 abbrev pub done_by : {S : Type 0} → RaftState → RaftPlan S → Done S
 done_by st p = record {
   state = leads_to (head_after p) st.log p.draft.edit;
-  out = record { messages = p.draft.messages; taken = taken_in p };
+  out = record { messages = sends_of p; taken = taken_in p };
 }
 
--- the plan may be committed in this state, with this room
-pub record PlanFits {S : Type 0} (st : RaftState) (spare : ℕ) (p : RaftPlan S) : Type 0 where
+-- the plan was made in this state
+pub record IsMadeIn {S : Type 0} (st : RaftState) (p : RaftPlan S) : Type 0 where
   pub edit : EditFits st.log p.draft.edit
-  pub room : room_of p.draft.edit ≤ spare
   pub sound : IsSound (leads_to p.after st.log p.draft.edit)
   pub draft : IsSound (leads_to p.draft.head st.log p.draft.edit)
   pub sendable : IsSendable p.draft.edit p.draft.head p.draft.due
   pub replies : p.replies ≤ length p.draft.messages
+
+-- the plan may be committed in this state, with this room
+pub record PlanFits {S : Type 0} (st : RaftState) (spare : ℕ) (p : RaftPlan S) : Type 0 where
+  pub made : IsMadeIn st p
+  pub room : room_of p.draft.edit ≤ spare
 
 -- made in this state, the plan drafts that and does this
 pub record Makes {S : Type 0} (st : RaftState) (p : RaftPlan S) (draft : Draft S) (done : Done S)
@@ -176,8 +194,10 @@ Plans applied snapshot st (Propose payloads) p =
     Makes st p (propose st payloads) (step applied snapshot st (Propose payloads))
 Plans applied snapshot st (Cut to) p = done_by st p ≡ step applied snapshot st (Cut to)
 
--- what the plan of any event but a Cut asks for to be extended by these payloads
+-- what the plan of any event but a Cut asks for to be extended by these payloads: one that leads then
+-- can append them
 pub record CanExtend {S : Type 0} (st : RaftState) (p : RaftPlan S) (payloads : List (List ℕ))
     : Type 0 where
   pub whole : IsNoCut p.draft.edit
-  pub room : CanAppend (drafted_by st p).state payloads
+  pub room :
+      is_leader (drafted_by st p).state.head.role ≡ true → CanAppend (drafted_by st p).state payloads

@@ -1,8 +1,9 @@
 //! What an event will do: a change of the head, an edit of the log, and messages made already.
 
-ghost use Rattle.std.specs.Prelude.{◌≡◌, option_copied, take};
+ghost use Rattle.std.specs.Prelude.{◌≡◌, ℕ, length, option_copied, take};
 ghost use Rattle.std.specs.Option.{option_map};
-ghost use Rattle.rp_raft.specs.Plans.{behind_of, head_after, room_of, taken_in};
+ghost use Rattle.rp_raft.specs.Plans.{behind_of, head_after, is_no_cut, room_of, sends_of, snapshot_out, taken_in, PlanFits};
+ghost use Rattle.rp_raftstep.specs.RaftState.{RaftState};
 
 use rp_base::{NodeId, Seq};
 use rp_raftlog::{Entries, Entry};
@@ -79,6 +80,13 @@ pub(crate) fn behind_of(edit: &LogEdit) -> &[Entry]
     }
 }
 
+/// Whether it is of any event but a Cut.
+pub(crate) fn is_no_cut(edit: &LogEdit) -> bool
+    ensures { result ≡ is_no_cut edit.now }
+{
+    !matches!(edit, LogEdit::Cuts { .. })
+}
+
 /// The draft of a plan: without the messages that were made last.
 pub(crate) fn draft_back<S: Drop>(plan: RaftPlan<S>) -> RaftDraft<S>
     ensures { result ≡ record plan.draft { messages = take plan.replies plan.draft.messages } }
@@ -112,5 +120,23 @@ impl<S> RaftPlan<S> {
         ensures { option_copied result ≡ option_map (λ taken. taken.1) (taken_in self.now) }
     {
         self.draft.taken.as_ref().map(|taken| &taken.1)
+    }
+
+    /// How many messages the event sends.
+    pub fn sends(&self) -> usize
+        ensures { result ≡ length (sends_of self.now) }
+    {
+        self.draft.messages.len()
+    }
+
+    /// Hands out the index and the snapshot that the event takes in: `commit` hands out none any
+    /// more. All else that the plan does stays.
+    pub fn take_snapshot(&mut self) -> Option<(u64, S)>
+        ensures taken { result ≡ taken_in self.old }
+        ensures rest { self.new ≡ snapshot_out self.old }
+        ensures fits { (st : RaftState) (spare : ℕ)
+            → PlanFits st spare self.old → PlanFits st spare self.new }
+    {
+        self.draft.taken.take()
     }
 }

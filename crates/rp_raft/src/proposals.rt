@@ -123,7 +123,8 @@ impl<S: Drop> Raft<S> {
         payloads: Payloads,
     ) -> Result<RaftDraft<S>, NoMemory>
         requires fits { DraftFits self.now.raft.log draft }
-        requires room { CanAppend (leads_to draft.head self.now.raft.log draft.edit) payloads }
+        requires room { is_leader draft.head.role ≡ true
+            → CanAppend (leads_to draft.head self.now.raft.log draft.edit) payloads }
         ensures { IfOk result (λ d. Drafts self.now.raft.log d
             (then_proposed (draft_of self.now.raft.log draft) payloads)) }
     {

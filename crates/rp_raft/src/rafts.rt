@@ -1,6 +1,6 @@
 //! A replica's Raft: how it begins, what it shows, and how it starts again.
 
-ghost use Rattle.std.specs.Prelude.{◌≡◌, ◌+◌, ◌<◌, ◌≤◌, ◌^◌, None, Some};
+ghost use Rattle.std.specs.Prelude.{◌≡◌, ◌+◌, ◌<◌, ◌≤◌, ◌^◌, option_copied, None, Some};
 ghost use Rattle.rp_raftlog.specs.LogState.{entry_at, last_index, last_term, log_at};
 ghost use Rattle.rp_raftstep.specs.RaftState.{is_leader, made_by_snap, restarted, revived, started};
 
@@ -217,5 +217,13 @@ impl<S> Raft<S> {
         ensures { entry_at self.now.raft.log index ≡ Some result.now }
     {
         self.log.entry_at(index).unwrap()
+    }
+
+    /// The entry with this index: `None` exactly where the index is at or below the base or past
+    /// the last.
+    pub fn entry_at(&self, index: u64) -> Option<&Entry>
+        ensures { option_copied result ≡ entry_at self.now.raft.log index }
+    {
+        self.log.entry_at(index)
     }
 }

@@ -1,19 +1,20 @@
 //! An event in two phases: it is planned, with all memory that it takes, and committed.
 
-ghost use Rattle.std.specs.Prelude.{◌≡◌, ◌+◌, ◌<◌, ◌≤◌, ◌++◌, IfOk};
+ghost use Rattle.std.specs.Prelude.{◌≡◌, ◌+◌, ◌<◌, ◌≤◌, ◌++◌, true, IfOk, OnOk};
 ghost use Rattle.rp_raftlog.specs.LogState.{last_index};
 ghost use Rattle.rp_raftstep.specs.Conditions.{Allows, CanRise};
 ghost use Rattle.rp_raftstep.specs.Step.{advanced, cut_away, due_peers, sends_among, sent, step_then, then_proposed};
-ghost use Rattle.rp_raft.specs.Plans.{CanExtend, DraftFits, EditFits, Makes, PlanFits, Plans, ahead, behind_of, done_by, draft_of, drafted_by, edited, room_of};
+ghost use Rattle.rp_raft.specs.Plans.{CanExtend, DraftFits, EditFits, IsMadeIn, Makes, PlanFits, Plans, ahead, behind_of, done_by, draft_of, drafted_by, edited, room_of};
 
+use crate::ahead::last_in;
 use crate::commits::advanced;
 use crate::drafts::quiet;
-use crate::plans::{LogEdit, RaftDraft, RaftPlan, behind_of, draft_back, room_of};
+use crate::plans::{LogEdit, RaftDraft, RaftPlan, behind_of, draft_back, is_no_cut, room_of};
 use crate::rafts::Raft;
 use crate::sends::due_peers;
 use rp_base::NoMemory;
 use rp_raftlog::Log;
-use rp_raftstep::{Head, MakeSnap, Payloads, RaftEvent, RaftOut};
+use rp_raftstep::{Head, MakeSnap, Payloads, RaftEvent, RaftOut, Role};
 
 /// Makes the edit, without memory.
 fn make_edit(log: &mut Log, edit: LogEdit)
@@ -43,7 +44,7 @@ impl<S: Drop> Raft<S> {
         requires behind { self.now.raft.log.base ≤ to }
         requires within { to ≤ last_index self.now.raft.log }
         ensures does { done_by self.now.raft result ≡ cut_away self.now.raft to }
-        ensures fits { PlanFits self.now.raft 0 result }
+        ensures made { IsMadeIn self.now.raft result }
     {
         RaftPlan {
             draft: RaftDraft {
@@ -86,7 +87,7 @@ impl<S: Drop> Raft<S> {
         requires { DraftFits self.now.raft.log draft }
         ensures plan { IfOk result (λ p. Makes self.now.raft p (draft_of self.now.raft.log draft)
             (sent (M.index snap.now) (M.snapshot snap.now) (draft_of self.now.raft.log draft))) }
-        ensures fits { IfOk result (λ p. PlanFits self.now.raft (room_of p.draft.edit) p) }
+        ensures made { IfOk result (λ p. IsMadeIn self.now.raft p) }
     {
         let replies = draft.messages.len();
         let after = self.finish(&mut draft, snap)?;
@@ -106,7 +107,7 @@ impl<S: Drop> Raft<S> {
         requires { Allows self.now.raft event }
         ensures plan { IfOk result (λ p. Plans (M.index snap.now) (M.snapshot snap.now)
             self.now.raft event p) }
-        ensures fits { IfOk result (λ p. PlanFits self.now.raft (room_of p.draft.edit) p) }
+        ensures made { IfOk result (λ p. IsMadeIn self.now.raft p) }
     {
         match event {
             RaftEvent::Tick => self.fill(self.plan_tick()?, snap),
@@ -136,6 +137,36 @@ impl<S: Drop> Raft<S> {
         Ok(plan)
     }
 
+    /// Makes the room that a plan of this state takes. What contracts see, room aside, stays.
+    pub fn make_room(&mut self, plan: &RaftPlan<S>) -> Result<(), NoMemory>
+        requires { IsMadeIn self.old.raft plan.now }
+        ensures raft { self.new.raft ≡ self.old.raft }
+        ensures room { self.old.spare ≤ self.new.spare }
+        ensures fits { OnOk result (PlanFits self.new.raft self.new.spare plan.now) }
+    {
+        self.log.make_room(room_of(&plan.draft.edit))
+    }
+
+    /// Whether a plan of this state may be extended by these payloads: it is no Cut, and where the
+    /// event leaves a leader, the log's indexes with the payloads behind stay below 2^64.
+    #[tactic(auto, using(crate::proofs::Extends::extends, crate::proofs::Extends::extended))]
+    pub fn can_extend(&self, plan: &RaftPlan<S>, payloads: &Payloads) -> bool
+        requires { IsMadeIn self.now.raft plan.now }
+        ensures yes { result ≡ true → CanExtend self.now.raft plan.now payloads.now }
+        ensures no { CanExtend self.now.raft plan.now payloads.now → result ≡ true }
+    {
+        let more = payloads.len() as u64;
+        if !is_no_cut(&plan.draft.edit) {
+            return false;
+        }
+        if plan.draft.head.role != Role::Leader {
+            return true;
+        }
+        last_in(&self.log, behind_of(&plan.draft.edit))
+            .checked_add(more)
+            .is_some()
+    }
+
     /// The plan of that event and of a Propose of these payloads, as one event.
     pub fn extend<M: MakeSnap<S>>(
         &mut self,
@@ -143,7 +174,7 @@ impl<S: Drop> Raft<S> {
         payloads: Payloads,
         snap: &M,
     ) -> Result<RaftPlan<S>, NoMemory>
-        requires fits { PlanFits self.old.raft self.old.spare plan }
+        requires made { IsMadeIn self.old.raft plan }
         requires more { CanExtend self.old.raft plan payloads }
         ensures raft { self.new.raft ≡ self.old.raft }
         ensures room { self.old.spare ≤ self.new.spare }

@@ -21,7 +21,7 @@ use Rattle.rp_raftsafe.proofs.Pieces.{every_append, every_map, every_all}
 use Rattle.rp_raftsafe.proofs.Worlds.{every_get, run-append}
 
 -- a snapshot in a message has Q, and one that is taken in has P
-abbrev SnapHas : {S : Type 0} → (ℕ → S → Type 0) → Message S → Type 0
+abbrev pub SnapHas : {S : Type 0} → (ℕ → S → Type 0) → Message S → Type 0
 SnapHas Q (Vote t i it) = Unit {0}
 SnapHas Q (VoteReply t granted) = Unit {0}
 SnapHas Q (Append t prev pt es commit) = Unit {0}
@@ -29,7 +29,7 @@ SnapHas Q (AppendReply t ok i) = Unit {0}
 SnapHas Q (Forward payload) = Unit {0}
 SnapHas Q (Snap t i it s) = Q i s
 
-abbrev SentSnap : {S : Type 0} → (ℕ → S → Type 0) → ℕ × Message S → Type 0
+abbrev pub SentSnap : {S : Type 0} → (ℕ → S → Type 0) → ℕ × Message S → Type 0
 SentSnap Q sent = SnapHas Q sent.1
 
 abbrev TakenHas : {S : Type 0} → (ℕ → S → Type 0) → Option (ℕ × S) → Type 0
@@ -206,12 +206,12 @@ applies_snaps {S} Q g r =
     one (Some e) = tt
 
 -- what a replica has applied, if the node has one, has Q
-abbrev AppliedHas : {S : Type 0} → (ℕ → S → Type 0) → Status S → Type 0
+abbrev pub AppliedHas : {S : Type 0} → (ℕ → S → Type 0) → Status S → Type 0
 AppliedHas Q Absent = Unit {0}
 AppliedHas Q (Live r) = Q r.applied r.state
 AppliedHas Q Removed = Unit {0}
 
-acts_snaps : {S : Type 0} (Q : ℕ → S → Type 0) (g : Range S) (p : ℕ) (action : Action) (status : Status S) → AppliedHas Q status → Every (SentSnap Q) (acts g p action status).sends
+pub acts_snaps : {S : Type 0} (Q : ℕ → S → Type 0) (g : Range S) (p : ℕ) (action : Action) (status : Status S) → AppliedHas Q status → Every (SentSnap Q) (acts g p action status).sends
 acts_snaps Q g p Begin Absent h = tt
 acts_snaps Q g p (Ticks again) Absent h = tt
 acts_snaps Q g p (Proposes payloads) Absent h = tt
@@ -228,7 +228,7 @@ acts_snaps Q g p Removes (Live r) h = tt
 acts_snaps Q g p Restarts (Live r) h = tt
 acts_snaps Q g p action Removed h = tt
 
-absent_snaps : {S : Type 0} (Q : ℕ → S → Type 0) (from : ℕ) (m : Message S) → Every (SentSnap Q) (absent_answer from m)
+pub absent_snaps : {S : Type 0} (Q : ℕ → S → Type 0) (from : ℕ) (m : Message S) → Every (SentSnap Q) (absent_answer from m)
 absent_snaps Q from (Vote t i it) = tt
 absent_snaps Q from (VoteReply t granted) = tt
 absent_snaps Q from (Append t prev pt es commit) = (tt, tt)
@@ -236,7 +236,7 @@ absent_snaps Q from (AppendReply t said i) = tt
 absent_snaps Q from (Forward payload) = tt
 absent_snaps Q from (Snap t i it s) = (tt, tt)
 
-gets_snaps : {S : Type 0} (Q : ℕ → S → Type 0) (g : Range S) (p from : ℕ) (m : Message S) (again : List (List ℕ)) (status : Status S) → AppliedHas Q status → Every (SentSnap Q) (gets g p from m again status).sends
+pub gets_snaps : {S : Type 0} (Q : ℕ → S → Type 0) (g : Range S) (p from : ℕ) (m : Message S) (again : List (List ℕ)) (status : Status S) → AppliedHas Q status → Every (SentSnap Q) (gets g p from m again status).sends
 gets_snaps Q g p from m again Absent h = absent_snaps Q from m
 gets_snaps {S} Q g p from m again (Live r) h = by_raft_snaps Q r (received r.raft from m) again h (received_snaps Q (AnySnap {S = S}) r.raft from m (λ t i it s is above. tt)).replies
 gets_snaps Q g p from m again Removed h = tt

@@ -2,7 +2,6 @@ pub mod Joined
 pub mod CommandCounts
 pub mod WordLaws
 pub mod RequestWords
-pub mod ReadBack
 pub mod EndWords
 pub mod ItemWords
 pub mod ReportLines

@@ -12,7 +12,7 @@ use Rattle.rp_request.specs.declared.items.Record.{Record}
 use Rattle.rp_request.specs.declared.items.Record.TheVariants.{Took, Passed}
 use Rattle.rp_request.specs.declared.notes.Note.{Note}
 use Rattle.rp_request.specs.declared.notes.ReplyLine.{ReplyLine}
-use Rattle.rp_script.specs.Words.{begun_with}
+use Rattle.rp_request.specs.Words.{begun_with}
 use Rattle.rp_report.specs.declared.views.Row.{Row}
 use Rattle.rp_report.specs.declared.views.ReplicaView.{ReplicaView}
 use Rattle.rp_report.specs.declared.views.ReplicaView.TheVariants.{Live, Removed, Absent}

@@ -14,7 +14,7 @@ use Rattle.rp_base.specs.ShortTexts.{is_text_byte}
 use Rattle.rp_base.specs.Values.{IsValue, value_text}
 use Rattle.rp_base.specs.declared.values.Value.{Value}
 use Rattle.rp_base.specs.declared.values.Value.TheVariants.{Number, Text}
-use Rattle.rp_script.specs.Words.{pieces, has_bytes, words_of}
+use Rattle.rp_request.specs.Words.{pieces, has_bytes, words_of}
 
 -- a byte that is neither a space nor the end of a line
 abbrev pub is_letter : ℕ → Type 0

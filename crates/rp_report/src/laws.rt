@@ -1,5 +1,5 @@
 //! Laws of the texts, for the proofs above. No program calls these functions.
-ghost use Rattle.std.specs.Prelude.{map, ◌≡◌, ℕ, ◌<◌, ◌^◌, Ok};
+ghost use Rattle.std.specs.Prelude.{map, ◌≡◌, ℕ, ◌<◌, ◌^◌};
 ghost use Rattle.rp_request.specs.Fits.{FitsRequest, FitsReply};
 ghost use Rattle.rp_request.specs.declared.requests.Request.{Request};
 ghost use Rattle.rp_request.specs.declared.outcomes.Reply.{Reply};
@@ -7,20 +7,12 @@ ghost use Rattle.rp_request.specs.declared.outcomes.Refusal.{Refusal};
 ghost use Rattle.rp_request.specs.declared.outcomes.End.{End};
 ghost use Rattle.rp_request.specs.declared.items.Place.{Place};
 ghost use Rattle.rp_request.specs.declared.items.Record.{Record};
-ghost use Rattle.rp_script.specs.Words.{words_of};
-ghost use Rattle.rp_script.specs.Requests.{request};
 ghost use Rattle.rp_report.specs.Items.{request_text, reply_text, item_text, record_line};
 ghost use Rattle.rp_report.specs.Outcomes.{refusal_text, end_text};
 ghost use Rattle.rp_report.specs.Report.{report};
 ghost use Rattle.rp_report.specs.declared.views.View.{View};
 ghost use Rattle.rp_report.specs.Widths.{FitsRefusal, FitsEnd, FitsPlace, FitsRecord, FitsView};
 ghost use Rattle.rp_report.specs.InTexts.{reply_in_text, refusal_in_text, end_in_text, item_in_text, record_in_text, entries_in, entry_in_text};
-
-/// A request is spelled as in a `send` line: a script reads its words as this request.
-#[tactic(auto, using(crate::proofs::ReadBack::read_back))]
-pub fn requests_are_read_back()
-    ensures { (q : Request) → FitsRequest q → request (words_of (request_text q)) ≡ Ok q }
-{}
 
 /// Requests with one text are one request.
 #[tactic(auto, using(crate::proofs::RequestWords::one_request))]

@@ -13,5 +13,6 @@ pub mod Records
 pub mod Requests
 pub mod Starts
 pub mod Texts
+pub mod Words
 pub mod States
 pub mod Attempts

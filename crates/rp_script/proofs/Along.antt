@@ -3,7 +3,7 @@ use Rattle.std.proofs.Common.{◌≡◌, ℕ, ◌+◌, ◌*◌, ◌≤◌, ◌<�
 use Rattle.std.specs.Prelude.{IfOk, IfSome, IsTrue, if◌then◌else◌}
 use Rattle.std.specs.List.{AllByRecursion}
 use Rattle.rp_script.specs.Built.{unbuilt_in}
-use Rattle.rp_script.specs.Words.{words_of}
+use Rattle.rp_request.specs.Words.{words_of}
 use Rattle.rp_script.specs.Keywords.{keyword_of}
 use Rattle.rp_script.specs.Bounds.{IsFirst, Fits, FollowsIn, Follows, AllFollow, seen_after, IsAlong, IsScript, IsBounded, IsTaken}
 use Rattle.rp_script.specs.Seen.{Seen, unseen, after, limit_of, bad_byte_of, begins_comment, skipped, unless_bad, placed, said, at_line, unless_limited, judged, unended_by, unended}

@@ -5,7 +5,7 @@ use Rattle.std.specs.List.{list_any, position_from, prefix_len, AllByRecursion}
 use Rattle.std.proofs.lemmas.Bool.Decides.{nat_tests}
 use Rattle.rp_base.specs.ShortTexts.{is_text_byte, good_len, text_of}
 use Rattle.rp_base.proofs.TextLaws.{text_of_stops, text_of_whole}
-use Rattle.rp_script.specs.Words.{begun_with, pieces, has_bytes, words_of}
+use Rattle.rp_request.specs.Words.{begun_with, pieces, has_bytes, words_of}
 use Rattle.rp_script.specs.Seen.{is_bad_byte, has_bad_byte, bad_byte_of}
 use Rattle.rp_script.specs.Causes.{LongTextsAlone}
 

@@ -2,7 +2,7 @@
 use Rattle.std.proofs.Common.{◌≡◌, ◌≢◌, ℕ, suc, ◌+◌, ◌==◌, not, Bool, true, false, List, [], ◌∷◌, take, drop, length, refl, ap, ◌∙◌, sym, arith}
 use Rattle.std.specs.Prelude.{filter}
 use Rattle.std.specs.List.{prefix_len}
-use Rattle.rp_script.specs.Words.{pieces, has_bytes, words_of}
+use Rattle.rp_request.specs.Words.{pieces, has_bytes, words_of}
 
 abbrev is_space : ℕ → Bool
 is_space b = b == 32

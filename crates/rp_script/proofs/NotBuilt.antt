@@ -1,7 +1,7 @@
 -- The rules of a script refuse no line as not built.
 use Rattle.std.proofs.Common.{◌≡◌, ◌⊎◌, inl, inr, ℕ, zero, suc, ◌+◌, Bool, true, false, List, [], ◌∷◌, Option, Some, None, Result, Ok, Err, refl, ap, sym, subst}
 use Rattle.std.specs.Prelude.{IfErr, if◌then◌else◌}
-use Rattle.rp_script.specs.Words.{words_of}
+use Rattle.rp_request.specs.Words.{words_of}
 use Rattle.rp_script.specs.Keywords.{keyword_of}
 use Rattle.rp_script.specs.Wanted.{Wanted, Number, CommandNumber, KeyName, ValueWord, Expected, EndFrom, RequestName}
 use Rattle.rp_script.specs.Seen.{Seen, limit_of, bad_byte_of, begins_comment, placed, skipped, unless_bad, said, at_line, unless_limited, judged}

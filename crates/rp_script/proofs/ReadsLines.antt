@@ -3,7 +3,7 @@ use Rattle.std.proofs.Common.{◌≡◌, ℕ, ◌+◌, ◌<◌, ◌≤◌, ◌==
 use Rattle.std.specs.Prelude.{nat_lt}
 use Rattle.std.proofs.lemmas.Bool.Decides.{nat_tests}
 use Rattle.rp_base.specs.declared.Which.TheVariants.{Lines, LineBytes}
-use Rattle.rp_script.specs.Words.{begun_with, lines_of}
+use Rattle.rp_request.specs.Words.{begun_with, lines_of}
 use Rattle.rp_script.specs.Seen.{Seen, limit_of, judged, after, unended}
 use Rattle.rp_base.specs.Gives.{Gives}
 use Rattle.rp_script.specs.Meaning.{◌>>=◌, built_at, judged_in, AllAreBuilt, numbered, in_front, ended_at, meant, meaning, script_fault}

@@ -1,7 +1,7 @@
 -- How many words a line has.
 use Rattle.std.proofs.Common.{◌≡◌, ℕ, ◌+◌, ◌≤◌, ◌==◌, Bool, true, false, List, [], ◌∷◌, length, refl, arith}
 use Rattle.std.specs.Prelude.{filter}
-use Rattle.rp_script.specs.Words.{begun_with, pieces, has_bytes, words_of}
+use Rattle.rp_request.specs.Words.{begun_with, pieces, has_bytes, words_of}
 
 begun_count : (b n : ℕ) (texts : List (List ℕ)) → length texts ≤ n + 1 → length (begun_with b texts) ≤ n + 1
 begun_count b n [] h = omega arith

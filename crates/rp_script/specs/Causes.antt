@@ -4,7 +4,7 @@ use Rattle.rp_base.specs.Numbers.{number_of, digits_len}
 use Rattle.rp_base.specs.Keys.{key_of, end_of}
 use Rattle.rp_base.specs.ShortTexts.{text_of}
 use Rattle.rp_script.specs.Keywords.{request_word_of, is_barred_in_race, keyword_of}
-use Rattle.rp_script.specs.Words.{words_of}
+use Rattle.rp_request.specs.Words.{words_of}
 use Rattle.rp_script.specs.Readers.{bad_word}
 use Rattle.rp_script.specs.Requests.{request}
 use Rattle.rp_script.specs.Wanted.{Wanted, Number, CommandNumber, KeyName, ValueWord, Expected, EndFrom, RequestName, nth, request as wanted_request, wants}

@@ -1,4 +1,3 @@
-pub mod Words
 pub mod Keywords
 pub mod Readers
 pub mod Requests

@@ -1,6 +1,6 @@
 -- The meaning of a script's bytes: its lines with their numbers, or the first limit or refusal.
 use Rattle.std.specs.Prelude.{◌≡◌, ℕ, ◌+◌, Bool, List, [], ◌∷◌, ◌++◌, Option, Some, None, Result, Ok, Err}
-use Rattle.rp_script.specs.Words.{lines_of}
+use Rattle.rp_request.specs.Words.{lines_of}
 use Rattle.rp_script.specs.Built.{unbuilt_in}
 use Rattle.rp_script.specs.Seen.{Seen, unseen, judged, after, unended}
 use Rattle.rp_script.specs.declared.built.Forms.{Forms}

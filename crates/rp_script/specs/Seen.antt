@@ -5,7 +5,7 @@ use Rattle.std.specs.Str.{bytes_eq}
 use Rattle.rp_base.specs.ClientCounts.{no_counts, one_more_of}
 use Rattle.rp_base.specs.declared.Which.{Which}
 use Rattle.rp_base.specs.declared.Which.TheVariants.{Lines, LineBytes, Commands}
-use Rattle.rp_script.specs.Words.{words_of}
+use Rattle.rp_request.specs.Words.{words_of}
 use Rattle.rp_script.specs.Keywords.{keyword_of, is_barred_in_race}
 use Rattle.rp_script.specs.Readers.{bad}
 use Rattle.rp_script.specs.Forms.{cluster, form}

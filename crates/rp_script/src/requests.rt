@@ -1,7 +1,7 @@
 //! The words of a request.
 ghost use Rattle.std.specs.Prelude.{◌≡◌, IfOk};
 ghost use Rattle.rp_script.specs.Requests.{put, add, cput, del, wipe, moving, split, request_of, request};
-ghost use Rattle.rp_script.specs.Words.{words_of};
+ghost use Rattle.rp_request.specs.Words.{words_of};
 ghost use Rattle.rp_request.specs.Fits.{FitsRequest};
 
 use crate::faults::{BadWord, LineKind, bad_word};

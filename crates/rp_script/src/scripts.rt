@@ -1,6 +1,6 @@
 //! The lines of a script, taken one after another.
 ghost use Rattle.std.specs.Prelude.{◌≡◌, ◌<◌, ◌≤◌, ◌+◌, ◌-◌, ◌==◌, [], length, IsTrue, None, Some, IfOk, IfSome, MatchResult, slice_index};
-ghost use Rattle.rp_script.specs.Words.{words_of};
+ghost use Rattle.rp_request.specs.Words.{words_of};
 ghost use Rattle.rp_script.specs.Bounds.{IsBounded, Follows};
 ghost use Rattle.rp_script.specs.Seen.{Seen, unseen, begins_send, limit_of, has_bad_byte, bad_byte_of, begins_comment, placed, said, judged, answer_of, after, left, unended};
 

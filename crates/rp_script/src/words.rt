@@ -1,7 +1,7 @@
 //! The words of a line.
 ghost use Rattle.std.specs.Prelude.{◌≡◌, ◌==◌, ◌≤◌, ◌+◌, not, [], ◌∷◌, length, MatchOption};
 ghost use Rattle.std.specs.List.{prefix_len};
-ghost use Rattle.rp_script.specs.Words.{words_of};
+ghost use Rattle.rp_request.specs.Words.{words_of};
 
 use std::marker::Model;
 
@@ -13,7 +13,7 @@ pub struct Words<'a> {
 
 impl<'a> Model for Words<'a> {
     ghost use Rattle.std.specs.Prelude.{List, ℕ};
-    ghost use Rattle.rp_script.specs.Words.{words_of};
+    ghost use Rattle.rp_request.specs.Words.{words_of};
 
     ghost Value = { List (List ℕ) };
 

@@ -30,7 +30,9 @@ use Rattle.rp_rangesafe.proofs.Tables.{at_attempt}
 use Rattle.rp_rangesafe.proofs.Runs.{lawful_further, run_further}
 use Rattle.rp_events.specs.declared.answers.Ended.{Ended}
 use Rattle.rp_events.specs.Replicas.{Told, lease_of}
-use Rattle.rp_events.specs.Moves.{Move, HandsOut, GivesUp, TakesBack, Repeats, hands_out, gives_up, takes_back, repeats, moved, moved_all, then_told, then_is, ended, proposed_under, waits_again, command_of, write_of, payloads_of}
+use Rattle.rp_events.specs.declared.moves.Move.{Move}
+use Rattle.rp_events.specs.declared.moves.Move.TheVariants.{HandsOut, GivesUp, TakesBack, Repeats}
+use Rattle.rp_events.specs.Moves.{hands_out, gives_up, takes_back, repeats, moved, moved_all, then_told, then_is, ended, proposed_under, waits_again, command_of, write_of, payloads_of}
 use Rattle.rp_seats.specs.Views.{read, payload_or}
 use Rattle.rp_seats.specs.Standing.{HasPlace, TellsPending, TellsOf, PendingOk}
 use Rattle.rp_seats.specs.Steps.{AllHappenAt, AdmitsNone, StepsTo, tell, told_after, IsEnd, EndEach, GivesAbove, IsSteps}

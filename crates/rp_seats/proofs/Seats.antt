@@ -38,7 +38,9 @@ use Rattle.rp_rangesafe.proofs.Tables.{node_same}
 use Rattle.rp_events.specs.declared.answers.Ended.{Ended}
 use Rattle.rp_events.specs.declared.replica_events.ReplicaEvent.TheVariants.{Flush, Tick}
 use Rattle.rp_events.specs.Replicas.{Replica, Told, untold, lease_of, has_new_leader}
-use Rattle.rp_events.specs.Moves.{Move, HandsOut, GivesUp, TakesBack, Repeats, moved_all, payloads_of}
+use Rattle.rp_events.specs.declared.moves.Move.{Move}
+use Rattle.rp_events.specs.declared.moves.Move.TheVariants.{HandsOut, GivesUp, TakesBack, Repeats}
+use Rattle.rp_events.specs.Moves.{moved_all, payloads_of}
 use Rattle.rp_events.specs.Flushes.{assigning, emptied, flush_moves}
 use Rattle.rp_events.specs.Refreshes.{refreshing, refresh_moves}
 use Rattle.rp_events.specs.LeaseAsks.{joined, joined_all, same_ask, without_first}

@@ -23,7 +23,8 @@ use Rattle.rp_events.specs.declared.journals.PastEvent.TheVariants as past
 use Rattle.rp_events.specs.declared.node_events.Event.TheVariants as events
 use Rattle.rp_events.specs.declared.replica_events.ReplicaEvent.TheVariants.{Tick}
 use Rattle.rp_events.specs.Replicas.{Replica, Done, Told, untold, has_new_leader}
-use Rattle.rp_events.specs.Moves.{TakesBack, Repeats, takes_back, repeats, moved, moved_all, then_is, waits_again, proposed_under}
+use Rattle.rp_events.specs.declared.moves.Move.TheVariants.{TakesBack, Repeats}
+use Rattle.rp_events.specs.Moves.{takes_back, repeats, moved, moved_all, then_is, waits_again, proposed_under}
 use Rattle.rp_events.specs.Refreshes.{refreshing}
 use Rattle.rp_events.specs.ReplicaEvents.{event}
 use Rattle.rp_events.specs.Nodes.{Node, Status, Absent, Live, Removed, seat, range_numbers}

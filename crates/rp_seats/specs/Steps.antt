@@ -18,7 +18,8 @@ use Rattle.rp_events.specs.Worlds as worlds
 use Rattle.rp_events.specs.Worlds.{node_of}
 use Rattle.rp_seats.specs.Views.{range_at}
 use Rattle.rp_events.specs.declared.answers.Ended.{Ended}
-use Rattle.rp_events.specs.Moves.{Move, HandsOut}
+use Rattle.rp_events.specs.declared.moves.Move.{Move}
+use Rattle.rp_events.specs.declared.moves.Move.TheVariants.{HandsOut}
 use Rattle.rp_events.specs.Replicas.{Told}
 use Rattle.rp_seats.specs.Standing.{HasPlace, IsToldAs, PendingOk, RaftOk}
 

@@ -1,0 +1,79 @@
+//! A plain, unproved program for the same rules as `rp run` and `rp gen`: the measure of speed, and a
+//! second reading of the rules. It reads well-formed scripts; any other is refused without a reason.
+mod base;
+mod draws;
+mod large;
+mod payload;
+mod raft;
+mod random;
+mod replica;
+mod report;
+mod script;
+mod world;
+
+use std::io::{Read, Write};
+use std::process::ExitCode;
+use world::{Limit, World};
+
+fn play(source: &str) -> Result<World, (u8, String)> {
+    let lines = script::read(source).map_err(|line| (3, format!("refused at line {line}\n")))?;
+    let Some((_, script::Line::Cluster(nodes))) = lines.first() else {
+        return Err((3, "refused without a cluster\n".to_string()));
+    };
+    let mut world = World::start(*nodes);
+    let limit = |l: Limit| match l {
+        Limit::Events => (4, "limit events 4194304\n".to_string()),
+        Limit::Weight(w) => (4, format!("limit weight {w}\n")),
+    };
+    for (number, line) in &lines {
+        world.play(*number, line).map_err(limit)?;
+    }
+    world.ended().map_err(limit)?;
+    Ok(world)
+}
+
+fn main() -> ExitCode {
+    let words: Vec<String> = std::env::args().skip(1).collect();
+    let words: Vec<&str> = words.iter().map(String::as_str).collect();
+    let (code, output) = match words.as_slice() {
+        ["gen", number, size] => match (number.parse(), size.parse()) {
+            (Ok(number), Ok(size)) => (0, draws::script(number, size)),
+            _ => (2, "usage\n".to_string()),
+        },
+        ["large"] => (0, large::KINDS.map(|kind| format!("{kind}\n")).concat()),
+        ["large", kind] => large::script(kind).map_or_else(|| (2, "usage\n".to_string()), |text| (0, text)),
+        ["random", number, "simple", lines] => match (number.parse(), lines.parse()) {
+            (Ok(number), Ok(lines)) => (0, random::simple(number, lines)),
+            _ => (2, "usage\n".to_string()),
+        },
+        ["random", number, nodes, lines] => match (number.parse(), nodes.parse(), lines.parse()) {
+            (Ok(number), Ok(nodes @ 1..=5), Ok(lines)) => (0, random::script(number, nodes, lines)),
+            _ => (2, "usage\n".to_string()),
+        },
+        ["cost", nodes, ranges, commands, loss] => {
+            let numbers = (nodes.parse(), ranges.parse(), commands.parse(), loss.parse());
+            match numbers {
+                (Ok(n @ 1..=5), Ok(r @ 1..=4), Ok(c), Ok(l @ 0..=50)) => (0, large::cost(n, r, c, l)),
+                _ => (2, "usage\n".to_string()),
+            }
+        }
+        ["run", form @ ..] => {
+            let mut source = String::new();
+            if std::io::stdin().read_to_string(&mut source).is_err() {
+                return ExitCode::from(5);
+            }
+            match (play(&source), form) {
+                (Err(refused), _) => refused,
+                (Ok(world), ["--form", "json"]) => (0, report::json(&world)),
+                (Ok(world), ["--form", "summary"]) => (0, report::summary(&world)),
+                (Ok(world), ["--form", "cost"]) => (0, report::cost(&world)),
+                (Ok(world), _) => (0, report::text(&world)),
+            }
+        }
+        _ => (2, "usage\n".to_string()),
+    };
+    match std::io::stdout().write_all(output.as_bytes()) {
+        Ok(()) => ExitCode::from(code),
+        Err(_) => ExitCode::from(6),
+    }
+}

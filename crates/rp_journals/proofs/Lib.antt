@@ -1,0 +1,16 @@
+pub mod Lists
+pub mod Growing
+pub mod Reading
+pub mod Writing
+pub mod Staying
+pub mod Asking
+pub mod Admitting
+pub mod Counting
+pub mod Balancing
+pub mod Coming
+pub mod Causing
+pub mod Ending
+pub mod Telling
+pub mod Waiting
+pub mod Elsewhere
+pub mod Alike

@@ -1,0 +1,6 @@
+pub mod Growth
+pub mod Entries
+pub mod Asked
+pub mod Ended
+pub mod Elsewhere
+pub mod Alike

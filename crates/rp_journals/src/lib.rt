@@ -1,0 +1,4 @@
+//! What the nodes' own lists say of every lawful schedule: journals, requests, sent lists, outcomes.
+#![tactic(auto)]
+
+pub mod laws;

@@ -1,0 +1,15 @@
+pub mod Replicas
+pub mod Turned
+pub mod Scenes
+pub mod Stands
+pub mod Places
+pub mod Kept
+pub mod Opened
+pub mod First
+pub mod Listed
+pub mod States
+pub mod Lawful
+pub mod Outcomes
+pub mod Made
+pub mod Promised
+pub mod Along

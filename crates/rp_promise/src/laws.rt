@@ -1,0 +1,49 @@
+//! Laws of what stands beside the nodes of a world, and of the promise. No program calls these functions.
+ghost use Rattle.std.specs.Prelude.{◌≡◌, ℕ, ◌≤◌, List};
+ghost use Rattle.rp_request.specs.Applied.{AppliedState};
+ghost use Rattle.rp_raftsafe.specs.World as raft;
+ghost use Rattle.rp_raftsafe.specs.Safety.{OneList};
+ghost use Rattle.rp_rangesafe.specs.Ranges.{Ranges, AreLater};
+ghost use Rattle.rp_events.specs.Lawful.{IsReached, Lawful};
+ghost use Rattle.rp_events.specs.Promises.{Promise};
+ghost use Rattle.rp_events.specs.Worlds.{World, Scene, first_world, happens};
+ghost use Rattle.rp_seats.specs.Standing.{Bound};
+ghost use Rattle.rp_promise.specs.Records.{AllRecords};
+ghost use Rattle.rp_promise.specs.Beside.{AreAdmitted, IsPromising};
+
+/// In the first world no node keeps a record, none has applied an entry, and no attempt was made.
+pub fn the_first_world_keeps_no_record()
+    ensures records { (lists : OneList AppliedState) (nodes : ℕ) → nodes ≤ 5 → (m : Ranges)
+        → (seen : ℕ → List raft.Event) → Bound lists (first_world nodes) m seen
+        → AllRecords (first_world nodes) m }
+    ensures admitted { (lists : OneList AppliedState) (nodes : ℕ) → nodes ≤ 5 → (m : Ranges)
+        → (seen : ℕ → List raft.Event) → Bound lists (first_world nodes) m seen
+        → AreAdmitted (first_world nodes) m }
+{}
+
+/// A lawful scene keeps the records: each that a node keeps is that of the machine's entry with its
+/// index; each entry that a node has applied, or that a snapshot shows, has a record at some node; an
+/// entry that has one opened each range that a node has; and who was told Success has a place that its
+/// node keeps.
+pub fn each_scene_keeps_the_records()
+    ensures { (lists : OneList AppliedState) (w : World) (m : Ranges) (seen : ℕ → List raft.Event)
+        → Bound lists w m seen → (x : Scene) → Lawful w x
+        → (n : Ranges) (further : ℕ → List raft.Event) → Bound lists (happens w x) n further
+        → AreLater m n → AllRecords w m → AllRecords (happens w x) n }
+{}
+
+/// Behind a lawful scene too each attempt that the machine has in a range, and that was not refused, is
+/// one that a journal admitted there: at its node, for its request and under its sequence.
+pub fn each_scene_admits_what_it_makes()
+    ensures { (lists : OneList AppliedState) (w : World) (m : Ranges) (seen : ℕ → List raft.Event)
+        → Bound lists w m seen → (x : Scene) → Lawful w x
+        → (n : Ranges) (further : ℕ → List raft.Event) → Bound lists (happens w x) n further
+        → AreLater m n → (nodes : ℕ) → IsReached nodes w → AreAdmitted w m
+        → AreAdmitted (happens w x) n }
+{}
+
+/// A reached world keeps the promise where the machine and Raft's events stand beside it, now and later.
+pub fn a_world_keeps_the_promise()
+    ensures { (lists : OneList AppliedState) (nodes : ℕ) (w : World) (m : Ranges)
+        → (seen : ℕ → List raft.Event) → IsPromising lists nodes w m seen → Promise w }
+{}
