@@ -15,7 +15,9 @@ use Rattle.rp_pending.specs.declared.refreshes.Refresh.{Refresh}
 use Rattle.rp_pending.specs.Proposals.{has_id, proposal_of, without, with_changed, is_proposed, proposed, waiting_again}
 use Rattle.rp_pending.specs.Refreshes.{goes_back, waiting_of}
 use Rattle.rp_events.specs.Flushes.{assigning, emptied, flush_moves, flushed}
-use Rattle.rp_events.specs.Moves.{Move, HandsOut, GivesUp, TakesBack, Repeats, hands_out, gives_up, takes_back, repeats, moved, moved_all, then_is, proposed_under, waits_again, hands_to_raft}
+use Rattle.rp_events.specs.declared.moves.Move.{Move}
+use Rattle.rp_events.specs.declared.moves.Move.TheVariants.{HandsOut, GivesUp, TakesBack, Repeats}
+use Rattle.rp_events.specs.Moves.{hands_out, gives_up, takes_back, repeats, moved, moved_all, then_is, proposed_under, waits_again, hands_to_raft}
 use Rattle.rp_events.specs.Refreshes.{refreshing, refreshed_by, refresh_moves, ticked, delivered, delivered_by, with_taken}
 use Rattle.rp_events.specs.Replicas.{Replica, Told, untold, lease_of, has_new_leader}
 use Rattle.rp_seats.specs.Turned.{FitsPending, HaveKeys}
