@@ -1,5 +1,5 @@
 -- An event of each live replica of a node, as one range has it: its own, and those of others.
-use Rattle.std.proofs.Common.{◌≡◌, ℕ, zero, suc, ◌+◌, ◌<◌, ◌≤◌, ◌⊎◌, inl, inr, ⊎_elim, false, cond, eqb, Option, None, Some, List, [], ◌∷◌, ◌++◌, map, length, refl, sym, ap, subst, ◌∙◌, arith, append-nil, eqb-true}
+use Rattle.std.proofs.Common.{◌≡◌, ℕ, zero, suc, ◌<◌, ◌≤◌, ◌⊎◌, inl, inr, ⊎_elim, cond, eqb, Option, None, List, [], ◌∷◌, ◌++◌, map, refl, sym, ap, subst, ◌∙◌, arith, append-nil, eqb-true}
 use Rattle.std.specs.Prelude.{Contains, flat_map}
 use Rattle.std.proofs.lemmas.Bool.{cond_both, eqb-false, ne_eqb, cases_eq}
 use Rattle.std.proofs.lemmas.List.Elements.{Contains-append_cases}
@@ -172,8 +172,8 @@ module _ (e : ReplicaEvent AppliedState) (none : (r : Replica) (ticks round : �
     after_bare [] n k = refl
     after_bare (at ∷ more) n k =
         let same : seat (live_turn e n at (seat n at)) range ≡ seat n range = ⊎_elim
-            (λ (here : at ≡ range). ap (λ (z : Node). seat z range) (bare_turn n at (seat n at) (subst (λ i. IsBare (seat n i)) (sym here) k)))
-            (λ (there : at ≡ range → ⊥). other_seat n at range there (seat n at)) (cases_eq at range) in
+        (λ (here : at ≡ range). ap (λ (z : Node). seat z range) (bare_turn n at (seat n at) (subst (λ i. IsBare (seat n i)) (sym here) k)))
+        (λ (there : at ≡ range → ⊥). other_seat n at range there (seat n at)) (cases_eq at range) in
         after_bare more (live_turn e n at (seat n at)) (subst IsBare (sym same) k) ∙ same
 
     -- the end of an attempt of this range, among the outcomes

@@ -1,5 +1,5 @@
 -- What an event hands to Raft is read back with its widths.
-use Rattle.std.proofs.Common.{◌≡◌, ℕ, ◌+◌, ◌<◌, true, Option, None, Some, Result, Ok, Err, List, [], ◌∷◌, ◌++◌, map, refl, sym, ap, subst, ◌∙◌, arith}
+use Rattle.std.proofs.Common.{◌≡◌, ℕ, ◌+◌, true, Option, None, Some, Result, Ok, Err, List, [], ◌∷◌, map, refl, sym, ap, subst, arith}
 use Rattle.std.specs.Prelude.{Contains, filter_map, option_and_then}
 use Rattle.std.specs.List.{AllByRecursion, cons_option}
 use Rattle.std.proofs.lemmas.Bool.{cond_both}
@@ -9,7 +9,6 @@ use Rattle.rp_base.specs.declared.items.Item.{Item}
 use Rattle.rp_base.specs.declared.leases.LeaseAsk.{LeaseAsk}
 use Rattle.rp_codec.specs.Spelling.{spelling}
 use Rattle.rp_codec.proofs.SpellingLaws.{read_as_spelled}
-use Rattle.rp_raftstep.specs.declared.messages.Message.{Message}
 use Rattle.rp_raftstep.specs.Step.{Draft, tick, received}
 use Rattle.rp_request.specs.Applied.{AppliedState}
 use Rattle.rp_request.specs.Fits.{FitsAsk, FitsPayload}
@@ -26,14 +25,13 @@ use Rattle.rp_events.specs.Admissions.{guarded, admitted_by}
 use Rattle.rp_events.specs.Applications.{payload_of, next_entry, applied_where}
 use Rattle.rp_events.specs.Flushes.{assigning, flushed}
 use Rattle.rp_events.specs.Moves.{write_of, payloads_of, hands_to_raft}
-use Rattle.rp_events.specs.Refreshes.{refreshing, refreshed_by, ticked, delivered, with_taken}
+use Rattle.rp_events.specs.Refreshes.{refreshing, refreshed_by, ticked, with_taken}
 use Rattle.rp_request.specs.declared.outcomes.Refusal.TheVariants.{NotLeaseHolder}
 use Rattle.rp_events.specs.declared.answers.EventAnswer.TheVariants as answers
 use Rattle.rp_events.specs.LeaseAsks.{is_held, answers_ask, ask_for, expiry_of, lease_ticks}
 use Rattle.rp_events.specs.Replicas.{Replica, Done, Told, leaves, lease_of, holds_lease, has_new_leader}
 use Rattle.rp_events.specs.ReplicaEvents.{event}
 use Rattle.rp_seats.specs.Views.{read, payload_or}
-use Rattle.rp_seats.proofs.Scenes.{no_bytes}
 use Rattle.rp_turns.specs.Fitting.{FitsOne, FitEach, IsFit}
 use Rattle.rp_turns.proofs.Widths.{each_found, fits_flushed, fits_ticked, fits_delivered}
 

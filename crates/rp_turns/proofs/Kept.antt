@@ -1,21 +1,20 @@
 -- Each lawful scene keeps widths and ends.
-use Rattle.std.proofs.Common.{◌≡◌, ℕ, zero, suc, ◌+◌, ◌^◌, ◌<◌, ◌≤◌, ◌⊎◌, ⊎_elim, Bool, true, false, cond, not, eqb, ltb, Option, None, Some, Result, Ok, Err, List, [], ◌∷◌, ◌++◌, map, length, replicate, get_or, refl, sym, ap, subst, ◌∙◌, arith, append-nil, ltb-true}
+use Rattle.std.proofs.Common.{◌≡◌, ℕ, zero, suc, ◌+◌, ◌≤◌, ⊎_elim, false, not, eqb, Option, None, Some, Result, Ok, Err, List, [], ◌∷◌, ◌++◌, map, length, replicate, get_or, refl, sym, ap, subst, ◌∙◌, arith, append-nil}
 use Rattle.std.proofs.lemmas.Bool.Decides.{nat_tests}
-use Rattle.std.specs.Prelude.{Contains, IsTrue, ◌&&◌, ◌==◌, nat_lt, nat_le, flat_map}
+use Rattle.std.specs.Prelude.{Contains, IsTrue, ◌&&◌, ◌==◌, nat_lt, nat_le}
 use Rattle.std.specs.List.{AllByRecursion, find}
 use Rattle.std.specs.Option.{option_map, option_map_or}
-use Rattle.std.proofs.lemmas.Bool.{cond_both, cases_eq}
+use Rattle.std.proofs.lemmas.Bool.{cond_both}
 use Rattle.std.proofs.lemmas.List.Elements.{Contains-append_cases}
 use Rattle.std.proofs.lemmas.Option.{slice_get_within}
 use Rattle.std.proofs.lemmas.Grind.{flat_map-append}
 use Rattle.rp_base.specs.declared.ids.CmdId.{CmdId}
 use Rattle.rp_base.specs.declared.items.Item.{Item}
 use Rattle.rp_base.specs.declared.items.Item.TheVariants as items
-use Rattle.rp_base.specs.declared.leases.LeaseAsk.{LeaseAsk}
 use Rattle.rp_flush.specs.Assigns.{asks_of}
 use Rattle.rp_raftstep.specs.declared.messages.Message.{Message}
 use Rattle.rp_request.specs.Applied.{AppliedState}
-use Rattle.rp_request.specs.Fits.{FitsAsk, FitsPayload}
+use Rattle.rp_request.specs.Fits.{FitsAsk}
 use Rattle.rp_request.specs.declared.evaluations.Evaluated.{Evaluated}
 use Rattle.rp_request.specs.declared.outcomes.Outcome.{Outcome}
 use Rattle.rp_request.specs.declared.outcomes.Refusal.{Refusal}
@@ -36,28 +35,25 @@ use Rattle.rp_events.specs.declared.replica_events.ReplicaEvent.TheVariants as a
 use Rattle.rp_events.specs.Admissions.{guarded, admitted_by}
 use Rattle.rp_events.specs.Replicas.{Replica, Done}
 use Rattle.rp_events.specs.ReplicaEvents.{event}
-use Rattle.rp_events.specs.Flushes.{assigning}
 use Rattle.rp_events.specs.Nodes as nodes
 use Rattle.rp_events.specs.Nodes.{Node, Status, Absent, Live, seat, after_turn, parcel_of, is_full, range_numbers, first_node}
 use Rattle.rp_events.specs.NodeEvents.{status_after, after_replica, by_status, live_turn, all_turns, delivered, acted, past_of, step, with_request}
-use Rattle.rp_events.specs.Worlds as worlds
 use Rattle.rp_events.specs.Worlds.{World, Scene, Happening, Admit, Ask, Transfer, Collect, Flush, Tick, Deliver, Apply, Cut, Remove, Peek, Restart, Round, first_world, node_of, with_node, sent_by, delivery, event_of, taken_in, happens, is_admission_of, ended_of, outcome_at}
-use Rattle.rp_events.specs.Lawful.{Lawful, is_allowed, is_lawful}
-use Rattle.rp_seats.specs.Scenes.{Doing, Gets, seat_doings, all_doings, message_doings, node_doings, as_event, doings_in, raft_events}
-use Rattle.rp_seats.specs.Standing.{SeatOk, Bound}
+use Rattle.rp_events.specs.Lawful.{Lawful, is_allowed}
+use Rattle.rp_seats.specs.Scenes.{Doing, Gets, seat_doings, all_doings, message_doings, node_doings, as_event, raft_events}
+use Rattle.rp_seats.specs.Standing.{Bound}
 use Rattle.rp_seats.specs.Steps.{AreEnds, EndEach}
-use Rattle.rp_seats.specs.Turned.{IsSeated}
-use Rattle.rp_seats.specs.Views.{read, range_at}
+use Rattle.rp_seats.specs.Views.{range_at}
 use Rattle.rp_seats.proofs.Admits.{numbered}
 use Rattle.rp_seats.proofs.Events as seat_events
 use Rattle.rp_seats.proofs.Nodes.{live_within}
 use Rattle.rp_seats.proofs.Opens.{first_is, first_length}
 use Rattle.rp_seats.proofs.Outcomes.{all_ends, found_before}
-use Rattle.rp_seats.proofs.Scenes.{node_change, handed_seen, opened_outcomes, map_further}
+use Rattle.rp_seats.proofs.Scenes.{node_change, handed_seen, opened_outcomes}
 use Rattle.rp_seats.proofs.Shown.{is_live}
 use Rattle.rp_seats.proofs.Worlds.{and_right}
-use Rattle.rp_turns.specs.Fitting.{FitsOne, FitEach, HasKeysOne, IsFit, AreFit}
-use Rattle.rp_turns.specs.Keeping.{IsWideOne, IsForNode, IsWideItem, IsWide, IsWideStatus, AreWide, AreBelow, IsAskBelow, IsItemBelow, IsBelow}
+use Rattle.rp_turns.specs.Fitting.{FitEach, HasKeysOne, IsFit, AreFit}
+use Rattle.rp_turns.specs.Keeping.{IsWideOne, IsWideItem, IsWide, IsWideStatus, AreWide, AreBelow, IsItemBelow, IsBelow}
 use Rattle.rp_turns.proofs.All as all
 use Rattle.rp_turns.proofs.All.{times, AreOnce, each_once, numbers_once}
 use Rattle.rp_turns.proofs.Handed.{ReadsFit, proposed_fits}

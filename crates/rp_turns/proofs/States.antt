@@ -1,9 +1,9 @@
 -- The tables of a range's states have rows of their widths.
-use Rattle.std.proofs.Common.{◌≡◌, ℕ, zero, suc, ◌+◌, ◌^◌, ◌<◌, ◌≤◌, ◌⊎◌, inl, inr, ⊎_elim, true, Option, None, Some, List, [], ◌∷◌, map, length, refl, sym, ap, subst, ◌∙◌, arith}
+use Rattle.std.proofs.Common.{◌≡◌, ℕ, zero, suc, ◌<◌, ◌⊎◌, inl, inr, true, Option, None, Some, List, [], ◌∷◌, map, length, refl, sym, ap, subst, ◌∙◌, arith}
 use Rattle.std.specs.Prelude.{Contains, nat_le}
 use Rattle.std.specs.List.{AllByRecursion}
 use Rattle.std.specs.Ordering.{nat_cmp}
-use Rattle.std.specs.FinMap.{get, get-empty}
+use Rattle.std.specs.FinMap.{get-empty}
 use Rattle.std.proofs.lemmas.List.Elements.{All-contains}
 use Rattle.rp_base.specs.declared.leases.Lease as leases
 use Rattle.rp_base.specs.declared.values.Value.{Value}
@@ -22,7 +22,6 @@ use Rattle.rp_raftsafe.specs.World as raft
 use Rattle.rp_raftsafe.specs.Safety.{OneList}
 use Rattle.rp_raftsafe.specs.Proposed.{payloads_of, WasProposed}
 use Rattle.rp_rangesafe.specs.Along.{entry}
-use Rattle.rp_rangesafe.specs.World as machine
 use Rattle.rp_rangesafe.specs.World.{state_at}
 use Rattle.rp_rangesafe.specs.Ranges.{Ranges}
 use Rattle.rp_rangesafe.proofs.Rights.{Opens, opens_it, IsOrigin, Source, sources_reached, left_below}

@@ -1,7 +1,7 @@
 -- An event of a node keeps the widths of what its replicas hold.
-use Rattle.std.proofs.Common.{◌≡◌, ℕ, zero, suc, ◌+◌, ◌^◌, ◌<◌, ◌≤◌, ◌⊎◌, ⊎_elim, Bool, true, false, cond, Option, None, Some, Result, Ok, Err, List, [], ◌∷◌, ◌++◌, map, length, refl, sym, ap, subst, ◌∙◌, arith, eqb-true}
-use Rattle.std.specs.Prelude.{◌&&◌, ◌==◌, ◌||◌, IsTrue}
-use Rattle.std.specs.List.{AllByRecursion, filter, list_any}
+use Rattle.std.proofs.Common.{◌≡◌, ℕ, ◌+◌, ◌<◌, ◌≤◌, ⊎_elim, Bool, true, false, Option, None, Some, Result, Ok, Err, List, [], ◌∷◌, ◌++◌, length, refl, sym, subst, arith, eqb-true}
+use Rattle.std.specs.Prelude.{◌&&◌, ◌==◌, ◌||◌}
+use Rattle.std.specs.List.{AllByRecursion, list_any}
 use Rattle.std.specs.Option.{option_map_or}
 use Rattle.std.proofs.lemmas.Bool.{cond_both, cases_eq, cases_lt}
 use Rattle.std.proofs.lemmas.List.{length-set, get_or_past}
@@ -38,9 +38,11 @@ use Rattle.rp_events.specs.Admissions.{guarded, admitted_by}
 use Rattle.rp_events.specs.Applications.{is_own, settled, proposer_told, payload_of, next_entry, applied_where}
 use Rattle.rp_events.specs.Flushes.{assigning, emptied, flush_moves}
 use Rattle.rp_events.specs.LeaseAsks.{is_held, answers_ask, ask_for, expiry_of, lease_ticks, same_ask, without_first, joined, joined_all}
-use Rattle.rp_events.specs.Moves.{Move, HandsOut, GivesUp, TakesBack, Repeats, hands_out, gives_up, takes_back, repeats, moved, moved_all, then_is, proposed_under, waits_again, hands_to_raft}
+use Rattle.rp_events.specs.declared.moves.Move.{Move}
+use Rattle.rp_events.specs.declared.moves.Move.TheVariants.{HandsOut, GivesUp, TakesBack, Repeats}
+use Rattle.rp_events.specs.Moves.{hands_out, gives_up, takes_back, repeats, moved, moved_all, then_is, proposed_under, waits_again, hands_to_raft}
 use Rattle.rp_events.specs.Refreshes.{refreshing, refreshed_by, refresh_moves, with_taken}
-use Rattle.rp_events.specs.Replicas.{Replica, Done, Told, untold, leaves, lease_of, holds_lease, has_new_leader, started, made_by_snap}
+use Rattle.rp_events.specs.Replicas.{Replica, Done, Told, untold, leaves, lease_of, holds_lease, has_new_leader, started}
 use Rattle.rp_events.specs.ReplicaEvents.{event}
 use Rattle.rp_events.specs.Nodes as nodes
 use Rattle.rp_events.specs.Nodes.{Node, Status, Absent, Live, seat, with_seat, opened, opened_by, after_turn, range_numbers, right_base, right_base_term}
