@@ -1,5 +1,5 @@
 -- Along a lawful schedule the nodes stay beside the ranges, which go on.
-use Rattle.std.proofs.Common.{◌≡◌, ℕ, zero, suc, ◌<◌, ◌≤◌, List, [], ◌∷◌, ◌++◌, map, length, refl, sym, subst, ◌∙◌, arith}
+use Rattle.std.proofs.Common.{◌≡◌, ℕ, zero, suc, ◌<◌, ◌≤◌, List, [], ◌∷◌, ◌++◌, length, sym, subst, ◌∙◌, arith}
 use Rattle.std.specs.Prelude.{Contains, IsTrue, nat_lt, nat_le}
 use Rattle.std.proofs.lemmas.Bool.Decides.{nat_tests}
 use Rattle.std.proofs.lemmas.List.{append-nil, append_assoc}
@@ -8,7 +8,7 @@ use Rattle.rp_request.specs.Applied.{AppliedState}
 use Rattle.rp_raftsafe.specs.World as raft
 use Rattle.rp_raftsafe.specs.Safety.{OneList}
 use Rattle.rp_raftsafe.specs.Proposed.{payloads_of}
-use Rattle.rp_rangesafe.specs.Ranges.{Ranges, AreLater}
+use Rattle.rp_rangesafe.specs.Ranges.{Ranges}
 use Rattle.rp_events.specs.Worlds.{World, Scene, Schedule, first_world, happens, run}
 use Rattle.rp_events.specs.Lawful.{Lawful, AllLawful, IsReached, IsLater}
 use Rattle.rp_seats.specs.Scenes.{raft_events}

@@ -1,8 +1,6 @@
 -- How far an event of a node lets the numbers of one range grow.
-use Rattle.std.proofs.Common.{◌≡◌, ℕ, zero, suc, ◌+◌, ◌<◌, ◌≤◌, ◌⊎◌, inl, inr, ⊎_elim, Option, None, Some, List, [], ◌∷◌, ◌++◌, length, refl, sym, ap, subst, ◌∙◌, arith}
-use Rattle.std.specs.Prelude.{Contains}
+use Rattle.std.proofs.Common.{◌≡◌, ℕ, ◌+◌, ◌<◌, ◌≤◌, ◌⊎◌, ⊎_elim, None, List, [], length, refl, sym, ap, subst, ◌∙◌, arith}
 use Rattle.std.specs.List.{AllByRecursion}
-use Rattle.std.proofs.lemmas.List.{length-append}
 use Rattle.std.proofs.lemmas.List.Elements.{All-contains, All-from_recursion}
 use Rattle.rp_base.specs.declared.items.Item.{Item}
 use Rattle.rp_raftstep.specs.declared.messages.Message.{Message}
@@ -19,12 +17,12 @@ use Rattle.rp_events.specs.Nodes.{Node, Status, Absent, Live, Removed, seat, ran
 use Rattle.rp_events.specs.NodeEvents.{status_after, by_status, all_turns, delivered, step, with_request}
 use Rattle.rp_events.specs.Worlds.{World}
 use Rattle.rp_seats.specs.Views.{read}
-use Rattle.rp_seats.specs.Scenes.{Doing, seat_doings, all_doings, message_doings, node_doings}
+use Rattle.rp_seats.specs.Scenes.{seat_doings, all_doings, message_doings, node_doings}
 use Rattle.rp_turns.specs.Fitting.{IsFit}
 use Rattle.rp_bound.specs.Numbers.{ItemBelow, AskBelow, ProposalBelow, PayloadBelow, ReplicaBelow, StatusBelow, items_in}
 use Rattle.rp_bound.proofs.Counts.{below_more}
 use Rattle.rp_bound.proofs.Grows.{After, IsOther, event_after, admit_after}
-use Rattle.rp_bound.proofs.Seats.{IsBlank, IsStill, IsOwn, IsFresh, Changes, Hands, status_change, message_change, all_change}
+use Rattle.rp_bound.proofs.Seats.{IsStill, IsOwn, IsFresh, Changes, Hands, status_change, message_change, all_change}
 use Rattle.rp_bound.proofs.Work.{requests_then, ticks_then, gain_then}
 
 pub status_more : (top seqs expiry most top' seqs' expiry' most' : ℕ) → top ≤ top' → seqs ≤ seqs' → expiry ≤ expiry' → most ≤ most' → (status : Status)

@@ -1,6 +1,6 @@
 -- The numbers of a world stay small: in the first one, and after each lawful scene.
-use Rattle.std.proofs.Common.{◌≡◌, ℕ, zero, suc, ◌+◌, ◌-◌, ◌*◌, ◌^◌, ◌<◌, ◌≤◌, ◌⊎◌, inl, inr, ⊎_elim, Bool, true, false, Option, None, Some, List, [], ◌∷◌, ◌++◌, map, length, set, refl, sym, ap, subst, ◌∙◌, arith}
-use Rattle.std.specs.Prelude.{◌==◌, ◌&&◌, not, nat_le, IsTrue, Contains, slice_get, slice_index_or, flat_map}
+use Rattle.std.proofs.Common.{◌≡◌, ℕ, zero, suc, ◌+◌, ◌-◌, ◌*◌, ◌^◌, ◌<◌, ◌≤◌, ◌⊎◌, inl, inr, ⊎_elim, Bool, true, false, Option, None, Some, List, [], ◌∷◌, ◌++◌, length, set, refl, sym, ap, subst, ◌∙◌, arith}
+use Rattle.std.specs.Prelude.{◌==◌, ◌&&◌, not, nat_le, IsTrue, Contains, slice_get}
 use Rattle.std.specs.List.{AllByRecursion, sum_by}
 use Rattle.std.specs.Option.{option_map, option_map_or}
 use Rattle.std.proofs.lemmas.Bool.{cases_lt}
@@ -16,32 +16,30 @@ use Rattle.rp_pending.specs.declared.proposals.Proposal.{Proposal}
 use Rattle.rp_raftsafe.specs.World as raft
 use Rattle.rp_raftsafe.specs.Safety.{OneList}
 use Rattle.rp_raftsafe.specs.Proposed.{event_payloads, payloads_of}
-use Rattle.rp_rangesafe.specs.World as machine
-use Rattle.rp_rangesafe.specs.World.{here}
 use Rattle.rp_rangesafe.specs.Ranges.{Ranges}
 use Rattle.rp_rangesafe.proofs.Joint.{range_reached}
 use Rattle.rp_events.specs.declared.node_events.Event.{Event}
 use Rattle.rp_events.specs.declared.node_events.Event.TheVariants as events
 use Rattle.rp_events.specs.declared.parcels.Parcel.{Parcel}
 use Rattle.rp_events.specs.Replicas.{Replica, lease_of}
-use Rattle.rp_events.specs.Nodes.{Node, Status, Absent, Live, seat, is_full, journal_end, parcel_of}
+use Rattle.rp_events.specs.Nodes.{Node, Status, Absent, Live, seat, is_full, parcel_of}
 use Rattle.rp_events.specs.NodeEvents.{step}
 use Rattle.rp_events.specs.Worlds.{World, Scene, Happening, Admit, Ask, Transfer, Collect, Flush, Tick, Deliver, Apply, Cut, Remove, Peek, Restart, Round, node_of, with_node, sent_by, delivery, event_of, taken_in, happens}
 use Rattle.rp_events.specs.Lawful.{is_allowed, is_lawful, Lawful}
 use Rattle.rp_seats.specs.Views.{read}
-use Rattle.rp_seats.specs.Scenes.{raft_events, node_doings}
+use Rattle.rp_seats.specs.Scenes.{raft_events}
 use Rattle.rp_seats.specs.Standing.{Bound}
 use Rattle.rp_seats.specs.Steps.{AreEnds}
 use Rattle.rp_seats.specs.Turned.{IsSeated}
 use Rattle.rp_seats.proofs.Events as seat_events
 use Rattle.rp_seats.proofs.Shut.{shut_seat}
 use Rattle.rp_seats.proofs.Shaped.{length_with, node_after, shaped_scene}
-use Rattle.rp_turns.specs.Fitting.{AreFit, IsFit}
+use Rattle.rp_turns.specs.Fitting.{AreFit}
 use Rattle.rp_turns.specs.Turning.{SceneTurned}
 use Rattle.rp_turns.proofs.Scenes.{happens_is, doings_are}
 use Rattle.rp_turns.specs.Keeping.{AreBelow, IsItemBelow, IsBelow}
-use Rattle.rp_bound.specs.Numbers.{ItemBelow, ProposalBelow, PayloadBelow, ReplicaBelow, StatusBelow, items_in, waiting_in, work_of, all_work, events_of, NodeBelow, RangeBelow, AreSmall}
-use Rattle.rp_bound.proofs.Admissions.{MayHappen, may_happen, and_left, and_right}
+use Rattle.rp_bound.specs.Numbers.{ItemBelow, ProposalBelow, PayloadBelow, ReplicaBelow, StatusBelow, items_in, work_of, all_work, events_of, NodeBelow, RangeBelow, AreSmall}
+use Rattle.rp_bound.proofs.Admissions.{may_happen, and_left, and_right}
 use Rattle.rp_bound.proofs.Below.{opened_below}
 use Rattle.rp_bound.proofs.Counts.{payload_more, assigning_low}
 use Rattle.rp_bound.proofs.Grown.{Grown, status_more, node_grown}
@@ -150,9 +148,10 @@ module _ (lists : OneList AppliedState) (w : World) (m : Ranges) (seen : ℕ →
       → (r.applied.state.lai ≤ top range) × ((lease_of r).seq ≤ suc (events_of w))
   replica_low node range n r has live =
       let o = there node range n r has live in
-      let state = seat_events.state lists range (m.range range).start (seen range) w (m.range range) node n r (stands node range n r has live) in
-      (subst (λ (s : AppliedState). s.lai ≤ top range) state (lai_height lists w m seen bound top (events_of w) handed range o ((m.range range).index node)),
-      subst (λ (s : AppliedState). s.lease.seq ≤ suc (events_of w)) state (seq_height lists w m seen bound top (events_of w) handed range o ((m.range range).index node)))
+      let state = seat_events.state lists range (m.range range).start (seen range) w (m.range range) node n r (stands node range n r has live) in (
+        subst (λ (s : AppliedState). s.lai ≤ top range) state (lai_height lists w m seen bound top (events_of w) handed range o ((m.range range).index node)),
+        subst (λ (s : AppliedState). s.lease.seq ≤ suc (events_of w)) state (seq_height lists w m seen bound top (events_of w) handed range o ((m.range range).index node)),
+      )
 
   -- and all that it holds
   work_below : all_work w < 2 ^ 64
@@ -283,7 +282,7 @@ module _ (lists : OneList AppliedState) (w : World) (m : Ranges) (seen : ℕ →
       near : q < 8 → Whole
       near below =
           let g = node_grown w x.node q n below (let e = (bound.shaped.each x.node n at.has).eight in omega (arith, below, e)) (top lists w m seen bound fit.ends small q) (suc (events_of w)) seat_below
-              (λ r live. (fit.replicas x.node q n r at.has live, (replica_low lists w m seen bound fit.ends small x.node q n r at.has live).0, (replica_low lists w m seen bound fit.ends small x.node q n r at.has live).1)) at.ev (taken_in x.what) few in
+          (λ r live. (fit.replicas x.node q n r at.has live, (replica_low lists w m seen bound fit.ends small x.node q n r at.has live).0, (replica_low lists w m seen bound fit.ends small x.node q n r at.has live).1)) at.ev (taken_in x.what) few in
           record {
             highest = g.highest;
             above = g.above;

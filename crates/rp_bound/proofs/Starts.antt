@@ -1,15 +1,15 @@
 -- In the first world all numbers are 0.
-use Rattle.std.proofs.Common.{◌≡◌, ℕ, zero, suc, ◌+◌, ◌*◌, ◌<◌, ◌≤◌, Option, None, Some, List, [], ◌∷◌, map, length, refl, sym, ap, subst, ◌∙◌, arith}
-use Rattle.std.specs.Prelude.{Contains, slice_get}
+use Rattle.std.proofs.Common.{◌≡◌, ℕ, zero, suc, ◌+◌, ◌≤◌, List, [], ◌∷◌, map, length, refl, sym, ap, subst, arith}
+use Rattle.std.specs.Prelude.{Contains}
 use Rattle.rp_raftstep.specs.RaftState.{nodes_to}
 use Rattle.rp_raftsafe.specs.World as raft
 use Rattle.rp_raftsafe.specs.Proposed.{payloads_of}
-use Rattle.rp_events.specs.Nodes.{Node, Status, Absent, seat, first_node}
-use Rattle.rp_events.specs.Worlds.{World, first_world, node_of}
+use Rattle.rp_events.specs.Nodes.{Node, seat, first_node}
+use Rattle.rp_events.specs.Worlds.{World, first_world}
 use Rattle.rp_seats.specs.Views.{read}
 use Rattle.rp_seats.proofs.Opens.{first_is, first_length}
 use Rattle.rp_bound.specs.Bounds.{first_seen}
-use Rattle.rp_bound.specs.Numbers.{PayloadBelow, StatusBelow, items_in, waiting_in, all_work, events_of, NodeBelow, RangeBelow, AreSmall}
+use Rattle.rp_bound.specs.Numbers.{PayloadBelow, StatusBelow, items_in, waiting_in, events_of, NodeBelow, RangeBelow, AreSmall}
 use Rattle.rp_bound.proofs.First.{all_absent}
 use Rattle.rp_bound.proofs.Work.{sum_bounded}
 

@@ -2,20 +2,19 @@
 use Rattle.std.proofs.Common.{◌≡◌, ℕ, zero, suc, ◌+◌, ◌-◌, ◌*◌, ◌^◌, ◌<◌, ◌≤◌, ◌⊎◌, inl, inr, Option, None, Some, List, [], ◌∷◌, ◌++◌, length, set, refl, sym, ap, subst, ◌∙◌, arith}
 use Rattle.std.specs.Prelude.{slice_get}
 use Rattle.std.specs.List.{sum_by}
-use Rattle.std.proofs.Math.Nat.{mul-suc, suc-mul, mul-le-mul_left, mul-le-mul_right}
+use Rattle.std.proofs.Math.Nat.{suc-mul, mul-le-mul_left, mul-le-mul_right}
 use Rattle.std.proofs.lemmas.Bool.{cases_lt}
 use Rattle.std.proofs.lemmas.List.{length-append}
 use Rattle.std.proofs.lemmas.List.Sums.{sum_by-cons}
 use Rattle.rp_base.specs.declared.items.Item.{Item}
 use Rattle.rp_raftstep.specs.declared.messages.Message.{Message}
 use Rattle.rp_request.specs.Applied.{AppliedState}
-use Rattle.rp_request.specs.declared.requests.Request.{Request}
 use Rattle.rp_events.specs.declared.journals.JournalEntry.{JournalEntry}
 use Rattle.rp_events.specs.declared.node_events.Event.{Event}
 use Rattle.rp_events.specs.declared.node_events.Event.TheVariants as events
 use Rattle.rp_events.specs.declared.replica_events.ReplicaEvent.{ReplicaEvent}
 use Rattle.rp_events.specs.declared.replica_events.ReplicaEvent.TheVariants.{Admit, Ask, Transfer, Collect, Flush, Tick, Deliver, Apply, Cut, Remove, Peek, Restart}
-use Rattle.rp_events.specs.Replicas.{Replica, Done}
+use Rattle.rp_events.specs.Replicas.{Done}
 use Rattle.rp_events.specs.ReplicaEvents.{event}
 use Rattle.rp_events.specs.Nodes.{Node, Status, Absent, Live, Removed, seat, after_turn, opened, opened_by, range_numbers}
 use Rattle.rp_events.specs.NodeEvents.{status_after, after_replica, by_status, live_turn, all_turns, delivered, rounded, acted, past_of, step, with_request}
