@@ -41,7 +41,9 @@ use Rattle.rp_events.specs.Applications.{is_own, settled, proposer_told, payload
 use Rattle.rp_events.specs.Ends.{end_of, ends_all, overtaken_by, removed_with, lost_under}
 use Rattle.rp_events.specs.Flushes.{assigning, flush_moves, emptied}
 use Rattle.rp_events.specs.LeaseAsks.{lease_ticks, is_held, expiry_of, ask_for, answers_ask}
-use Rattle.rp_events.specs.Moves.{Move, HandsOut, GivesUp, TakesBack, Repeats, hands_out, gives_up, takes_back, repeats, moved, moved_all}
+use Rattle.rp_events.specs.declared.moves.Move.{Move}
+use Rattle.rp_events.specs.declared.moves.Move.TheVariants.{HandsOut, GivesUp, TakesBack, Repeats}
+use Rattle.rp_events.specs.Moves.{hands_out, gives_up, takes_back, repeats, moved, moved_all}
 use Rattle.rp_events.specs.Promises.{IsProposedIn}
 use Rattle.rp_events.specs.Refreshes.{refreshing, refresh_moves, with_taken, delivered_by}
 use Rattle.rp_events.specs.ReplicaEvents.{event}

@@ -41,7 +41,9 @@ use Rattle.rp_events.specs.Applications.{is_own, settled, proposer_told, payload
 use Rattle.rp_events.specs.Ends.{end_of, ends_all, overtaken_by, snapshot_taken, removed_with, lost_under}
 use Rattle.rp_events.specs.Flushes.{assigning, flush_moves, emptied, flushed_by}
 use Rattle.rp_events.specs.LeaseAsks.{lease_ticks, is_held, expiry_of, ask_for, answers_ask, joined, joined_all}
-use Rattle.rp_events.specs.Moves.{Move, HandsOut, GivesUp, TakesBack, Repeats, ended, waits_again, proposed_under, hands_out, gives_up, takes_back, repeats, where_pending, moved, moved_all}
+use Rattle.rp_events.specs.declared.moves.Move.{Move}
+use Rattle.rp_events.specs.declared.moves.Move.TheVariants.{HandsOut, GivesUp, TakesBack, Repeats}
+use Rattle.rp_events.specs.Moves.{ended, waits_again, proposed_under, hands_out, gives_up, takes_back, repeats, where_pending, moved, moved_all}
 use Rattle.rp_events.specs.Refreshes.{refreshing, refresh_moves, refreshed_by, with_taken, delivered_by}
 use Rattle.rp_events.specs.ReplicaEvents.{event}
 use Rattle.rp_events.specs.NodeEvents.{status_after}

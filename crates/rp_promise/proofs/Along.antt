@@ -1,16 +1,16 @@
 -- Along a schedule: where each lawful scene leads on to what stands beside the world behind it, every reached
 -- world keeps the promise.
-use Rattle.std.proofs.Common.{◌≡◌, ℕ, ◌<◌, ◌≤◌, List, [], ◌∷◌, ◌++◌, refl, sym, ap, subst, ◌∙◌, append_assoc, append-nil, leb-true, ltb-true}
+use Rattle.std.proofs.Common.{◌≡◌, ℕ, ◌≤◌, List, [], ◌∷◌, ◌++◌, refl, sym, ap, subst, ◌∙◌, append_assoc, append-nil}
 use Rattle.rp_request.specs.Applied.{AppliedState}
 use Rattle.rp_raftsafe.specs.World as raft
 use Rattle.rp_raftsafe.specs.Safety.{OneList}
 use Rattle.rp_rangesafe.specs.Ranges.{Ranges, Step, after_step, after_steps, AreLawful, AreLater}
-use Rattle.rp_events.specs.Lawful.{IsReached, IsLater, Lawful, AllLawful}
+use Rattle.rp_events.specs.Lawful.{IsReached, Lawful, AllLawful}
 use Rattle.rp_events.specs.Promises.{Promise}
 use Rattle.rp_events.specs.Worlds.{World, Scene, Schedule, first_world, happens, run}
 use Rattle.rp_journals.proofs.Growing.{reached_later}
 use Rattle.rp_seats.specs.Standing.{Bound}
-use Rattle.rp_promise.specs.Beside.{StandsWith, GoesOn, IsPromising}
+use Rattle.rp_promise.specs.Beside.{StandsWith}
 use Rattle.rp_promise.proofs.First.{first_records}
 use Rattle.rp_promise.proofs.Made.{first_admitted, admitted_on}
 use Rattle.rp_promise.proofs.Opened.{all_now}

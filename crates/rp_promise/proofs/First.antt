@@ -1,26 +1,24 @@
 -- The first world keeps no record.
-use Rattle.std.proofs.Common.{◌≡◌, ℕ, zero, suc, ◌+◌, ◌<◌, ◌≤◌, Option, None, Some, List, [], ◌∷◌, ◌++◌, length, get_or, replicate, refl, sym, ap, subst, ◌∙◌, arith}
+use Rattle.std.proofs.Common.{◌≡◌, ℕ, zero, suc, ◌<◌, ◌≤◌, Option, None, Some, List, [], get_or, replicate, refl, sym, ap, subst, ◌∙◌, arith}
 use Rattle.std.specs.Prelude.{Contains}
 use Rattle.rp_base.specs.declared.ids.CmdId.{CmdId}
 use Rattle.rp_request.specs.Applied.{AppliedState}
 use Rattle.rp_request.specs.History.{Piece, History, none_after}
 use Rattle.rp_request.specs.History as history
 use Rattle.rp_request.specs.States.{first_applied}
-use Rattle.rp_request.specs.declared.items.Record.{Record}
 use Rattle.rp_request.specs.declared.outcomes.Outcome.TheVariants.{Success}
 use Rattle.rp_request.specs.declared.outcomes.Reply.{Reply}
 use Rattle.rp_raftsafe.specs.World as raft
 use Rattle.rp_raftsafe.specs.Safety.{OneList}
 use Rattle.rp_rangesafe.specs.Ranges.{Ranges}
 use Rattle.rp_events.specs.declared.answers.Ended.{Ended}
-use Rattle.rp_events.specs.declared.parcels.Parcel.{Parcel}
 use Rattle.rp_events.specs.Replicas.{started}
-use Rattle.rp_events.specs.Nodes.{Node, Status, Absent, Live, seat, first_node}
+use Rattle.rp_events.specs.Nodes.{Node, Absent, Live, seat, first_node}
 use Rattle.rp_events.specs.Worlds.{World, first_world, node_of}
 use Rattle.rp_events.specs.Lists.{base_of, history_in, HasApplied, StandsIn}
 use Rattle.rp_seats.specs.Standing.{Bound}
 use Rattle.rp_seats.proofs.Opens.{first_is}
-use Rattle.rp_promise.specs.Records.{IsRecordAt, HistoryOk, IsHad, RecordsOk, IsOpenedBelow, KeepsReply, AllRecords}
+use Rattle.rp_promise.specs.Records.{HistoryOk, IsHad, RecordsOk, IsOpenedBelow, KeepsReply, AllRecords}
 use Rattle.rp_promise.proofs.Scenes.{some_past}
 use Rattle.rp_promise.proofs.Stands.{seat_stands}
 use Rattle.rp_promise.proofs.Kept.{no_record, one_piece}

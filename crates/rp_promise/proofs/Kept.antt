@@ -1,8 +1,8 @@
 -- A scene keeps the records beside the machine.
-use Rattle.std.proofs.Common.{◌≡◌, ℕ, zero, suc, ◌+◌, ◌-◌, ◌^◌, ◌<◌, ◌≤◌, max, Bool, true, false, ◌⊎◌, inl, inr, ⊎_elim, Option, None, Some, List, [], ◌∷◌, ◌++◌, length, refl, sym, ap, subst, ◌∙◌, arith}
+use Rattle.std.proofs.Common.{◌≡◌, ℕ, zero, suc, ◌+◌, ◌-◌, ◌<◌, ◌≤◌, max, Bool, true, false, ◌⊎◌, inl, inr, ⊎_elim, Option, None, Some, List, [], ◌∷◌, length, refl, sym, ap, subst, ◌∙◌, arith}
 use Rattle.std.specs.Prelude.{Contains, slice_get, slice_index_or}
 use Rattle.std.specs.Option.{option_map_or}
-use Rattle.std.proofs.lemmas.Bool.{cases_eq, cases_lt}
+use Rattle.std.proofs.lemmas.Bool.{cases_lt}
 use Rattle.std.proofs.lemmas.List.{length_push}
 use Rattle.std.proofs.lemmas.List.Elements.{Contains-append_cases, Contains-append_left, Contains-append_right}
 use Rattle.rp_base.proofs.SplitLaws.{parts}
@@ -28,13 +28,13 @@ use Rattle.rp_rangesafe.proofs.Tables.{at_with_node}
 use Rattle.rp_events.specs.declared.parcels.Parcel.{Parcel}
 use Rattle.rp_events.specs.Replicas.{Replica}
 use Rattle.rp_events.specs.Nodes.{Node, Status, seat, right_base}
-use Rattle.rp_events.specs.Worlds.{World, Scene, node_of, with_node, happens}
+use Rattle.rp_events.specs.Worlds.{World, Scene, node_of, happens}
 use Rattle.rp_events.specs.Lists.{base_of, history_in, HasApplied, StandsIn, Keeps}
 use Rattle.rp_seats.specs.Standing.{Bound}
-use Rattle.rp_promise.specs.Records.{record_at, IsRecordAt, HistoryOk, IsHad, SnapUpTo, RecordsOk, IsOpenedBelow, AllRecords}
-use Rattle.rp_promise.proofs.Turned.{at_seat, AppliedAt, WasSent, SnapSent, SplitNow, Jumped, Begun, Became, kept, goes, jumps, begins, FromHistory, Answers}
+use Rattle.rp_promise.specs.Records.{record_at, IsRecordAt, HistoryOk, IsHad, SnapUpTo, RecordsOk, AllRecords}
+use Rattle.rp_promise.proofs.Turned.{at_seat, AppliedAt, SnapSent, SplitNow, Jumped, Begun, Became, kept, goes, jumps, begins, FromHistory, Answers}
 use Rattle.rp_promise.proofs.Scenes.{Pieces, some_past, get_last, get_push, changed_node, node_now, SceneTurned, still_has, keeps_on}
-use Rattle.rp_promise.proofs.Stands.{SeatStands, silent, unhad, had_opened, seat_stands, seat_next}
+use Rattle.rp_promise.proofs.Stands.{silent, unhad, seat_stands, seat_next}
 
 -- the machine's node goes on
 index_event : (h : machine.World) (e : machine.Event) → machine.Lawful h e → (node : ℕ) → h.index node ≤ (machine.happens h e).index node

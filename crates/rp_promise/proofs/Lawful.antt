@@ -1,21 +1,17 @@
 -- Places are lawful.
-use Rattle.std.proofs.Common.{◌≡◌, ℕ, zero, suc, ◌+◌, ◌<◌, ◌≤◌, IsTrue, ◌⊎◌, inl, inr, ⊎_elim, Option, None, Some, Ok, List, [], ◌∷◌, ◌++◌, length, take, refl, sym, ap, subst, ◌∙◌, arith}
+use Rattle.std.proofs.Common.{◌≡◌, ℕ, ◌<◌, ⊎_elim, Option, None, Some, List, ◌++◌, length, take, refl, sym, ap, subst, ◌∙◌, arith}
 use Rattle.std.specs.Prelude.{slice_get}
 use Rattle.std.proofs.Math.Seq.{take-length}
 use Rattle.std.proofs.lemmas.List.{take-append-le}
 use Rattle.rp_base.specs.Leases.{Follows}
 use Rattle.rp_base.specs.declared.leases.Lease as leases
-use Rattle.rp_request.specs.Applied.{AppliedState, record_of, item}
-use Rattle.rp_request.specs.Covers.{in_bounds}
-use Rattle.rp_request.specs.Effect.{effect}
+use Rattle.rp_request.specs.Applied.{AppliedState, record_of}
 use Rattle.rp_request.specs.Items.{State, fold}
 use Rattle.rp_request.specs.Places.{IsPlaceOf, IsOnceInAll}
 use Rattle.rp_request.specs.States.{shown}
 use Rattle.rp_request.specs.declared.commands.Command.{Command}
-use Rattle.rp_request.specs.declared.commands.Payload.TheVariants as payloads
 use Rattle.rp_request.specs.declared.items.Place.{Place}
 use Rattle.rp_request.specs.declared.items.Place.TheVariants as places
-use Rattle.rp_request.specs.declared.items.Record.TheVariants.{Took}
 use Rattle.rp_request.proofs.Opened.{item_tells}
 use Rattle.rp_raftsafe.specs.World as raft
 use Rattle.rp_raftsafe.specs.Safety.{OneList}
@@ -25,7 +21,6 @@ use Rattle.rp_rangesafe.specs.Attempts as stages
 use Rattle.rp_rangesafe.specs.World as machine
 use Rattle.rp_rangesafe.specs.World.{state_at}
 use Rattle.rp_rangesafe.specs.Places.{IsReached, IsPlace, items_to}
-use Rattle.rp_rangesafe.specs.Places as machine_places
 use Rattle.rp_rangesafe.specs.Ranges.{Ranges, lists}
 use Rattle.rp_rangesafe.proofs.Joint.{range_reached}
 use Rattle.rp_rangesafe.proofs.Once.{once_in_all, placed_born}
@@ -34,10 +29,10 @@ use Rattle.rp_rangesafe.proofs.Rights.{begin_with}
 use Rattle.rp_rangesafe.proofs.Runs.{later_itself}
 use Rattle.rp_events.specs.Worlds.{World}
 use Rattle.rp_events.specs.Lists.{Claim, claim_of, IsAdmittedUnder}
-use Rattle.rp_events.specs.Promises.{lists_of, TakesEffect, IsLawfulPlace, IsLawfulLease, PlacesAreLawful}
+use Rattle.rp_events.specs.Promises.{lists_of, IsLawfulPlace, IsLawfulLease, PlacesAreLawful}
 use Rattle.rp_promise.specs.Beside.{IsPromising}
 use Rattle.rp_promise.proofs.Scenes.{get_front}
-use Rattle.rp_promise.proofs.Places.{claim_by, does, ItemAt, item_at, TakenCommand, TakenAsk, taken_by, PlaceAt, place_at, place_says}
+use Rattle.rp_promise.proofs.Places.{claim_by, does, ItemAt, item_at, TakenCommand, TakenAsk, taken_by, place_at, place_says}
 use Rattle.rp_promise.proofs.Listed.{records, start, lists_are}
 
 -- an attempt with a place was not refused

@@ -1,30 +1,28 @@
 -- The one list of each range: the records of the entries that have one.
-use Rattle.std.proofs.Common.{◌≡◌, ℕ, zero, suc, ◌+◌, ◌-◌, ◌^◌, ◌<◌, ◌≤◌, true, ◌⊎◌, inl, inr, ⊎_elim, Option, None, Some, Result, Ok, Err, List, [], ◌∷◌, ◌++◌, length, take, refl, sym, ap, subst, ◌∙◌, arith, append_assoc}
-use Rattle.std.specs.Prelude.{slice_get, Contains}
+use Rattle.std.proofs.Common.{◌≡◌, ℕ, zero, suc, ◌+◌, ◌-◌, ◌<◌, true, ⊎_elim, Option, Some, Result, Ok, Err, List, [], ◌∷◌, ◌++◌, length, take, refl, sym, ap, subst, ◌∙◌, arith, append_assoc}
+use Rattle.std.specs.Prelude.{slice_get}
 use Rattle.std.proofs.lemmas.List.{length-take-le, take-take}
 use Rattle.std.proofs.lemmas.Option.{slice_get_within}
 use Rattle.rp_base.specs.Splits.{split_of}
-use Rattle.rp_base.specs.Tables.{Table, from_on}
+use Rattle.rp_base.specs.Tables.{from_on}
 use Rattle.rp_base.specs.declared.ids.CmdId.{CmdId}
 use Rattle.rp_base.specs.declared.leases.Lease as leases
 use Rattle.rp_base.specs.declared.ranges.Desc.{Desc}
 use Rattle.rp_base.specs.declared.ranges.SplitFault.{SplitFault}
 use Rattle.rp_base.specs.declared.ranges.SplitFault.TheVariants as faults
 use Rattle.rp_base.proofs.SplitLaws.{parts}
-use Rattle.rp_request.specs.Applied.{AppliedState, command_verdict, item, item_by, command_record, record_of, records_of, right_number, after}
+use Rattle.rp_request.specs.Applied.{AppliedState, item_by, command_record, record_of, records_of, right_number, after}
 use Rattle.rp_request.specs.Effect.{Effect, effect, split}
 use Rattle.rp_request.specs.History.{History}
 use Rattle.rp_request.specs.Items.{State, fold}
 use Rattle.rp_request.specs.Records.{applied}
-use Rattle.rp_request.specs.Starts.{left_range, IsRightStart, SplitsOff, IsStart, first, split_off}
+use Rattle.rp_request.specs.Starts.{IsRightStart, SplitsOff, IsStart, first, split_off}
 use Rattle.rp_request.specs.States.{shown, first_applied, right_of, right_by, right_by_request, right_with}
 use Rattle.rp_request.specs.declared.commands.Command.{Command}
 use Rattle.rp_request.specs.declared.commands.Payload.{Payload}
-use Rattle.rp_request.specs.declared.commands.Payload.TheVariants as payloads
 use Rattle.rp_request.specs.declared.items.Place.{Place}
 use Rattle.rp_request.specs.declared.items.Place.TheVariants as places
 use Rattle.rp_request.specs.declared.items.Record.{Record}
-use Rattle.rp_request.specs.declared.outcomes.Refusal.{Refusal}
 use Rattle.rp_request.specs.declared.requests.Request.{Request}
 use Rattle.rp_request.specs.declared.requests.Request.TheVariants.{Put, Add, CPut, Del, Wipe, Move, Split}
 use Rattle.rp_rangesafe.specs.Along.{entry}
@@ -42,9 +40,9 @@ use Rattle.rp_events.specs.Worlds.{World}
 use Rattle.rp_events.specs.Nodes.{Node, seat}
 use Rattle.rp_events.specs.Lists.{base_of, history_in, HasApplied, Keeps, IsOneList, prefix_of}
 use Rattle.rp_events.specs.Promises.{lists_of, IsSplitAt}
-use Rattle.rp_promise.specs.Records.{record_at, HistoryOk, IsHad, AllRecords, IsOpenedBelow}
+use Rattle.rp_promise.specs.Records.{record_at, IsHad, AllRecords}
 use Rattle.rp_promise.proofs.Scenes.{some_past}
-use Rattle.rp_promise.proofs.Places.{does, ItemAt, item_at, TakenCommand, TakenAsk, taken_by}
+use Rattle.rp_promise.proofs.Places.{does, item_at, TakenCommand, TakenAsk, taken_by}
 
 get_take : {A : Type 0} (xs : List A) (n i : ℕ) → i < n → slice_get (take n xs) i ≡ slice_get xs i
 get_take xs zero i lt = absurd (omega (arith, lt))

@@ -1,5 +1,5 @@
 -- An attempt that the machine has is one that a journal admitted: in the first world, and behind each scene.
-use Rattle.std.proofs.Common.{◌≡◌, ℕ, zero, suc, ◌+◌, ◌<◌, ◌≤◌, Bool, true, false, cond, ◌⊎◌, inl, inr, ⊎_elim, IsTrue, Option, None, Some, Result, Ok, Err, List, [], ◌∷◌, ◌++◌, length, refl, sym, ap, subst, ◌∙◌, arith}
+use Rattle.std.proofs.Common.{◌≡◌, ℕ, zero, suc, ◌<◌, ◌≤◌, Bool, true, false, cond, ◌⊎◌, inl, inr, ⊎_elim, Option, None, Some, Result, Ok, Err, List, [], ◌∷◌, length, refl, sym, ap, subst, ◌∙◌, arith}
 use Rattle.std.specs.Prelude.{slice_get}
 use Rattle.std.specs.List.{find}
 use Rattle.std.specs.Option.{option_map, option_or}
@@ -23,8 +23,6 @@ use Rattle.rp_raftsafe.specs.World.{world_after}
 use Rattle.rp_raftsafe.specs.Safety.{OneList, IsLive}
 use Rattle.rp_rangesafe.specs.Attempts.{Stage, Attempt, IsBorn, IsEnded}
 use Rattle.rp_rangesafe.specs.Attempts as stages
-use Rattle.rp_rangesafe.specs.World as machine
-use Rattle.rp_rangesafe.specs.Places.{IsLater}
 use Rattle.rp_rangesafe.specs.Ranges.{Ranges, Owner, Nobody, Turned, At, IsMade, AreLater}
 use Rattle.rp_rangesafe.proofs.Growth.{Grown}
 use Rattle.rp_rangesafe.proofs.Joint.{range_goes_on, owner_stays, one_range}
@@ -39,29 +37,25 @@ use Rattle.rp_events.specs.declared.node_events.Event.TheVariants as events
 use Rattle.rp_events.specs.declared.replica_events.ReplicaEvent.TheVariants as at_replica
 use Rattle.rp_events.specs.Replicas.{Replica, lease_of}
 use Rattle.rp_events.specs.Admissions.{guarded, proposal, with_proposal, admitted_by}
-use Rattle.rp_events.specs.Nodes as nodes
-use Rattle.rp_events.specs.Nodes.{Node, Status, Absent, Live, Removed, seat, with_seat, first_node}
-use Rattle.rp_events.specs.NodeEvents.{by_status, after_replica, past_of, step, with_request}
-use Rattle.rp_events.specs.Worlds as worlds
-use Rattle.rp_events.specs.Worlds.{World, Scene, Happening, first_world, node_of, taken_in, event_of, happens, is_admission_of, outcome_by, outcome_at}
+use Rattle.rp_events.specs.Nodes.{Node, Status, Absent, Live, Removed, seat}
+use Rattle.rp_events.specs.NodeEvents.{by_status, after_replica, step, with_request}
+use Rattle.rp_events.specs.Worlds.{World, Scene, first_world, node_of, taken_in, event_of, happens, is_admission_of, outcome_by, outcome_at}
 use Rattle.rp_events.specs.Lawful.{IsReached, Lawful}
-use Rattle.rp_events.specs.Lawful as lawful_lists
-use Rattle.rp_events.specs.Lists.{base_of, history_in, HasApplied, IsAdmitted, IsAdmittedUnder, IsAskedOnceAt, StoodAs}
+use Rattle.rp_events.specs.Lists.{history_in, IsAdmittedUnder}
 use Rattle.rp_journals.specs.Growth.{WorldGrows}
 use Rattle.rp_journals.proofs.Growing.{Happened, happened, one_node, scene_grows, reached_later, with_same, with_other}
-use Rattle.rp_journals.proofs.Reading.{mapped_some, entry_of, step_journal, reads_back, stands_now}
+use Rattle.rp_journals.proofs.Reading.{entry_of, step_journal, reads_back, stands_now}
 use Rattle.rp_journals.proofs.Staying.{admitted_stays, stood_stays}
 use Rattle.rp_journals.proofs.Asking.{Admitting, admits, asked_once}
 use Rattle.rp_journals.proofs.Admitting.{asked_here, passed_under}
 use Rattle.rp_journals.proofs.Lists.{get_end}
-use Rattle.rp_seats.specs.Views.{core, core_of, view, range_at}
-use Rattle.rp_seats.specs.Standing.{Bound, RangeOk, pending_in, TellsPending, HasPlace, IsToldAs, TellsOf, SeatOk, IsMadeIn, IsOwned, body_of}
+use Rattle.rp_seats.specs.Views.{core, core_of, range_at}
+use Rattle.rp_seats.specs.Standing.{Bound, RangeOk, pending_in, TellsPending, IsToldAs, TellsOf, IsMadeIn, IsOwned}
 use Rattle.rp_seats.proofs.Admits.{numbered}
 use Rattle.rp_seats.proofs.Nodes.{seat_same, live_within}
 use Rattle.rp_seats.proofs.Opens.{first_is}
 use Rattle.rp_seats.proofs.Worlds.{site_seen}
 use Rattle.rp_promise.specs.Beside.{AreAdmitted}
-use Rattle.rp_promise.proofs.First.{first_seat}
 use Rattle.rp_promise.proofs.Stands.{had_opened}
 
 -- what is told of no attempt

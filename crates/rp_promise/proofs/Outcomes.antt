@@ -1,5 +1,5 @@
 -- What attempts are told is true.
-use Rattle.std.proofs.Common.{◌≡◌, ℕ, zero, suc, ◌+◌, ◌<◌, ◌≤◌, Bool, true, false, cond, ◌⊎◌, inl, inr, ⊎_elim, Option, None, Some, List, [], ◌∷◌, ◌++◌, length, refl, sym, ap, subst, ◌∙◌, arith}
+use Rattle.std.proofs.Common.{◌≡◌, ℕ, zero, suc, ◌+◌, ◌<◌, Bool, true, false, cond, ◌⊎◌, inl, inr, ⊎_elim, Option, None, Some, List, [], ◌∷◌, refl, sym, ap, subst, ◌∙◌, arith}
 use Rattle.std.specs.Prelude.{Contains, slice_get, option_and_then}
 use Rattle.std.specs.List.{find}
 use Rattle.std.specs.Option.{option_map, option_map_or}
@@ -10,10 +10,9 @@ use Rattle.rp_base.specs.declared.ids.CmdId.{CmdId}
 use Rattle.rp_base.proofs.IdLaws.{same_is, same_itself}
 use Rattle.rp_request.specs.Applied.{AppliedState}
 use Rattle.rp_request.specs.History.{History}
-use Rattle.rp_request.specs.declared.commands.Command.{Command}
 use Rattle.rp_request.specs.declared.items.Record.TheVariants.{Took}
 use Rattle.rp_request.specs.declared.outcomes.Outcome.{Outcome}
-use Rattle.rp_request.specs.declared.outcomes.Outcome.TheVariants.{Success, Refused, Ambiguous, Pending}
+use Rattle.rp_request.specs.declared.outcomes.Outcome.TheVariants.{Success, Refused, Pending}
 use Rattle.rp_request.specs.declared.outcomes.Refusal.{Refusal}
 use Rattle.rp_request.specs.declared.outcomes.Reply.{Reply}
 use Rattle.rp_request.specs.declared.requests.Request.{Request}
@@ -25,9 +24,8 @@ use Rattle.rp_raftsafe.specs.World as raft
 use Rattle.rp_raftsafe.specs.Safety.{OneList}
 use Rattle.rp_rangesafe.specs.Attempts.{Stage, Attempt, IsUntaken}
 use Rattle.rp_rangesafe.specs.Attempts as stages
-use Rattle.rp_rangesafe.specs.World as machine
 use Rattle.rp_rangesafe.specs.Places.{IsPlace}
-use Rattle.rp_rangesafe.specs.Ranges.{Ranges, Owner, Nobody, Turned, At, IsRefused, IsRefusedAt, AreReached}
+use Rattle.rp_rangesafe.specs.Ranges.{Ranges, Owner, Nobody, Turned, At, IsRefused, IsRefusedAt}
 use Rattle.rp_rangesafe.proofs.Joint.{range_reached, one_range, refused_nowhere}
 use Rattle.rp_rangesafe.proofs.Once.{placed_born}
 use Rattle.rp_rangesafe.proofs.OneRange.{dead_by_stage, lawful_place}
@@ -38,17 +36,16 @@ use Rattle.rp_events.specs.declared.journals.JournalEntry.{JournalEntry}
 use Rattle.rp_events.specs.declared.journals.PastEvent.TheVariants as past
 use Rattle.rp_events.specs.Nodes as nodes
 use Rattle.rp_events.specs.Nodes.{Node, Status, seat}
-use Rattle.rp_events.specs.Worlds.{World, node_of, is_admission_of, asked_at, ended_of, outcome_by, outcome_at, outcome_of}
-use Rattle.rp_events.specs.Lawful.{IsLater}
+use Rattle.rp_events.specs.Worlds.{World, node_of, is_admission_of, asked_at, outcome_by, outcome_at, outcome_of}
 use Rattle.rp_events.specs.Lists.{base_of, history_in, HasApplied, Claim, KeepsPlace, IsAdmitted}
 use Rattle.rp_events.specs.Promises.{HasPlaceWith, NeverHasAPlace, OutcomesAreHonest}
 use Rattle.rp_journals.proofs.Telling.{told_once, known, ambiguous}
 use Rattle.rp_journals.proofs.Waiting.{pending_there}
-use Rattle.rp_seats.specs.Standing.{Bound, pending_in, StandsAs, HasPlace, IsToldAs, TellsOf, SeatOk, IsTurnedAway, IsMadeIn, IsOwned}
-use Rattle.rp_promise.specs.Records.{record_at, AllRecords}
+use Rattle.rp_seats.specs.Standing.{Bound, pending_in, StandsAs, HasPlace, IsToldAs, TellsOf, IsMadeIn, IsOwned}
+use Rattle.rp_promise.specs.Records.{AllRecords}
 use Rattle.rp_promise.specs.Beside.{IsPromising}
 use Rattle.rp_promise.proofs.Stands.{had_opened}
-use Rattle.rp_promise.proofs.Places.{claim_by, PlaceAt, place_at}
+use Rattle.rp_promise.proofs.Places.{PlaceAt, place_at}
 use Rattle.rp_promise.proofs.Lawful.{placed_unrefused}
 
 -- what is found stands in the list, and passes the test

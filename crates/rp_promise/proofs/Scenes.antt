@@ -1,12 +1,11 @@
 -- What a scene changes of the nodes; and that what is kept as a record is kept.
-use Rattle.std.proofs.Common.{◌≡◌, ℕ, zero, suc, ◌+◌, ◌<◌, ◌≤◌, Bool, true, false, cond, ◌⊎◌, inl, inr, ⊎_elim, Option, None, Some, List, [], ◌∷◌, ◌++◌, length, set, refl, sym, ap, subst, ◌∙◌, arith}
-use Rattle.std.specs.Prelude.{Contains, slice_get, slice_index_or, slice_set, not, ◌&&◌, ◌==◌, IsTrue}
+use Rattle.std.proofs.Common.{◌≡◌, ℕ, zero, suc, ◌<◌, false, ◌⊎◌, inl, inr, ⊎_elim, Option, None, Some, List, [], ◌∷◌, ◌++◌, length, set, refl, sym, ap, subst, ◌∙◌, arith}
+use Rattle.std.specs.Prelude.{Contains, slice_get, slice_index_or, slice_set, not, ◌&&◌, IsTrue}
 use Rattle.std.specs.Option.{option_map, option_map_or}
 use Rattle.std.proofs.lemmas.Bool.{cases_eq}
 use Rattle.std.proofs.lemmas.List.Elements.{Contains-append_cases, Contains-append_left, Contains-append_right}
 use Rattle.std.proofs.lemmas.List.{set-get_or}
 use Rattle.std.proofs.lemmas.Option.{slice_get_within, get_or_from_slice_get}
-use Rattle.rp_base.specs.declared.items.Item.{Item}
 use Rattle.rp_request.specs.Applied.{AppliedState, record_of}
 use Rattle.rp_request.specs.History.{Piece, History, with_record, none_after, reset_to}
 use Rattle.rp_request.specs.History as history
@@ -22,7 +21,7 @@ use Rattle.rp_events.specs.Worlds.{World, Scene, Happening, node_of, with_node, 
 use Rattle.rp_events.specs.Lawful.{is_allowed, is_lawful}
 use Rattle.rp_events.specs.Lists.{history_in, HasApplied, StandsIn, Keeps}
 use Rattle.rp_seats.proofs.Shaped.{node_after}
-use Rattle.rp_promise.proofs.Turned.{at_seat, AppliedAt, WasSent, Jumped, Begun, Became, kept, goes, jumps, begins, TurnedTo, Brings, node_turned}
+use Rattle.rp_promise.proofs.Turned.{at_seat, WasSent, Became, kept, goes, jumps, begins, TurnedTo, Brings, node_turned}
 
 some_node : (a b : Node) → ◌≡◌ {A = Option Node} (Some a) (Some b) → a ≡ b
 some_node a b e = cc
