@@ -1,8 +1,7 @@
 -- How an attempt was admitted.
-use Rattle.std.proofs.Common.{◌≡◌, ℕ, zero, suc, ◌+◌, ◌<◌, ◌≤◌, Bool, true, false, cond, ⊎_elim, Option, None, Some, Result, Ok, Err, List, [], ◌∷◌, length, refl, sym, ap, subst, ◌∙◌, arith, eqb-true}
-use Rattle.std.specs.Prelude.{slice_get, ◌&&◌, ◌==◌, nat_lt}
+use Rattle.std.proofs.Common.{◌≡◌, ℕ, ◌<◌, Bool, true, false, cond, Option, Some, Result, Ok, Err, List, [], length, refl, sym, ap, subst, ◌∙◌, eqb-true}
+use Rattle.std.specs.Prelude.{slice_get, nat_lt}
 use Rattle.std.proofs.lemmas.Bool.{and_parts, ltb-true}
-use Rattle.std.proofs.lemmas.Option.{slice_get_within}
 use Rattle.rp_base.specs.declared.ids.CmdId.{CmdId}
 use Rattle.rp_base.specs.declared.items.Item.{Item}
 use Rattle.rp_request.specs.Applied.{AppliedState}
@@ -12,12 +11,9 @@ use Rattle.rp_request.specs.declared.evaluations.Evaluated.{Evaluated}
 use Rattle.rp_request.specs.declared.outcomes.Refusal.{Refusal}
 use Rattle.rp_request.specs.declared.outcomes.Refusal.TheVariants.{NotLeaseHolder, RangeMismatch, NoReplica}
 use Rattle.rp_request.specs.declared.requests.Request.{Request}
-use Rattle.rp_request.specs.History.{History}
 use Rattle.rp_latch.specs.Holds.{answer}
-use Rattle.rp_events.specs.declared.answers.EventAnswer.{EventAnswer}
 use Rattle.rp_events.specs.declared.answers.EventAnswer.TheVariants as answers
 use Rattle.rp_events.specs.declared.journals.JournalEntry.{JournalEntry}
-use Rattle.rp_events.specs.declared.journals.PastEvent.{PastEvent}
 use Rattle.rp_events.specs.declared.journals.PastEvent.TheVariants as past
 use Rattle.rp_events.specs.declared.node_events.Event.{Event}
 use Rattle.rp_events.specs.declared.node_events.Event.TheVariants as events
@@ -26,16 +22,14 @@ use Rattle.rp_events.specs.Replicas.{Replica, lease_of, holds_lease}
 use Rattle.rp_events.specs.Admissions.{unlatched, may_admit, guarded, admitted_by}
 use Rattle.rp_events.specs.Nodes.{Node, Status, Absent, Live, Removed, seat}
 use Rattle.rp_events.specs.NodeEvents.{by_status, step, past_of, with_request}
-use Rattle.rp_events.specs.Worlds.{World, node_of, happens, taken_in, is_admission_of}
+use Rattle.rp_events.specs.Worlds.{World, taken_in}
 use Rattle.rp_events.specs.Lawful.{IsReached}
-use Rattle.rp_events.specs.Journals.{stood_before}
-use Rattle.rp_events.specs.Lists.{IsWritten, IsAdmitted, IsAskedOnceAt, StoodAs, IsAdmittedUnder}
-use Rattle.rp_journals.specs.Growth.{Begins, Grows, WorldGrows}
-use Rattle.rp_journals.specs.Entries.{at_node, WasWritten}
+use Rattle.rp_events.specs.Lists.{IsAdmitted, IsAdmittedUnder}
+use Rattle.rp_journals.specs.Growth.{Grows}
+use Rattle.rp_journals.specs.Entries.{WasWritten}
 use Rattle.rp_journals.specs.Asked.{WasAdmitted}
 use Rattle.rp_journals.proofs.Lists.{get_begins, get_end}
-use Rattle.rp_journals.proofs.Growing.{status_grows, acted_grows, one_node, with_same, later_grows, Happened, happened}
-use Rattle.rp_journals.proofs.Reading.{entry_of}
+use Rattle.rp_journals.proofs.Growing.{status_grows}
 use Rattle.rp_journals.proofs.Writing.{written}
 use Rattle.rp_journals.proofs.Asking.{asked_once}
 use Rattle.rp_base.proofs.IdLaws.{same_itself}

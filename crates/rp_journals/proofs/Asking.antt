@@ -1,14 +1,13 @@
 -- Each attempt is asked once.
-use Rattle.std.proofs.Common.{◌≡◌, ℕ, zero, suc, ◌+◌, ◌<◌, ◌≤◌, Bool, true, false, cond, ◌⊎◌, inl, inr, ⊎_elim, Option, None, Some, List, [], ◌∷◌, ◌++◌, length, map, refl, sym, ap, subst, ◌∙◌, arith, get_or, set}
+use Rattle.std.proofs.Common.{◌≡◌, ℕ, zero, suc, ◌+◌, ◌≤◌, Bool, true, false, cond, ⊎_elim, Option, None, Some, List, [], ◌∷◌, map, refl, sym, ap, subst, ◌∙◌, arith, set}
 use Rattle.std.specs.Prelude.{slice_get, not, ◌&&◌, ◌||◌, IsTrue}
-use Rattle.std.specs.List.{find, list_any, count_by, sum_by}
+use Rattle.std.specs.List.{list_any, count_by, sum_by}
 use Rattle.std.specs.Option.{option_map_or}
-use Rattle.std.proofs.lemmas.Bool.{cases_eq, and_parts}
+use Rattle.std.proofs.lemmas.Bool.{and_parts}
 use Rattle.std.proofs.lemmas.Option.{slice_get_within, get_or_from_slice_get}
 use Rattle.std.proofs.lemmas.List.Sums.{sum_by-set, sum_by-cons}
 use Rattle.rp_base.proofs.Counts.{count_cons, count_push}
-use Rattle.rp_base.proofs.IdLaws.{same_is, same_itself}
-use Rattle.rp_base.specs.Ids.{same_id}
+use Rattle.rp_base.proofs.IdLaws.{same_is}
 use Rattle.rp_base.specs.declared.ids.CmdId.{CmdId}
 use Rattle.rp_base.specs.declared.items.Item.{Item}
 use Rattle.rp_raftstep.specs.RaftState.{nodes_to}
@@ -18,18 +17,16 @@ use Rattle.rp_events.specs.declared.journals.JournalEntry.{JournalEntry}
 use Rattle.rp_events.specs.declared.node_events.Event.{Event}
 use Rattle.rp_events.specs.declared.node_events.Event.TheVariants as events
 use Rattle.rp_events.specs.Nodes.{Node, is_full, first_node}
-use Rattle.rp_events.specs.NodeEvents.{step, past_of}
+use Rattle.rp_events.specs.NodeEvents.{step}
 use Rattle.rp_events.specs.Worlds as worlds
 use Rattle.rp_events.specs.Worlds.{World, Scene, Happening, Schedule, first_world, node_of, with_node, delivery, sent_by, event_of, taken_in, happens, run, is_admission_of, asked_at, was_asked}
 use Rattle.rp_events.specs.Nodes.{parcel_of}
-use Rattle.rp_events.specs.Lawful.{may_begin, is_allowed, is_lawful, Lawful, AllLawful, IsReached}
-use Rattle.rp_events.specs.Lists.{IsWritten, IsAskedOnceAt}
-use Rattle.rp_journals.specs.Entries.{at_node}
+use Rattle.rp_events.specs.Lawful.{may_begin, is_allowed, is_lawful, AllLawful, IsReached}
+use Rattle.rp_events.specs.Lists.{IsWritten}
 use Rattle.rp_journals.specs.Asked.{times_asked, AskedOnce}
-use Rattle.rp_journals.proofs.Lists.{get_push, PushCases, Before, Last}
-use Rattle.rp_journals.proofs.Growing.{Happened, happened, one_node, some_node, with_same, with_other}
+use Rattle.rp_journals.proofs.Growing.{Happened, happened}
 use Rattle.rp_journals.proofs.Writing.{EntryCases, Old, New, entry_cases, none_written}
-use Rattle.rp_journals.proofs.Reading.{mapped_some, entry_of, step_journal, first_at}
+use Rattle.rp_journals.proofs.Reading.{mapped_some, entry_of, step_journal}
 
 pub any_at : {X : Type 0} (test : X → Bool) (xs : List X) (i : ℕ) (x : X) → slice_get xs i ≡ Some x → test x ≡ true → list_any test xs ≡ true
 any_at test [] i x at is = absurd cc

@@ -1,20 +1,15 @@
 -- What a node admitted is pending there or has ended, once.
-use Rattle.std.proofs.Common.{◌≡◌, ℕ, zero, suc, ◌+◌, ◌<◌, ◌≤◌, Bool, true, false, cond, ⊎_elim, Option, None, Some, List, [], ◌∷◌, ◌++◌, length, map, set, refl, sym, ap, subst, ◌∙◌, arith}
-use Rattle.std.specs.Prelude.{slice_get, slice_index_or, ◌&&◌, count_by, sum_by, IsTrue}
-use Rattle.std.specs.List.{find}
+use Rattle.std.proofs.Common.{◌≡◌, ℕ, zero, suc, ◌+◌, ◌≤◌, Bool, true, false, ⊎_elim, Option, None, Some, List, [], ◌∷◌, set, refl, sym, ap, subst, ◌∙◌, arith}
+use Rattle.std.specs.Prelude.{slice_get, slice_index_or, ◌&&◌, count_by, sum_by}
 use Rattle.std.proofs.lemmas.List.Sums.{sum_by-cons}
-use Rattle.std.proofs.lemmas.Bool.{and_parts}
 use Rattle.rp_base.specs.Ids.{same_id}
 use Rattle.rp_base.specs.declared.ids.CmdId.{CmdId}
 use Rattle.rp_base.specs.declared.items.Item.{Item}
 use Rattle.rp_base.proofs.Counts.{count_cons, count_push, count_append}
-use Rattle.rp_raftstep.specs.RaftState.{nodes_to}
 use Rattle.rp_raftstep.specs.declared.messages.Message.{Message}
 use Rattle.rp_raftstep.specs.declared.messages.Message.TheVariants.{Vote, VoteReply, Append, AppendReply, Forward, Snap}
 use Rattle.rp_request.specs.Applied.{AppliedState}
 use Rattle.rp_request.specs.declared.requests.Request.{Request}
-use Rattle.rp_pending.specs.declared.proposals.Proposal.{Proposal}
-use Rattle.rp_pending.specs.Proposals.{has_id}
 use Rattle.rp_events.specs.declared.answers.Ended.{Ended}
 use Rattle.rp_events.specs.declared.answers.EventAnswer.{EventAnswer}
 use Rattle.rp_events.specs.declared.journals.JournalEntry.{JournalEntry}
@@ -24,18 +19,17 @@ use Rattle.rp_events.specs.declared.replica_events.ReplicaEvent.{ReplicaEvent}
 use Rattle.rp_events.specs.declared.replica_events.ReplicaEvent.TheVariants.{Admit, Ask, Transfer, Collect, Flush, Tick, Deliver, Apply, Cut, Remove, Peek, Restart}
 use Rattle.rp_events.specs.Replicas.{Replica, Done, started}
 use Rattle.rp_events.specs.ReplicaEvents.{event}
-use Rattle.rp_events.specs.Nodes.{Node, NodeDone, Status, Absent, Live, Removed, seat, with_seat, opened, opened_by, after_turn, first_node, range_numbers, right_base, right_base_term}
-use Rattle.rp_events.specs.NodeEvents.{status_after, after_replica, by_status, live_turn, all_turns, delivered, answered_absent, seat_by_message, acted, step, with_request}
-use Rattle.rp_events.specs.Worlds.{World, Scene, Schedule, first_world, node_of, with_node, taken_in, happens, run, is_admission_of}
-use Rattle.rp_events.specs.Lawful.{is_lawful, Lawful, AllLawful, IsReached}
-use Rattle.rp_events.specs.Promises.{times_ended}
+use Rattle.rp_events.specs.Nodes.{Node, Status, Absent, Live, Removed, seat, opened, opened_by, after_turn, range_numbers, right_base, right_base_term}
+use Rattle.rp_events.specs.NodeEvents.{status_after, after_replica, by_status, live_turn, all_turns, delivered, seat_by_message, acted, step, with_request}
+use Rattle.rp_events.specs.Worlds.{World, Scene, Schedule, first_world, node_of, taken_in, happens, run, is_admission_of}
+use Rattle.rp_events.specs.Lawful.{AllLawful, IsReached}
 use Rattle.rp_journals.specs.Asked.{times_asked}
 use Rattle.rp_journals.specs.Ended.{pending_at, is_granted, is_grant_of, times_granted, times_pending, times_told, Balanced}
 use Rattle.rp_journals.proofs.Growing.{Happened, happened, reached_later}
 use Rattle.rp_journals.proofs.Reading.{entry_of, step_journal, node_after, first_at}
 use Rattle.rp_journals.proofs.Writing.{later_scene, first_reached}
 use Rattle.rp_journals.proofs.Asking.{times_at_most_once}
-use Rattle.rp_journals.proofs.Counting.{one_if, told_of, pending_of, added_by, IsBalanced, event_balance}
+use Rattle.rp_journals.proofs.Counting.{one_if, told_of, pending_of, added_by, event_balance}
 
 -- a sum over seats of which one changed
 pub sum_seat : (f : Status → ℕ) (seats : List Status) (range : ℕ) (new : Status) (r : Replica) → slice_index_or seats range Absent ≡ Live r → sum_by f (set seats range new) + f (Live r) ≡ sum_by f seats + f new
@@ -232,7 +226,7 @@ balanced_scene nodes w x reached b = ⊎_elim
     let acts = acted_total q' k.n k.event (taken_in x.what) once in
     let was = b q' x.node k.n k.has in
     let grown : times_granted q' (step k.n k.event (taken_in x.what)).node ≡ times_granted q' k.n + one_if (is_grant_of q' (entry_of k.n k.event (taken_in x.what))) =
-        ap (count_by (is_grant_of q')) (step_journal k.n k.event (taken_in x.what)) ∙ count_push (is_grant_of q') k.n.journal (entry_of k.n k.event (taken_in x.what)) in
+    ap (count_by (is_grant_of q')) (step_journal k.n k.event (taken_in x.what)) ∙ count_push (is_grant_of q') k.n.journal (entry_of k.n k.event (taken_in x.what)) in
     omega (arith, acts, was, grown))
     (λ other m ne is q'. b q' other m is) node n has q))
     (happened w x)

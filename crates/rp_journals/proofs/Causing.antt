@@ -1,13 +1,12 @@
 -- Which events of a replica make an attempt ambiguous.
-use Rattle.std.proofs.Common.{◌≡◌, ℕ, zero, suc, ◌+◌, ◌<◌, ◌≤◌, Bool, true, false, cond, ⊎_elim, Option, None, Some, Result, Ok, Err, List, [], ◌∷◌, ◌++◌, length, map, refl, sym, ap, subst, ◌∙◌, arith, append_assoc}
-use Rattle.std.specs.Prelude.{slice_get, not, ◌&&◌, ◌==◌, nat_le, filter_map}
-use Rattle.std.specs.List.{filter, find, cons_option, AllByRecursion}
+use Rattle.std.proofs.Common.{◌≡◌, ℕ, ◌+◌, ◌<◌, ◌≤◌, Bool, true, false, cond, Option, None, Some, Result, Ok, Err, List, [], ◌∷◌, ◌++◌, refl, sym, ap, subst, ◌∙◌, arith, append_assoc}
+use Rattle.std.specs.Prelude.{nat_le, filter_map}
+use Rattle.std.specs.List.{find, cons_option, AllByRecursion}
 use Rattle.std.specs.Option.{option_map, option_map_or, option_or}
 use Rattle.std.proofs.lemmas.Bool.{cond_both, and_parts, leb-true}
 use Rattle.std.proofs.lemmas.List.Folds.{find-append}
 use Rattle.rp_base.specs.declared.ids.CmdId.{CmdId}
 use Rattle.rp_base.specs.declared.items.Item.{Item}
-use Rattle.rp_base.specs.declared.leases.Lease.{Lease}
 use Rattle.rp_base.proofs.Counts.{count_cons, count_append}
 use Rattle.rp_base.proofs.IdLaws.{same_itself}
 use Rattle.rp_raftstep.specs.declared.messages.Message.{Message}
@@ -38,7 +37,7 @@ use Rattle.rp_events.specs.declared.replica_events.ReplicaEvent.TheVariants.{Adm
 use Rattle.rp_events.specs.Replicas.{Replica, Done, Told, leaves, untold, lease_of, holds_lease, has_new_leader}
 use Rattle.rp_events.specs.Admissions.{guarded, admitted_by}
 use Rattle.rp_events.specs.Applications.{is_own, settled, proposer_told, payload_of, next_entry, applied_where}
-use Rattle.rp_events.specs.Ends.{end_of, ends_all, overtaken_by, removed_with, lost_under}
+use Rattle.rp_events.specs.Ends.{end_of, overtaken_by, removed_with, lost_under}
 use Rattle.rp_events.specs.Flushes.{assigning, flush_moves, emptied}
 use Rattle.rp_events.specs.LeaseAsks.{lease_ticks, is_held, expiry_of, ask_for, answers_ask}
 use Rattle.rp_events.specs.declared.moves.Move.{Move}
@@ -155,10 +154,11 @@ found_here front p back once =
 found_each : (front back : List Proposal) → ((id : CmdId) → pending_of id (front ++ back) ≤ 1) → AllByRecursion (λ (p : Proposal). proposal_of p.id (front ++ back) ≡ Some p) back
 found_each front [] once = tt
 found_each front (p ∷ back) once =
-    let moved_on : (front ++ p ∷ []) ++ back ≡ front ++ p ∷ back = append_assoc front (p ∷ []) back in
-    (found_here front p back (once p.id),
-    subst (λ l. AllByRecursion (λ (x : Proposal). proposal_of x.id l ≡ Some x) back) moved_on
-    (found_each (front ++ p ∷ []) back (λ id. subst (λ l. pending_of id l ≤ 1) (sym moved_on) (once id))))
+    let moved_on : (front ++ p ∷ []) ++ back ≡ front ++ p ∷ back = append_assoc front (p ∷ []) back in (
+      found_here front p back (once p.id),
+      subst (λ l. AllByRecursion (λ (x : Proposal). proposal_of x.id l ≡ Some x) back) moved_on
+          (found_each (front ++ p ∷ []) back (λ id. subst (λ l. pending_of id l ≤ 1) (sym moved_on) (once id))),
+    )
 
 -- each that is proposed is so under an index above 0
 abbrev pub IsSelf : Replica → Proposal → Type 0

@@ -1,29 +1,26 @@
 -- Each pending proposal is one that its node admitted in its range.
-use Rattle.std.proofs.Common.{◌≡◌, ℕ, zero, suc, ◌+◌, ◌<◌, ◌≤◌, Bool, true, false, cond, ⊎_elim, Option, None, Some, Result, Ok, Err, List, [], ◌∷◌, ◌++◌, length, map, max, set, refl, sym, ap, subst, ◌∙◌, arith}
-use Rattle.std.specs.Prelude.{slice_get, slice_index_or, not, ◌&&◌, ◌==◌, is_none}
+use Rattle.std.proofs.Common.{◌≡◌, ℕ, zero, suc, ◌+◌, ◌<◌, Bool, true, false, cond, ⊎_elim, Option, None, Some, Result, Ok, Err, List, [], ◌∷◌, ◌++◌, length, map, max, set, refl, sym, ap, subst, ◌∙◌, arith}
+use Rattle.std.specs.Prelude.{slice_get, slice_index_or, not}
 use Rattle.std.specs.List.{filter, find, AllByRecursion}
 use Rattle.std.specs.Option.{option_map_or}
 use Rattle.std.proofs.lemmas.Bool.{cond_both}
 use Rattle.rp_base.specs.declared.ids.CmdId.{CmdId}
 use Rattle.rp_base.specs.declared.items.Item.{Item}
-use Rattle.rp_base.specs.declared.items.Item.TheVariants as items
 use Rattle.rp_raftstep.specs.declared.messages.Message.{Message}
 use Rattle.rp_raftstep.specs.declared.messages.Message.TheVariants.{Vote, VoteReply, Append, AppendReply, Forward, Snap}
-use Rattle.rp_raftstep.specs.Step.{Draft, tick, received}
+use Rattle.rp_raftstep.specs.Step.{tick, received}
 use Rattle.rp_request.specs.Applied.{AppliedState, command_verdict}
 use Rattle.rp_request.specs.declared.commands.Command.{Command}
 use Rattle.rp_request.specs.declared.commands.Payload.{Payload}
 use Rattle.rp_request.specs.declared.commands.Payload.TheVariants as payloads
 use Rattle.rp_request.specs.declared.evaluations.Evaluated.{Evaluated}
-use Rattle.rp_request.specs.declared.outcomes.Outcome.{Outcome}
 use Rattle.rp_request.specs.declared.outcomes.Refusal.{Refusal}
 use Rattle.rp_request.specs.declared.outcomes.Refusal.TheVariants.{NotLeaseHolder}
 use Rattle.rp_request.specs.declared.requests.Request.{Request}
 use Rattle.rp_request.specs.declared.verdicts.Verdict.{Verdict}
 use Rattle.rp_request.specs.declared.verdicts.Verdict.TheVariants as verdicts
 use Rattle.rp_flush.specs.Assigns.{numbered}
-use Rattle.rp_flush.specs.declared.assigns.Assigned.{Assigned}
-use Rattle.rp_pending.specs.Proposals.{has_id, proposal_of, without, with_changed, proposed, waiting_again, is_proposed}
+use Rattle.rp_pending.specs.Proposals.{has_id, proposal_of, with_changed, proposed, waiting_again, is_proposed}
 use Rattle.rp_pending.specs.Refreshes.{goes_back}
 use Rattle.rp_pending.specs.declared.proposals.Proposal.{Proposal}
 use Rattle.rp_pending.specs.declared.refreshes.Refresh.{Refresh}
@@ -38,22 +35,21 @@ use Rattle.rp_events.specs.declared.replica_events.ReplicaEvent.TheVariants.{Adm
 use Rattle.rp_events.specs.Replicas.{Replica, Done, Told, leaves, untold, lease_of, holds_lease, has_new_leader, started}
 use Rattle.rp_events.specs.Admissions.{guarded, admitted_by, proposal}
 use Rattle.rp_events.specs.Applications.{is_own, settled, proposer_told, payload_of, next_entry, applied_where}
-use Rattle.rp_events.specs.Ends.{ends_all, removed_with}
 use Rattle.rp_events.specs.Flushes.{assigning, flush_moves, emptied}
-use Rattle.rp_events.specs.LeaseAsks.{lease_ticks, is_held, expiry_of, ask_for, answers_ask, joined_all}
+use Rattle.rp_events.specs.LeaseAsks.{lease_ticks, is_held, expiry_of, ask_for, answers_ask}
 use Rattle.rp_events.specs.declared.moves.Move.{Move}
 use Rattle.rp_events.specs.declared.moves.Move.TheVariants.{HandsOut, GivesUp, TakesBack, Repeats}
 use Rattle.rp_events.specs.Moves.{hands_out, gives_up, takes_back, repeats, moved, moved_all}
-use Rattle.rp_events.specs.Refreshes.{refreshing, refresh_moves, with_taken, delivered_by}
+use Rattle.rp_events.specs.Refreshes.{refreshing, refresh_moves, with_taken}
 use Rattle.rp_events.specs.ReplicaEvents.{event}
-use Rattle.rp_events.specs.Nodes.{Node, Status, Absent, Live, Removed, seat, with_seat, opened, opened_by, after_turn, first_node, range_numbers, right_base, right_base_term}
+use Rattle.rp_events.specs.Nodes.{Node, Status, Absent, Live, Removed, seat, opened, opened_by, after_turn, first_node, range_numbers, right_base, right_base_term}
 use Rattle.rp_events.specs.NodeEvents.{status_after, after_replica, by_status, live_turn, all_turns, delivered, seat_by_message, acted, step, with_request}
-use Rattle.rp_events.specs.Worlds.{World, Scene, Schedule, first_world, node_of, taken_in, happens, run}
+use Rattle.rp_events.specs.Worlds.{World, Scene, Schedule, first_world, taken_in, happens, run}
 use Rattle.rp_events.specs.Lawful.{IsReached}
 use Rattle.rp_journals.specs.Growth.{Grows}
 use Rattle.rp_journals.specs.Ended.{pending_at, IsFrom, AllFrom}
 use Rattle.rp_journals.proofs.Lists.{get_begins, get_end, all_push, all_weaker}
-use Rattle.rp_journals.proofs.Growing.{Happened, happened, step_grows, scene_grows}
+use Rattle.rp_journals.proofs.Growing.{Happened, happened, step_grows}
 use Rattle.rp_journals.proofs.Reading.{entry_of, step_journal, node_after, first_at}
 use Rattle.rp_journals.proofs.Admitting.{asked_here}
 use Rattle.rp_journals.proofs.Counting.{joined_all_same}

@@ -1,6 +1,6 @@
 -- An event of a replica ends only what is pending, and each end takes its proposal away.
-use Rattle.std.proofs.Common.{◌≡◌, ℕ, zero, suc, ◌+◌, ◌<◌, ◌≤◌, Bool, true, false, cond, ⊎_elim, Option, None, Some, Result, Ok, Err, List, [], ◌∷◌, ◌++◌, length, map, refl, sym, ap, subst, ◌∙◌, arith}
-use Rattle.std.specs.Prelude.{not, ◌&&◌, ◌==◌, filter_map, is_none, count_by, IsTrue}
+use Rattle.std.proofs.Common.{◌≡◌, ℕ, ◌+◌, ◌≤◌, Bool, true, false, cond, Option, None, Some, Result, Ok, Err, List, [], ◌∷◌, refl, sym, ap, subst, ◌∙◌, arith}
+use Rattle.std.specs.Prelude.{not, ◌&&◌, ◌==◌, filter_map, is_none, count_by}
 use Rattle.std.specs.List.{filter, find, cons_option}
 use Rattle.std.specs.Option.{option_map, option_map_or}
 use Rattle.std.proofs.lemmas.Bool.{cond_both}
@@ -9,10 +9,10 @@ use Rattle.rp_base.specs.declared.ids.CmdId.{CmdId}
 use Rattle.rp_base.specs.declared.items.Item.{Item}
 use Rattle.rp_base.specs.declared.items.Item.TheVariants as items
 use Rattle.rp_base.proofs.Counts.{count_cons, count_push, count_append}
-use Rattle.rp_base.proofs.IdLaws.{same_is, same_back, equal_same, same_itself}
+use Rattle.rp_base.proofs.IdLaws.{same_is, same_back, equal_same}
 use Rattle.rp_base.specs.declared.leases.Lease.{Lease}
 use Rattle.rp_raftstep.specs.declared.messages.Message.{Message}
-use Rattle.rp_raftstep.specs.Step.{Draft, quiet, tick, received}
+use Rattle.rp_raftstep.specs.Step.{Draft, tick, received}
 use Rattle.rp_request.specs.Applied.{AppliedState, command_verdict}
 use Rattle.rp_request.specs.declared.commands.Command.{Command}
 use Rattle.rp_request.specs.declared.commands.Payload.{Payload}
@@ -30,7 +30,6 @@ use Rattle.rp_request.specs.declared.verdicts.Verdict.TheVariants as verdicts
 use Rattle.rp_pending.specs.Proposals.{has_id, proposal_of, without, with_changed, proposed, waiting_again, is_proposed}
 use Rattle.rp_pending.specs.Refreshes.{goes_back}
 use Rattle.rp_pending.specs.declared.proposals.Proposal.{Proposal}
-use Rattle.rp_pending.specs.declared.refreshes.Refresh.{Refresh}
 use Rattle.rp_events.specs.declared.answers.Ended.{Ended}
 use Rattle.rp_events.specs.declared.answers.EventAnswer.{EventAnswer}
 use Rattle.rp_events.specs.declared.replica_events.ReplicaEvent.{ReplicaEvent}
@@ -38,13 +37,13 @@ use Rattle.rp_events.specs.declared.replica_events.ReplicaEvent.TheVariants.{Adm
 use Rattle.rp_events.specs.Replicas.{Replica, Done, Told, leaves, untold, lease_of, holds_lease, has_new_leader}
 use Rattle.rp_events.specs.Admissions.{guarded, admitted_by, proposal}
 use Rattle.rp_events.specs.Applications.{is_own, settled, proposer_told, payload_of, next_entry, applied_where}
-use Rattle.rp_events.specs.Ends.{end_of, ends_all, overtaken_by, snapshot_taken, removed_with, lost_under}
-use Rattle.rp_events.specs.Flushes.{assigning, flush_moves, emptied, flushed_by}
+use Rattle.rp_events.specs.Ends.{end_of, overtaken_by, removed_with, lost_under}
+use Rattle.rp_events.specs.Flushes.{assigning, flush_moves, emptied}
 use Rattle.rp_events.specs.LeaseAsks.{lease_ticks, is_held, expiry_of, ask_for, answers_ask, joined, joined_all}
 use Rattle.rp_events.specs.declared.moves.Move.{Move}
 use Rattle.rp_events.specs.declared.moves.Move.TheVariants.{HandsOut, GivesUp, TakesBack, Repeats}
-use Rattle.rp_events.specs.Moves.{ended, waits_again, proposed_under, hands_out, gives_up, takes_back, repeats, where_pending, moved, moved_all}
-use Rattle.rp_events.specs.Refreshes.{refreshing, refresh_moves, refreshed_by, with_taken, delivered_by}
+use Rattle.rp_events.specs.Moves.{ended, hands_out, gives_up, takes_back, repeats, moved, moved_all}
+use Rattle.rp_events.specs.Refreshes.{refreshing, refresh_moves, with_taken, delivered_by}
 use Rattle.rp_events.specs.ReplicaEvents.{event}
 use Rattle.rp_events.specs.NodeEvents.{status_after}
 use Rattle.rp_journals.specs.Ended.{pending_at, is_granted}

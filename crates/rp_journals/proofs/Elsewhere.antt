@@ -1,17 +1,15 @@
 -- Events of a node that are lawful in a world are lawful in one in which the other nodes have gone on.
-use Rattle.std.proofs.Common.{◌≡◌, ℕ, zero, suc, ◌+◌, ◌<◌, ◌≤◌, Bool, true, false, cond, ◌⊎◌, inl, inr, ⊎_elim, Option, None, Some, List, [], ◌∷◌, ◌++◌, length, map, refl, sym, ap, subst, ◌∙◌, arith}
-use Rattle.std.specs.Prelude.{slice_get, not, ◌&&◌, ◌||◌, ◌==◌, nat_lt, nat_le, IsTrue, option_and_then}
-use Rattle.std.specs.List.{find, list_any}
+use Rattle.std.proofs.Common.{◌≡◌, ℕ, suc, Bool, true, false, ⊎_elim, Option, None, Some, List, [], ◌∷◌, refl, sym, ap, subst, ◌∙◌}
+use Rattle.std.specs.Prelude.{not, ◌&&◌, ◌||◌, ◌==◌, nat_lt, nat_le, option_and_then}
+use Rattle.std.specs.List.{find}
 use Rattle.std.specs.Option.{option_map, option_map_or}
 use Rattle.std.proofs.lemmas.Bool.{cases_eq, and_from, and_parts}
 use Rattle.rp_base.specs.declared.ids.CmdId.{CmdId}
-use Rattle.rp_base.specs.declared.items.Item.{Item}
 use Rattle.rp_request.specs.Applied.{AppliedState}
 use Rattle.rp_request.specs.Attempts.{previous}
 use Rattle.rp_request.specs.Requests.{same_request}
 use Rattle.rp_request.specs.declared.outcomes.Outcome.{Outcome}
 use Rattle.rp_request.specs.declared.outcomes.Outcome.TheVariants as outcomes
-use Rattle.rp_request.specs.declared.outcomes.Refusal.{Refusal}
 use Rattle.rp_request.specs.declared.requests.Request.{Request}
 use Rattle.rp_events.specs.declared.journals.JournalEntry.{JournalEntry}
 use Rattle.rp_events.specs.declared.journals.PastEvent.{PastEvent}
@@ -22,20 +20,18 @@ use Rattle.rp_events.specs.Nodes.{Node, is_full, parcel_of}
 use Rattle.rp_events.specs.NodeEvents.{step}
 use Rattle.rp_events.specs.Worlds as worlds
 use Rattle.rp_events.specs.Worlds.{World, Happening, Scene, Schedule, node_of, with_node, sent_by, delivery, event_of, taken_in, happens, happens_at, after_step, run, is_admission_of, asked_at, was_asked, request_of, outcome_at, outcome_of, asked_request_at, asked_request}
-use Rattle.rp_events.specs.Lawful.{is_refusal, was_refused, may_begin, is_sent_to, is_allowed, is_lawful, HasWidths, Lawful, AllLawful}
-use Rattle.rp_events.specs.Lists.{IsWritten}
-use Rattle.rp_journals.specs.Growth.{Begins, Grows, WorldGrows}
+use Rattle.rp_events.specs.Lawful.{is_refusal, was_refused, may_begin, is_sent_to, is_allowed, is_lawful, Lawful, AllLawful}
+use Rattle.rp_journals.specs.Growth.{Grows, WorldGrows}
 use Rattle.rp_journals.specs.Entries.{at_node}
 use Rattle.rp_journals.specs.Asked.{AskedOnce, AskedNowhereElse, all_at}
 use Rattle.rp_journals.specs.Elsewhere.{IsAhead, HappensThere}
-use Rattle.rp_journals.proofs.Growing.{one_node, with_same, with_other, length_with, scene_grows, sent_grows, parcel_stays, grows_refl, step_grows, Happened, happened}
-use Rattle.rp_journals.proofs.Writing.{EntryCases, Old, New, entry_cases, now_is, other_is}
-use Rattle.rp_journals.proofs.Reading.{entry_of, mapped_some}
+use Rattle.rp_journals.proofs.Growing.{one_node, with_same, with_other, length_with, grows_refl}
+use Rattle.rp_journals.proofs.Reading.{mapped_some}
 use Rattle.rp_journals.proofs.Staying.{requests_stay, found_stays, asked_stays, outcome_stays, parcels_stay}
-use Rattle.rp_journals.proofs.Asking.{once_scene, any_at, node_any, admits, Admitting, true_not_false, not_true}
+use Rattle.rp_journals.proofs.Asking.{once_scene, node_any, true_not_false, not_true}
 use Rattle.rp_journals.proofs.Ending.{found_passes}
 use Rattle.rp_journals.proofs.Telling.{found_place}
-use Rattle.rp_journals.proofs.Waiting.{any_place, found_any, outcome_here}
+use Rattle.rp_journals.proofs.Waiting.{any_place, found_any}
 
 some_node : (a b : Node) → ◌≡◌ {A = Option Node} (Some a) (Some b) → a ≡ b
 some_node a b e = cc
@@ -312,5 +308,5 @@ happens_there (x ∷ xs) w other node ahead nowhere lawful =
     let parts = nowhere_first other node x xs nowhere in
     let one : OneThere w other node x = one_there w other node ahead x parts.0 lawful.0 in
     let more : HappensThere (happens w (at_node node x)) (happens other (at_node node x)) node xs =
-        happens_there xs (happens w (at_node node x)) (happens other (at_node node x)) node one.ahead (nowhere_after other (happens other (at_node node x)) node one.others xs parts.1) lawful.1 in
+    happens_there xs (happens w (at_node node x)) (happens other (at_node node x)) node one.ahead (nowhere_after other (happens other (at_node node x)) node one.others xs parts.1) lawful.1 in
     record { lawful = (one.lawful, more.lawful); same = more.same; others = λ k ne. more.others k ne ∙ one.others k ne }

@@ -1,24 +1,19 @@
 -- Each ambiguous end has its event in the journal of its node.
-use Rattle.std.proofs.Common.{◌≡◌, ℕ, zero, suc, ◌+◌, ◌<◌, ◌≤◌, Bool, true, false, cond, ⊎_elim, Option, None, Some, List, [], ◌∷◌, ◌++◌, length, set, length-append, refl, sym, ap, subst, ◌∙◌, arith, get_or-set_same, get_or-set_other}
-use Rattle.std.specs.Prelude.{slice_get, slice_index_or}
+use Rattle.std.proofs.Common.{◌≡◌, ℕ, ◌+◌, ◌<◌, ◌≤◌, Bool, true, false, cond, ⊎_elim, Option, None, Some, List, [], ◌∷◌, length, length-append, refl, sym, ap, subst, ◌∙◌, arith, get_or-set_same, get_or-set_other}
+use Rattle.std.specs.Prelude.{slice_get}
 use Rattle.std.specs.List.{find, AllByRecursion}
-use Rattle.std.specs.Option.{option_map_or}
 use Rattle.std.proofs.lemmas.Bool.{cond_both, cases_lt}
-use Rattle.std.proofs.lemmas.List.{length-set, get_or_past}
+use Rattle.std.proofs.lemmas.List.{get_or_past}
 use Rattle.std.proofs.lemmas.Option.{slice_get_within}
 use Rattle.rp_base.specs.declared.ids.CmdId.{CmdId}
 use Rattle.rp_base.specs.declared.items.Item.{Item}
 use Rattle.rp_base.proofs.IdLaws.{same_is}
 use Rattle.rp_raftstep.specs.declared.messages.Message.{Message}
-use Rattle.rp_raftstep.specs.Step.{Draft, received}
+use Rattle.rp_raftstep.specs.Step.{received}
 use Rattle.rp_request.specs.Applied.{AppliedState}
-use Rattle.rp_request.specs.History.{History}
 use Rattle.rp_request.specs.declared.outcomes.Ambiguity.{Ambiguity}
 use Rattle.rp_request.specs.declared.outcomes.Ambiguity.TheVariants as causes
-use Rattle.rp_request.specs.declared.outcomes.Outcome.{Outcome}
-use Rattle.rp_request.specs.declared.outcomes.Outcome.TheVariants as outcomes
-use Rattle.rp_request.specs.declared.requests.Request.{Request}
-use Rattle.rp_pending.specs.Proposals.{has_id, proposal_of, is_proposed}
+use Rattle.rp_pending.specs.Proposals.{has_id, is_proposed}
 use Rattle.rp_pending.specs.declared.proposals.Proposal.{Proposal}
 use Rattle.rp_events.specs.declared.answers.Ended.{Ended}
 use Rattle.rp_events.specs.declared.journals.JournalEntry.{JournalEntry}
@@ -29,28 +24,24 @@ use Rattle.rp_events.specs.declared.node_events.Event.TheVariants as events
 use Rattle.rp_events.specs.declared.replica_events.ReplicaEvent.{ReplicaEvent}
 use Rattle.rp_events.specs.declared.replica_events.ReplicaEvent.TheVariants.{Admit, Ask, Transfer, Collect, Flush, Tick, Deliver, Apply, Cut, Remove, Peek, Restart}
 use Rattle.rp_events.specs.Replicas.{Replica, Done, has_new_leader}
-use Rattle.rp_events.specs.Refreshes.{with_taken}
 use Rattle.rp_events.specs.ReplicaEvents.{event}
-use Rattle.rp_events.specs.Nodes.{Node, Status, Absent, Live, Removed, seat, opened, opened_by, after_turn, first_node, range_numbers}
+use Rattle.rp_events.specs.Nodes.{Node, Status, Absent, Live, Removed, seat, opened, opened_by, after_turn, range_numbers}
 use Rattle.rp_events.specs.NodeEvents.{status_after, after_replica, by_status, live_turn, all_turns, delivered, acted, step, with_request, past_of}
-use Rattle.rp_events.specs.Worlds.{World, Scene, Schedule, first_world, node_of, taken_in, happens, run}
-use Rattle.rp_events.specs.Lawful.{AllLawful, IsReached}
+use Rattle.rp_events.specs.Worlds.{World, Scene, taken_in, happens}
 use Rattle.rp_events.specs.Journals.{stood_before}
 use Rattle.rp_events.specs.Lists.{IsWritten, IsAdmitted, StoodAs}
 use Rattle.rp_events.specs.Promises.{IsProposedIn, CameWhileProposed, TookSnapshot, IsCaused, HasCause}
 use Rattle.rp_journals.specs.Growth.{Grows, WorldGrows}
-use Rattle.rp_journals.specs.Entries.{ReadsBack, AllReadBack}
-use Rattle.rp_journals.specs.Ended.{pending_at, IsFrom, AllFrom, Balanced, IsTrueEnd, AllTrueEnds}
+use Rattle.rp_journals.specs.Entries.{AllReadBack}
+use Rattle.rp_journals.specs.Ended.{pending_at, IsFrom, AllFrom}
 use Rattle.rp_journals.proofs.Lists.{get_begins, get_end, all_weaker}
-use Rattle.rp_journals.proofs.Growing.{Happened, happened, one_node, step_grows, scene_grows, reached_later}
-use Rattle.rp_journals.proofs.Reading.{entry_of, step_journal, node_after, first_at, reads_back, reads_scene, stands_now}
-use Rattle.rp_journals.proofs.Writing.{later_scene, stood_later, now_is, first_reached}
+use Rattle.rp_journals.proofs.Growing.{Happened, step_grows, scene_grows}
+use Rattle.rp_journals.proofs.Reading.{entry_of, step_journal, reads_scene, stands_now}
+use Rattle.rp_journals.proofs.Writing.{stood_later, now_is}
 use Rattle.rp_journals.proofs.Staying.{written_stays, admitted_stays, stood_stays}
-use Rattle.rp_journals.proofs.Asking.{times_at_most_once}
-use Rattle.rp_journals.proofs.Balancing.{TotalOnce, once_in, total_once, balanced}
-use Rattle.rp_journals.proofs.Coming.{all_found, from_later, all_from}
-use Rattle.rp_journals.proofs.Counting.{pending_of}
-use Rattle.rp_journals.proofs.Causing.{EndWith, AllEndWith, end_weaker, ends_weaker, all_both, TookIn, CausedBy, IsSelf, all_self, remove_ends, restart_ends, deliver_ends, IsQuiet, quiet_ends}
+use Rattle.rp_journals.proofs.Balancing.{TotalOnce, once_in}
+use Rattle.rp_journals.proofs.Coming.{all_found}
+use Rattle.rp_journals.proofs.Causing.{EndWith, AllEndWith, ends_weaker, all_both, CausedBy, IsSelf, all_self, remove_ends, restart_ends, deliver_ends, IsQuiet, quiet_ends}
 
 -- a cause stays one
 came_stays : (w later : World) → AllReadBack w → WorldGrows w later → (id : CmdId) (node range place own : ℕ) (e : PastEvent) → CameWhileProposed w id node range place own e → CameWhileProposed later id node range place own e
@@ -282,7 +273,7 @@ module _ (w : World) (x : Scene) (k : Happened w x) (reads : AllReadBack w) (fro
   cause_here range r id own why live proposed caused =
       let p : Proposal = proposed.proposal in
       let here : IsFrom k.n range p = all_found (IsFrom k.n range) (has_id id) r.pending p
-          (subst (λ s. AllByRecursion (IsFrom k.n range) (pending_at s)) live (from x.node k.n k.has range)) proposed.pending in
+      (subst (λ s. AllByRecursion (IsFrom k.n range) (pending_at s)) live (from x.node k.n k.has range)) proposed.pending in
       let grown : Grows k.n new = step_grows k.n k.event (taken_in x.what) in
       let within : here.place < length k.n.journal = slice_get_within k.n.journal here.place _ here.here in
       record {

@@ -1,6 +1,5 @@
 -- Each event of a node, and each scene of a world, adds to what the nodes keep.
 use Rattle.std.proofs.Common.{◌≡◌, ℕ, zero, suc, ◌+◌, ◌⊎◌, inl, inr, ⊎_elim, Option, None, Some, List, [], ◌∷◌, ◌++◌, length, set, refl, sym, ap, subst, ◌∙◌}
-use Rattle.std.specs.Prelude.{slice_get}
 use Rattle.std.specs.Option.{option_map_or}
 use Rattle.std.proofs.lemmas.Bool.{cases_eq}
 use Rattle.std.proofs.lemmas.List.{length-set}
@@ -8,7 +7,6 @@ use Rattle.rp_base.specs.declared.items.Item.{Item}
 use Rattle.rp_raftstep.specs.declared.messages.Message.{Message}
 use Rattle.rp_raftstep.specs.Step.{absent_answer}
 use Rattle.rp_request.specs.Applied.{AppliedState}
-use Rattle.rp_request.specs.declared.requests.Request.{Request}
 use Rattle.rp_events.specs.declared.parcels.Parcel.{Parcel}
 use Rattle.rp_events.specs.declared.node_events.Event.{Event}
 use Rattle.rp_events.specs.declared.node_events.Event.TheVariants as events
@@ -16,11 +14,11 @@ use Rattle.rp_events.specs.declared.replica_events.ReplicaEvent.{ReplicaEvent}
 use Rattle.rp_events.specs.declared.replica_events.ReplicaEvent.TheVariants.{Admit, Ask, Transfer, Collect, Flush, Tick, Deliver, Apply, Cut, Remove, Peek, Restart}
 use Rattle.rp_events.specs.Replicas.{Done, started}
 use Rattle.rp_events.specs.ReplicaEvents.{event}
-use Rattle.rp_events.specs.Nodes.{Node, NodeDone, Status, Absent, Live, Removed, seat, opened, opened_by, after_turn, parcels, written, parcel_of, range_numbers, right_base, right_base_term}
+use Rattle.rp_events.specs.Nodes.{Node, Status, Absent, Live, Removed, seat, opened, opened_by, after_turn, parcels, parcel_of, range_numbers, right_base, right_base_term}
 use Rattle.rp_events.specs.NodeEvents.{status_after, after_replica, by_status, live_turn, all_turns, delivered, acted, step, with_request, seat_by_message, past_of}
 use Rattle.rp_events.specs.Worlds.{World, Scene, Schedule, node_of, with_node, sent_by, event_of, taken_in, after_step, happens_at, happens, run}
 use Rattle.rp_events.specs.Lawful.{AllLawful, IsReached, IsLater}
-use Rattle.rp_journals.specs.Growth.{Begins, Grows, HasLater, WorldGrows, SentGrows}
+use Rattle.rp_journals.specs.Growth.{Begins, Grows, WorldGrows, SentGrows}
 use Rattle.rp_journals.proofs.Lists.{begins_refl, begins_push, begins_trans, begins_nil, get_begins, set_same, set_other}
 
 pub grows_refl : (n : Node) → Grows n n

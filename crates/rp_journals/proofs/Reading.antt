@@ -1,5 +1,5 @@
 -- The replay of a journal over what the nodes have sent is the node.
-use Rattle.std.proofs.Common.{◌≡◌, ℕ, zero, suc, ◌+◌, ◌≤◌, ⊎_elim, Option, None, Some, List, [], ◌∷◌, ◌++◌, length, map, take, refl, sym, ap, subst, ◌∙◌, arith}
+use Rattle.std.proofs.Common.{◌≡◌, ℕ, zero, suc, ◌+◌, ◌≤◌, ⊎_elim, Option, None, Some, List, [], ◌∷◌, ◌++◌, length, map, take, refl, sym, ap, subst, ◌∙◌}
 use Rattle.std.specs.Prelude.{slice_get}
 use Rattle.std.specs.List.{AllByRecursion}
 use Rattle.std.specs.Option.{option_map, option_map_or}
@@ -9,28 +9,26 @@ use Rattle.rp_base.specs.declared.items.Item.{Item}
 use Rattle.rp_raftstep.specs.RaftState.{nodes_to}
 use Rattle.rp_request.specs.Applied.{AppliedState}
 use Rattle.rp_request.specs.declared.requests.Request.{Request}
-use Rattle.rp_events.specs.declared.answers.EventAnswer.{EventAnswer}
 use Rattle.rp_events.specs.declared.journals.JournalEntry.{JournalEntry}
 use Rattle.rp_events.specs.declared.journals.PastEvent.{PastEvent}
 use Rattle.rp_events.specs.declared.journals.PastEvent.TheVariants as past
 use Rattle.rp_events.specs.declared.node_events.Event.{Event}
 use Rattle.rp_events.specs.declared.node_events.Event.TheVariants as events
-use Rattle.rp_events.specs.declared.parcels.Parcel.{Parcel}
 use Rattle.rp_events.specs.declared.replica_events.ReplicaEvent.{ReplicaEvent}
 use Rattle.rp_events.specs.declared.replica_events.ReplicaEvent.TheVariants as at_replica
 use Rattle.rp_raftstep.specs.declared.messages.Message.{Message}
 use Rattle.rp_events.specs.ReplicaEvents.{event}
 use Rattle.rp_events.specs.Replicas.{Done}
-use Rattle.rp_events.specs.Nodes.{Node, NodeDone, Status, Absent, Live, Removed, seat, first_node, parcel_of, opened, opened_by, after_turn, range_numbers}
+use Rattle.rp_events.specs.Nodes.{Node, Status, Absent, Live, Removed, seat, first_node, parcel_of, opened, opened_by, after_turn, range_numbers}
 use Rattle.rp_events.specs.NodeEvents.{status_after, after_replica, by_status, live_turn, all_turns, delivered, acted, past_of, step, with_request}
 use Rattle.rp_events.specs.Worlds as worlds
 use Rattle.rp_events.specs.Worlds.{World, Scene, Happening, Schedule, first_world, node_of, with_node, sent_by, delivery, event_of, taken_in, happens, run}
-use Rattle.rp_events.specs.Lawful.{Lawful, AllLawful, IsReached, IsLater}
-use Rattle.rp_events.specs.Journals.{admission, as_it_came, given_then, again, replayed, stood_before, Replays}
-use Rattle.rp_journals.specs.Growth.{Begins, Grows, WorldGrows, SentGrows}
-use Rattle.rp_journals.specs.Entries.{IsRead, ReadsBack, AllReadBack, at_node, WasWritten}
-use Rattle.rp_journals.proofs.Lists.{begins_refl, begins_push, get_begins, get_end, get_push, PushCases, Before, Last, take_begins, take_whole, all_take, all_push, all_weaker}
-use Rattle.rp_journals.proofs.Growing.{status_grows, Happened, happened, one_node, acted_grows, step_grows, with_same, with_other, scene_grows, run_grows, sent_grows, parcel_stays, later_grows, later_refl, later_trans, reached_later}
+use Rattle.rp_events.specs.Lawful.{IsReached}
+use Rattle.rp_events.specs.Journals.{as_it_came, given_then, again, replayed, stood_before, Replays}
+use Rattle.rp_journals.specs.Growth.{Begins, Grows, SentGrows}
+use Rattle.rp_journals.specs.Entries.{IsRead, ReadsBack, AllReadBack}
+use Rattle.rp_journals.proofs.Lists.{begins_refl, get_begins, get_end, take_begins, take_whole, all_take, all_push, all_weaker}
+use Rattle.rp_journals.proofs.Growing.{status_grows, Happened, happened, one_node, step_grows, with_same, with_other, scene_grows, sent_grows, parcel_stays}
 
 -- an option that is something
 pub mapped_some : {A B : Type 0} (f : A → B) (o : Option A) (b : B) → option_map f o ≡ Some b → (a : A) × (o ≡ Some a) × (f a ≡ b)
@@ -81,7 +79,7 @@ replay_more w later g rs more b [] h n = refl
 replay_more w later g rs more b (e ∷ es) h n =
     let r : IsRead w rs e.event = h.0 in
     let same : again later more n e.event ≡ again w rs n e.event =
-        again_is later more n e.event r.event (read_more w later g rs more b e.event r.event r.is) ∙ sym (again_is w rs n e.event r.event r.is) in
+    again_is later more n e.event r.event (read_more w later g rs more b e.event r.event r.is) ∙ sym (again_is w rs n e.event r.event r.is) in
     ap (λ k. replayed later more k es) same ∙ replay_more w later g rs more b es h.1 (again w rs n e.event)
 
 pub replay_further : (w : World) (rs : List Request) (es fs : List JournalEntry) (n : Node) → replayed w rs n (es ++ fs) ≡ replayed w rs (replayed w rs n es) fs
@@ -201,7 +199,7 @@ reads_step w later g what n ev came h =
     let before : AllRead later new.requests n.journal = all_read_more w later g n.requests new.requests grown.requests n.journal h.all in
     let first_is : first_node new.node new.nodes ≡ first_node n.node n.nodes = ap (λ k. first_node k new.nodes) grown.number ∙ ap (first_node n.node) grown.of in
     let replay_is : replayed later new.requests (first_node n.node n.nodes) n.journal ≡ n =
-        replay_more w later g n.requests new.requests grown.requests n.journal h.all (first_node n.node n.nodes) ∙ h.is in
+    replay_more w later g n.requests new.requests grown.requests n.journal h.all (first_node n.node n.nodes) ∙ h.is in
     record {
       all = subst (AllRead later new.requests) (sym (step_journal n ev taken)) (all_push (λ (x : JournalEntry). IsRead later new.requests x.event) n.journal e before (record { event = ev; is = here }));
       is = ap (λ k. replayed later new.requests k new.journal) first_is

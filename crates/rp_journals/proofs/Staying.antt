@@ -1,9 +1,8 @@
 -- What stays of a node and of a world in each later one.
-use Rattle.std.proofs.Common.{◌≡◌, ℕ, zero, suc, ◌+◌, ◌<◌, ◌≤◌, Bool, true, false, Option, None, Some, List, [], ◌∷◌, length, refl, sym, ap, subst, ◌∙◌, arith}
+use Rattle.std.proofs.Common.{◌≡◌, ℕ, ◌≤◌, true, Option, None, Some, length, refl, sym, ap, subst, ◌∙◌}
 use Rattle.std.specs.Prelude.{slice_get}
-use Rattle.std.specs.List.{find, list_any}
+use Rattle.std.specs.List.{find}
 use Rattle.std.specs.Option.{option_map, option_map_or}
-use Rattle.std.proofs.lemmas.Option.{slice_get_within}
 use Rattle.rp_base.specs.Ids.{same_id}
 use Rattle.rp_base.specs.declared.ids.CmdId.{CmdId}
 use Rattle.rp_request.specs.Applied.{AppliedState}
@@ -16,10 +15,10 @@ use Rattle.rp_events.specs.declared.answers.EventAnswer.TheVariants as answers
 use Rattle.rp_events.specs.declared.journals.JournalEntry.{JournalEntry}
 use Rattle.rp_events.specs.declared.parcels.Parcel.{Parcel}
 use Rattle.rp_events.specs.Replicas.{Replica}
-use Rattle.rp_events.specs.Nodes.{Node, Live, seat, parcel_of}
+use Rattle.rp_events.specs.Nodes.{Node, seat, parcel_of}
 use Rattle.rp_events.specs.Worlds.{World, node_of, sent_by, is_admission_of, asked_at, ended_of, outcome_by, outcome_at}
 use Rattle.rp_events.specs.Lists.{IsWritten, IsAdmitted, StoodAs}
-use Rattle.rp_journals.specs.Growth.{Begins, Grows, WorldGrows}
+use Rattle.rp_journals.specs.Growth.{Grows, WorldGrows}
 use Rattle.rp_journals.specs.Entries.{AllReadBack}
 use Rattle.rp_journals.proofs.Lists.{get_begins, found_begins, any_begins}
 use Rattle.rp_journals.proofs.Growing.{sent_grows, parcel_stays}
@@ -95,7 +94,7 @@ stood_stays w later reads g node n has place within range r is =
     let x = g.each node n has in
     let y = g.each node is.n is.has in
     let same = stood_later w later reads g node is.n y.now is.has y.has place
-        (subst (λ (z : Node). place ≤ length z.journal) (one has is.has) within) in
+    (subst (λ (z : Node). place ≤ length z.journal) (one has is.has) within) in
     record { n = y.now; has = y.has; stood = ap (λ (z : Node). seat z range) same ∙ is.stood }
   where
     one : {a b : Node} → node_of w node ≡ Some a → node_of w node ≡ Some b → a ≡ b

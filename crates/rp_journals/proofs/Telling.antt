@@ -1,53 +1,38 @@
 -- What attempts are told: once, only where they were admitted, with a cause where it is ambiguous.
-use Rattle.std.proofs.Common.{◌≡◌, ℕ, zero, suc, ◌+◌, ◌<◌, ◌≤◌, Bool, true, false, cond, ◌⊎◌, inl, inr, ⊎_elim, Option, None, Some, List, [], ◌∷◌, ◌++◌, length, refl, sym, ap, subst, ◌∙◌, arith}
-use Rattle.std.specs.Prelude.{slice_get, slice_index_or, ◌&&◌, ◌||◌, count_by, sum_by, option_and_then}
-use Rattle.std.specs.List.{find, list_any, AllByRecursion}
+use Rattle.std.proofs.Common.{◌≡◌, ℕ, zero, suc, ◌<◌, ◌≤◌, Bool, true, false, cond, ⊎_elim, Option, None, Some, List, [], ◌∷◌, refl, sym, ap, subst, ◌∙◌, arith}
+use Rattle.std.specs.Prelude.{slice_get, ◌&&◌, count_by, sum_by, option_and_then}
+use Rattle.std.specs.List.{find, AllByRecursion}
 use Rattle.std.specs.Option.{option_map, option_map_or}
-use Rattle.std.proofs.lemmas.Bool.{and_parts, and_from}
+use Rattle.std.proofs.lemmas.Bool.{and_parts}
 use Rattle.std.proofs.lemmas.List.Sums.{sum_by-cons}
 use Rattle.rp_base.specs.Ids.{same_id}
 use Rattle.rp_base.specs.declared.ids.CmdId.{CmdId}
-use Rattle.rp_base.specs.declared.items.Item.{Item}
-use Rattle.rp_base.proofs.Counts.{count_cons}
-use Rattle.rp_base.proofs.IdLaws.{same_is, same_itself}
-use Rattle.rp_request.specs.Applied.{AppliedState}
+use Rattle.rp_base.proofs.IdLaws.{same_is}
 use Rattle.rp_request.specs.declared.outcomes.Ambiguity.{Ambiguity}
 use Rattle.rp_request.specs.declared.outcomes.Outcome.{Outcome}
 use Rattle.rp_request.specs.declared.outcomes.Outcome.TheVariants as outcomes
-use Rattle.rp_request.specs.declared.outcomes.Refusal.{Refusal}
-use Rattle.rp_request.specs.declared.outcomes.Refusal.TheVariants.{NoReplica}
-use Rattle.rp_request.specs.declared.evaluations.Evaluated.{Evaluated}
 use Rattle.rp_request.specs.declared.requests.Request.{Request}
-use Rattle.std.specs.Prelude.{Result, Ok, Err}
-use Rattle.rp_pending.specs.Proposals.{has_id, proposal_of}
-use Rattle.rp_pending.specs.declared.proposals.Proposal.{Proposal}
 use Rattle.rp_events.specs.declared.answers.Ended.{Ended}
 use Rattle.rp_events.specs.declared.answers.EventAnswer.{EventAnswer}
 use Rattle.rp_events.specs.declared.answers.EventAnswer.TheVariants as answers
 use Rattle.rp_events.specs.declared.journals.JournalEntry.{JournalEntry}
 use Rattle.rp_events.specs.declared.journals.PastEvent.{PastEvent}
 use Rattle.rp_events.specs.declared.journals.PastEvent.TheVariants as past
-use Rattle.rp_events.specs.declared.node_events.Event.{Event}
-use Rattle.rp_events.specs.declared.node_events.Event.TheVariants as events
-use Rattle.rp_events.specs.declared.replica_events.ReplicaEvent.TheVariants as at_replica
-use Rattle.rp_events.specs.Replicas.{Replica}
-use Rattle.rp_events.specs.Admissions.{guarded, admitted_by}
-use Rattle.rp_events.specs.Nodes.{Node, Status, Absent, Live, Removed, seat}
-use Rattle.rp_events.specs.NodeEvents.{by_status, step, with_request, past_of}
+use Rattle.rp_events.specs.Nodes.{Node}
+use Rattle.rp_events.specs.NodeEvents.{step}
 use Rattle.rp_events.specs.Worlds.{World, Scene, Schedule, first_world, node_of, taken_in, happens, run, is_admission_of, asked_at, ended_of, outcome_by, outcome_at, outcome_of}
 use Rattle.rp_events.specs.Lawful.{AllLawful, IsReached}
-use Rattle.rp_events.specs.Journals.{admission}
-use Rattle.rp_events.specs.Lists.{IsLiveAt, IsWritten, IsAdmitted, IsAskedOnceAt}
-use Rattle.rp_events.specs.Promises.{HasCause, IsPendingThere, times_ended}
-use Rattle.rp_journals.specs.Entries.{IsRead, ReadsBack, AllReadBack, WasWritten}
-use Rattle.rp_journals.specs.Asked.{times_asked, AskedOnce}
-use Rattle.rp_journals.specs.Ended.{pending_at, is_granted, is_grant_of, times_granted, times_pending, times_told, Balanced, IsFrom, AllFrom, IsTrueEnd, AllTrueEnds}
-use Rattle.rp_journals.proofs.Growing.{Happened, happened, one_node, scene_grows, reached_later}
-use Rattle.rp_journals.proofs.Reading.{admitting, mapped_some, entry_of, node_after, first_at, reads_back}
-use Rattle.rp_journals.proofs.Writing.{later_scene, first_reached, written}
-use Rattle.rp_journals.proofs.Asking.{asked_once, times_at_most_once, any_at}
-use Rattle.rp_journals.proofs.Counting.{one_if, pending_of}
-use Rattle.rp_journals.proofs.Balancing.{in_seat, both_fewer, total_once, balanced}
+use Rattle.rp_events.specs.Lists.{IsAdmitted}
+use Rattle.rp_events.specs.Promises.{HasCause, times_ended}
+use Rattle.rp_journals.specs.Entries.{IsRead, AllReadBack}
+use Rattle.rp_journals.specs.Asked.{times_asked}
+use Rattle.rp_journals.specs.Ended.{is_granted, is_grant_of, times_granted, times_told, Balanced, IsTrueEnd, AllTrueEnds}
+use Rattle.rp_journals.proofs.Growing.{Happened, happened, scene_grows, reached_later}
+use Rattle.rp_journals.proofs.Reading.{admitting, mapped_some, node_after, first_at, reads_back}
+use Rattle.rp_journals.proofs.Writing.{later_scene, first_reached}
+use Rattle.rp_journals.proofs.Asking.{times_at_most_once}
+use Rattle.rp_journals.proofs.Counting.{one_if}
+use Rattle.rp_journals.proofs.Balancing.{both_fewer, total_once, balanced}
 use Rattle.rp_journals.proofs.Coming.{all_found, all_from}
 use Rattle.rp_journals.proofs.Causing.{EndWith, AllEndWith, ends_weaker}
 use Rattle.rp_journals.proofs.Ending.{cause_stays, new_ends, found_passes}
@@ -133,10 +118,10 @@ pub told_once : (nodes : ℕ) (w : World) → IsReached nodes w → (id : CmdId)
 told_once nodes w r id =
     let b : Balanced w = balanced nodes w r in
     let less : times_ended w id ≤ times_asked w id = sum_less (times_told id) (λ (n : Node). count_by (is_admission_of id) n.journal) w
-        (λ place n is.
-        let k = b id (suc place) n is in
-        let fewer = both_fewer (is_admission_of id) (λ (e : JournalEntry). is_granted e.answer) n.journal in
-        omega (arith, k, fewer)) in
+    (λ place n is.
+    let k = b id (suc place) n is in
+    let fewer = both_fewer (is_admission_of id) (λ (e : JournalEntry). is_granted e.answer) n.journal in
+    omega (arith, k, fewer)) in
     let once = times_at_most_once nodes w r id in
     omega (arith, less, once)
 

@@ -1,6 +1,6 @@
 -- What has not ended is pending at its replica, and what is pending has not ended.
-use Rattle.std.proofs.Common.{◌≡◌, ℕ, zero, suc, ◌+◌, ◌<◌, ◌≤◌, Bool, true, false, cond, ◌⊎◌, inl, inr, ⊎_elim, Option, None, Some, Result, Ok, Err, List, [], ◌∷◌, ◌++◌, length, refl, sym, ap, subst, ◌∙◌, arith}
-use Rattle.std.specs.Prelude.{slice_get, slice_index_or, ◌&&◌, ◌||◌, count_by, sum_by, option_and_then}
+use Rattle.std.proofs.Common.{◌≡◌, ℕ, zero, suc, ◌<◌, ◌≤◌, Bool, true, false, cond, ◌⊎◌, inl, inr, Option, None, Some, Result, Ok, Err, List, [], ◌∷◌, refl, sym, ap, subst, ◌∙◌, arith}
+use Rattle.std.specs.Prelude.{slice_get, ◌||◌, count_by, option_and_then}
 use Rattle.std.specs.List.{find, list_any, AllByRecursion}
 use Rattle.std.specs.Option.{option_map, option_map_or}
 use Rattle.std.proofs.lemmas.Bool.{and_from, and_parts}
@@ -16,7 +16,6 @@ use Rattle.rp_request.specs.declared.outcomes.Outcome.TheVariants as outcomes
 use Rattle.rp_request.specs.declared.outcomes.Refusal.{Refusal}
 use Rattle.rp_request.specs.declared.outcomes.Refusal.TheVariants.{NoReplica}
 use Rattle.rp_request.specs.declared.evaluations.Evaluated.{Evaluated}
-use Rattle.rp_request.specs.declared.requests.Request.{Request}
 use Rattle.rp_pending.specs.Proposals.{has_id, proposal_of}
 use Rattle.rp_pending.specs.declared.proposals.Proposal.{Proposal}
 use Rattle.rp_events.specs.declared.answers.Ended.{Ended}
@@ -36,7 +35,7 @@ use Rattle.rp_events.specs.Lawful.{IsReached}
 use Rattle.rp_events.specs.Lists.{IsLiveAt, IsWritten, IsAdmitted}
 use Rattle.rp_events.specs.Promises.{IsPendingThere, times_ended}
 use Rattle.rp_journals.specs.Entries.{WasWritten}
-use Rattle.rp_journals.specs.Asked.{times_asked, AskedOnce}
+use Rattle.rp_journals.specs.Asked.{AskedOnce}
 use Rattle.rp_journals.specs.Ended.{pending_at, is_granted, is_grant_of, times_granted, times_pending, times_told, IsFrom, IsTrueEnd, IsHeldThere}
 use Rattle.rp_journals.proofs.Growing.{one_node}
 use Rattle.rp_journals.proofs.Reading.{entry_of}

@@ -1,21 +1,20 @@
 -- How each entry of a journal was written.
-use Rattle.std.proofs.Common.{◌≡◌, ℕ, zero, suc, ◌+◌, ◌<◌, ◌≤◌, ⊎_elim, Option, None, Some, List, [], ◌∷◌, ◌++◌, length, refl, sym, ap, subst, ◌∙◌, arith}
+use Rattle.std.proofs.Common.{◌≡◌, ℕ, ◌<◌, ◌≤◌, ⊎_elim, Option, Some, [], ◌∷◌, ◌++◌, length, refl, sym, ap, subst, ◌∙◌, arith}
 use Rattle.std.specs.Prelude.{slice_get}
 use Rattle.std.proofs.lemmas.Bool.{cases_eq}
 use Rattle.std.proofs.lemmas.Option.{slice_get_within}
-use Rattle.rp_base.specs.declared.items.Item.{Item}
 use Rattle.rp_events.specs.declared.journals.JournalEntry.{JournalEntry}
-use Rattle.rp_events.specs.Nodes.{Node, first_node}
+use Rattle.rp_events.specs.Nodes.{Node}
 use Rattle.rp_events.specs.NodeEvents.{step}
-use Rattle.rp_events.specs.Worlds.{World, Scene, Schedule, first_world, node_of, with_node, taken_in, happens, run}
+use Rattle.rp_events.specs.Worlds.{World, Scene, Schedule, first_world, node_of, taken_in, happens, run}
 use Rattle.rp_events.specs.Lawful.{Lawful, AllLawful, IsReached, IsLater}
 use Rattle.rp_events.specs.Journals.{stood_before}
-use Rattle.rp_events.specs.Lists.{IsWritten, StoodAs}
-use Rattle.rp_journals.specs.Growth.{Begins, Grows, WorldGrows, SentGrows}
-use Rattle.rp_journals.specs.Entries.{ReadsBack, AllReadBack, at_node, WasWritten}
+use Rattle.rp_events.specs.Lists.{IsWritten}
+use Rattle.rp_journals.specs.Growth.{Grows, WorldGrows}
+use Rattle.rp_journals.specs.Entries.{AllReadBack, WasWritten}
 use Rattle.rp_journals.proofs.Lists.{get_push, PushCases, Before, Last}
-use Rattle.rp_journals.proofs.Growing.{Happened, happened, grows_refl, grows_trans, one_node, step_grows, with_same, with_other, with_grows, scene_grows, sent_grows, later_grows, later_refl, later_trans, reached_later, some_node}
-use Rattle.rp_journals.proofs.Reading.{entry_of, step_journal, reads_scene, reads_back, first_at, stood_more, stands_now}
+use Rattle.rp_journals.proofs.Growing.{Happened, happened, grows_refl, grows_trans, one_node, with_same, with_other, scene_grows, sent_grows, later_grows, later_refl, later_trans, reached_later}
+use Rattle.rp_journals.proofs.Reading.{entry_of, step_journal, reads_back, first_at, stood_more, stands_now}
 
 -- the world after one lawful scene
 pub later_scene : (w : World) (x : Scene) → Lawful w x → IsLater w (happens w x)
@@ -74,7 +73,7 @@ entry_cases w x k node place e is = ⊎_elim here elsewhere (cases_eq node x.nod
   here same =
       let is_new : is.n ≡ new = one_node (happens w x) x.node is.n new (subst (λ z. node_of (happens w x) z ≡ Some is.n) same is.has) (now_is w x k) in
       let at : slice_get (k.n.journal ++ entry_of k.n k.event (taken_in x.what) ∷ []) place ≡ Some e =
-          subst (λ l. slice_get l place ≡ Some e) (ap (λ (z : Node). z.journal) is_new ∙ step_journal k.n k.event (taken_in x.what)) is.here in
+      subst (λ l. slice_get l place ≡ Some e) (ap (λ (z : Node). z.journal) is_new ∙ step_journal k.n k.event (taken_in x.what)) is.here in
       by_place (get_push k.n.journal (entry_of k.n k.event (taken_in x.what)) place e at)
     where
       by_place : PushCases k.n.journal (entry_of k.n k.event (taken_in x.what)) place e → EntryCases w x k node place e

@@ -4,11 +4,11 @@ use Rattle.rp_base.specs.declared.ids.CmdId.{CmdId}
 use Rattle.rp_request.specs.declared.requests.Request.{Request}
 use Rattle.rp_request.specs.declared.evaluations.Evaluated.{Evaluated}
 use Rattle.rp_events.specs.declared.journals.JournalEntry.{JournalEntry}
-use Rattle.rp_events.specs.Replicas.{Replica, lease_of}
+use Rattle.rp_events.specs.Replicas.{Replica}
 use Rattle.rp_events.specs.Admissions.{guarded}
 use Rattle.rp_events.specs.Nodes.{Node}
 use Rattle.rp_events.specs.Worlds.{World, Happening, Admit, Schedule, node_of, is_admission_of, asked_at}
-use Rattle.rp_events.specs.Lists.{IsWritten, IsAdmitted, IsAskedOnceAt, StoodAs}
+use Rattle.rp_events.specs.Lists.{IsWritten, IsAskedOnceAt, StoodAs}
 use Rattle.rp_journals.specs.Entries.{at_node}
 
 -- how often the journals have an admission of the attempt, be it granted or refused
@@ -21,7 +21,8 @@ AskedOnce w = (id : CmdId) (node place : ℕ) (e : JournalEntry) → IsWritten w
     → IsTrue (is_admission_of id e) → IsAskedOnceAt w id node place
 
 -- how an attempt was admitted: the replica as it stood just before, which let it through
-pub record WasAdmitted (w : World) (id : CmdId) (node place range : ℕ) (request : Request) : Type 0 where
+pub record WasAdmitted (w : World) (id : CmdId) (node place range : ℕ) (request : Request)
+    : Type 0 where
   pub only : IsAskedOnceAt w id node place
   pub replica : Replica
   pub stood : StoodAs w node place range replica
