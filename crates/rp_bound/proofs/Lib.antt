@@ -8,3 +8,7 @@ pub mod Owners
 pub mod Next
 pub mod First
 pub mod Along
+pub mod Counts
+pub mod Grows
+pub mod Heights
+pub mod Seats

@@ -1,0 +1,11 @@
+pub mod Tells
+pub mod Widths
+pub mod Replicas
+pub mod Doings
+pub mod Seated
+pub mod All
+pub mod Scenes
+pub mod Happenings
+pub mod Admissions
+pub mod Far
+pub mod Whole
