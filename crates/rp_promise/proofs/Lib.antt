@@ -1,3 +1,4 @@
+pub mod Somes
 pub mod Replicas
 pub mod Turned
 pub mod Scenes

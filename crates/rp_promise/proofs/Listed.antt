@@ -1,5 +1,5 @@
 -- The one list of each range: the records of the entries that have one.
-use Rattle.std.proofs.Common.{◌≡◌, ℕ, zero, suc, ◌+◌, ◌-◌, ◌<◌, true, ⊎_elim, Option, Some, Result, Ok, Err, List, [], ◌∷◌, ◌++◌, length, take, refl, sym, ap, subst, ◌∙◌, arith, append_assoc}
+use Rattle.std.proofs.Common.{◌≡◌, ℕ, zero, suc, ◌+◌, ◌-◌, ◌<◌, true, ⊎_elim, Some, Result, Ok, Err, List, [], ◌∷◌, ◌++◌, length, take, refl, sym, ap, subst, ◌∙◌, arith, append_assoc}
 use Rattle.std.specs.Prelude.{slice_get}
 use Rattle.std.proofs.lemmas.List.{length-take-le, take-take}
 use Rattle.std.proofs.lemmas.Option.{slice_get_within}
@@ -37,12 +37,12 @@ use Rattle.rp_rangesafe.proofs.Rights.{Opens, opens_it, IsOrigin, sources_reache
 use Rattle.rp_rangesafe.proofs.Splits.{is_there, split_opens, one_origin}
 use Rattle.rp_rangesafe.proofs.Whole.{whole_reached}
 use Rattle.rp_events.specs.Worlds.{World}
-use Rattle.rp_events.specs.Nodes.{Node, seat}
+use Rattle.rp_events.specs.Nodes.{seat}
 use Rattle.rp_events.specs.Lists.{base_of, history_in, HasApplied, Keeps, IsOneList, prefix_of}
 use Rattle.rp_events.specs.Promises.{lists_of, IsSplitAt}
 use Rattle.rp_promise.specs.Records.{record_at, IsHad, AllRecords}
-use Rattle.rp_promise.proofs.Scenes.{some_past}
 use Rattle.rp_promise.proofs.Places.{does, item_at, TakenCommand, TakenAsk, taken_by}
+use Rattle.rp_promise.proofs.Somes.{some_is}
 
 get_take : {A : Type 0} (xs : List A) (n i : ℕ) → i < n → slice_get (take n xs) i ≡ slice_get xs i
 get_take xs zero i lt = absurd (omega (arith, lt))
@@ -59,9 +59,6 @@ records_take b (p ∷ log) (suc i) = ap (λ z. record_of b p ∷ z) (records_tak
 records_length : (b : AppliedState) (log : List Payload) → length (records_of b log) ≡ length log
 records_length b [] = refl
 records_length b (p ∷ log) = let rest = records_length (after b p) log in omega (arith, rest)
-
-some_record : (a b : Record) → ◌≡◌ {A = Option Record} (Some a) (Some b) → a ≡ b
-some_record a b e = cc
 
 -- an item of a split is one of a command that splits
 split_is : (d : Desc) (c : Command) (r : Request) (id : CmdId) (key right seq : ℕ) → item_by d c r ≡ places.Split id key right seq → (r ≡ Split key) × (right_number d ≡ right)
@@ -121,9 +118,7 @@ module _ (w : World) (m : Ranges) (reached : AreReached m) (a : AllRecords w m) 
       ∙ recorded_at (m.range range).start (m.range range).log place (omega (arith, lt, within))
 
   same_history : (node range : ℕ) (p q : History) → HasApplied w node range p → HasApplied w node range q → p ≡ q
-  same_history node range p q x y = some_past p q (sym x.history ∙ ap (λ z. history_in (seat z range)) (some_node x.n y.n (sym x.has ∙ y.has)) ∙ y.history) where
-    some_node : (c d : Node) → ◌≡◌ {A = Option Node} (Some c) (Some d) → c ≡ d
-    some_node c d e = cc
+  same_history node range p q x y = some_is p q (sym x.history ∙ ap (λ z. history_in (seat z range)) (some_is x.n y.n (sym x.has ∙ y.has)) ∙ y.history)
 
   pub one_list : (range : ℕ) → IsOneList w range (records range)
   one_list range = record {
@@ -146,7 +141,7 @@ module _ (w : World) (m : Ranges) (reached : AreReached m) (a : AllRecords w m) 
         let inside = slice_get_within (records range) place kept e in
         let below : place < a.reach range = omega (arith, long, inside) in
         let c = (a.each range).covered place below in
-        (c.0, subst (Keeps w c.0 range (base_of range + place + 1)) (some_record (record_at (m.range range) place) kept (sym (list_at range place below) ∙ e)) c.1);
+        (c.0, subst (Keeps w c.0 range (base_of range + place + 1)) (some_is (record_at (m.range range) place) kept (sym (list_at range place below) ∙ e)) c.1);
     reaches = λ node past applied.
         let o = (a.each range).histories node past applied in
         let long = list_length range in

@@ -1,5 +1,6 @@
 -- What an event of a replica leaves of what was applied, which snapshots it sends, and whom it tells Success.
 use Rattle.std.proofs.Common.{◌≡◌, ℕ, ◌+◌, ◌≤◌, true, ◌⊎◌, inl, inr, Option, None, Some, Result, Ok, Err, List, [], ◌∷◌, ◌++◌, refl, sym, ap, subst, ◌∙◌, arith}
+use Rattle.std.proofs.lemmas.Option.{none-some}
 use Rattle.std.specs.Prelude.{filter_map}
 use Rattle.std.specs.List.{AllByRecursion as Every, list_any, cons_option}
 use Rattle.std.specs.Option.{option_map, option_map_or}
@@ -53,6 +54,7 @@ use Rattle.rp_events.specs.NodeEvents.{status_after}
 use Rattle.rp_events.specs.Lists.{history_in}
 use Rattle.rp_seats.specs.Views.{core, range_at}
 use Rattle.rp_seats.proofs.Turns.{moves_kept}
+use Rattle.rp_promise.proofs.Somes.{some_is}
 
 -- an end that is no Success
 abbrev pub IsNoSuccess : Outcome → Type 0
@@ -111,9 +113,6 @@ moves_end ticks round t (m ∷ ms) h = moves_end ticks round (moved ticks round 
 abbrev NoneSucceeds : (Proposal → Option Outcome) → Type 0
 NoneSucceeds ends = (p : Proposal) (o : Outcome) → ends p ≡ Some o → IsNoSuccess o
 
-some_is : (a b : Outcome) → ◌≡◌ {A = Option Outcome} (Some a) (Some b) → a ≡ b
-some_is a b e = cc
-
 all_end : (ends : Proposal → Option Outcome) → NoneSucceeds ends → (ps : List Proposal) → Every NoSuccess (filter_map (end_of ends) ps)
 all_end ends h [] = tt
 all_end ends h (p ∷ ps) = go (ends p) refl (all_end ends h ps) where
@@ -126,10 +125,7 @@ overtaken_none : (lai : ℕ) → NoneSucceeds (overtaken_by lai)
 overtaken_none lai p o =
     cond_both (goes_back lai p) (Some (Ambiguous (causes.Snapshot p.max lai))) None (λ z. z ≡ Some o → IsNoSuccess o)
     (λ _ e. subst IsNoSuccess (some_is (Ambiguous (causes.Snapshot p.max lai)) o e) tt)
-    (λ _ e. absurd (none_some e))
-  where
-    none_some : ◌≡◌ {A = Option Outcome} None (Some o) → ⊥
-    none_some e = cc
+    (λ _ e. absurd (none-some o e))
 
 removed_none : NoneSucceeds removed_with
 removed_none p o =

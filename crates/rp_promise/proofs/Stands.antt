@@ -1,5 +1,6 @@
 -- What stands beside a seat: Raft's world and the machine of its range.
-use Rattle.std.proofs.Common.{◌≡◌, ℕ, zero, suc, ◌+◌, ◌<◌, Bool, true, false, cond, eqb, Option, None, Some, List, [], ◌∷◌, length, refl, sym, ap, subst, ◌∙◌, arith, eq-eqb}
+use Rattle.std.proofs.Common.{◌≡◌, ℕ, zero, suc, ◌+◌, ◌<◌, Bool, true, false, cond, eqb, Some, List, [], ◌∷◌, length, refl, sym, ap, subst, ◌∙◌, arith, eq-eqb}
+use Rattle.std.proofs.lemmas.Option.{none-some}
 use Rattle.std.specs.Prelude.{Contains, slice_index_or}
 use Rattle.std.proofs.lemmas.Bool.{cond_both}
 use Rattle.rp_raftstep.specs.declared.messages.Message.{Message}
@@ -62,9 +63,7 @@ module _ (lists : OneList AppliedState) (w : World) (m : Ranges) (seen : ℕ →
   silent range off node n p has among own = of_range range n.sent p among own (ap (λ (z : raft.Site AppliedState). z.sent) (bare_site range off node n has))
 
   pub unhad : (range : ℕ) → m.opened range ≡ false → (node : ℕ) (past : History) → HasApplied w node range past → ⊥
-  unhad range off node past a = none_some (sym (ap history_in (bare range off node a.n a.has)) ∙ a.history) where
-    none_some : ◌≡◌ {A = Option History} None (Some past) → ⊥
-    none_some e = cc
+  unhad range off node past a = none-some past (sym (ap history_in (bare range off node a.n a.has)) ∙ a.history)
 
   pub had_opened : (node range : ℕ) (past : History) → HasApplied w node range past → m.opened range ≡ true
   had_opened node range past a = go (m.opened range) refl where
