@@ -14,3 +14,4 @@ pub mod Outcomes
 pub mod Made
 pub mod Promised
 pub mod Along
+pub mod Fitting
