@@ -2,7 +2,7 @@
 ghost use Rattle.std.specs.Prelude.{◌≡◌, ◌≤◌, ◌+◌, ◌-◌, ◌^◌, ◌<◌, option_copied, IfOk, OnOk, None, Some};
 ghost use Rattle.rp_apply.specs.Rooms.{IsWithin, needed};
 ghost use Rattle.rp_request.specs.Applicable.{Fits, MaySplit};
-ghost use Rattle.rp_request.specs.States.{right_by, right_of};
+ghost use Rattle.rp_request.specs.States.{right_by, right_by_request, right_of};
 ghost use Rattle.rp_request.specs.declared.verdicts.Verdict.TheVariants as verdicts;
 ghost use Rattle.rp_raftlog.specs.declared.entries.Entry.{Entry};
 ghost use Rattle.rp_events.specs.Applications.{applied, is_own, next_entry, payload_of};
@@ -115,6 +115,21 @@ impl Replica {
         Ok((turn, outcomes))
     }
 
+    /// What the right range of a request starts with: only a split has one.
+    fn right_of(&self, request: &Request) -> Result<Option<RightStart>, NoMemory>
+        requires { MaySplit self.now.replica.applied.state.desc request.now }
+        ensures { IfOk result
+            (λ o. o ≡ right_by_request self.now.replica.applied.state request.now) }
+    {
+        let Request::Split { key } = *request else {
+            return Ok(None);
+        };
+        let alloc = self.source.alloc;
+        let state = &self.source.state;
+        let right = trigger(alloc, state.table(), state.desc(), state.lease(), key)?;
+        Ok(Some(right))
+    }
+
     /// What the right range starts with, where the command is a split that is taken.
     fn right(&self, command: &Command, verdict: &Verdict) -> Result<Option<RightStart>, NoMemory>
         requires { verdict.now ≡ verdicts.Took
@@ -122,21 +137,13 @@ impl Replica {
         ensures { IfOk result
             (λ o. o ≡ right_by self.now.replica.applied.state command.now verdict.now) }
     {
-        let state = &self.source.state;
-        if *verdict != Verdict::Took {
-            return Ok(None);
+        match verdict {
+            Verdict::Took => self.right_of(&command.request),
+            Verdict::OldLease { .. }
+            | Verdict::OldIndex { .. }
+            | Verdict::LeaseMoved
+            | Verdict::Nothing => Ok(None),
         }
-        let Request::Split { key } = command.request else {
-            return Ok(None);
-        };
-        let right = trigger(
-            self.source.alloc,
-            state.table(),
-            state.desc(),
-            state.lease(),
-            key,
-        )?;
-        Ok(Some(right))
     }
 
     /// What the application of a payload will do, from one verdict on it.

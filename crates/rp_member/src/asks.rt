@@ -1,6 +1,6 @@
 //! Asks for the lease, and what a collect lets through of them.
 ghost use Rattle.std.specs.Prelude.{◌≡◌, ◌≤◌, ◌+◌, ◌-◌, ◌<◌, ◌^◌, ◌∷◌, ◌++◌, [], length, None, vec_len, vec_capacity};
-ghost use Rattle.std.specs.List.{list_any};
+ghost use Rattle.std.specs.List.{list_any, position};
 ghost use Rattle.rp_events.specs.LeaseAsks.{ask_for, asked, expiry_of, is_held, joined, joined_all, lease_ticks, same_ask, transferred, without_first};
 ghost use Rattle.rp_events.specs.Replicas.{holds_lease};
 ghost use Rattle.rp_member.specs.Plans.{IsPlan};
@@ -15,20 +15,27 @@ use rp_request::Refusal;
 const LEASE_TICKS: u64 = 40;
 
 /// Whether two asks are one.
-fn same_ask(a: LeaseAsk, b: LeaseAsk) -> bool
-    ensures { result ≡ same_ask a b }
+fn same_ask(a: &LeaseAsk, b: &LeaseAsk) -> bool
+    ensures { result ≡ same_ask a.now b.now }
 {
     a.holder == b.holder && a.prev == b.prev && a.expires == b.expires
 }
 
+/// The place of the first ask that is equal.
+fn place_of(asks: &[LeaseAsk], ask: &LeaseAsk) -> Option<usize>
+    ensures { result ≡ position (λ x. same_ask x ask.now) asks.now }
+{
+    asks.iter().position(|x| same_ask(x, ask))
+}
+
 /// Takes the first ask that is equal out, where there is one. Whether there was.
-fn take_ask(asks: &mut Vec<LeaseAsk>, ask: LeaseAsk) -> bool
-    ensures there { result ≡ list_any (λ x. same_ask x ask) asks.old.items }
-    ensures rest { asks.new.items ≡ without_first ask asks.old.items }
+fn take_ask(asks: &mut Vec<LeaseAsk>, ask: &LeaseAsk) -> bool
+    ensures there { result ≡ list_any (λ x. same_ask x ask.now) asks.old.items }
+    ensures rest { asks.new.items ≡ without_first ask.now asks.old.items }
     ensures room { vec_capacity asks.old - vec_len asks.old
         ≤ vec_capacity asks.new - vec_len asks.new }
 {
-    match asks.iter().position(|x| same_ask(*x, ask)) {
+    match place_of(asks, ask) {
         None => false,
         Some(at) => {
             asks.remove(at);
@@ -111,12 +118,14 @@ impl Replica {
         ensures replica { self.new.replica ≡ joined self.old.replica item }
         ensures room { self.old.room.inbox ≤ self.new.room.inbox + 1 }
     {
-        if let Item::Lease(ask) = item
-            && !take_ask(&mut self.asks, ask)
-        {
-            return;
+        match item {
+            Item::Write(id) => self.inbox.push(Item::Write(id)),
+            Item::Lease(ask) => {
+                if take_ask(&mut self.asks, &ask) {
+                    self.inbox.push(Item::Lease(ask));
+                }
+            }
         }
-        self.inbox.push(item);
     }
 
     /// What the buffer gave joins the inbox. It takes no memory.

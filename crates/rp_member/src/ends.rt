@@ -27,12 +27,12 @@ pub(crate) enum Cause {
 
 /// How a proposal ends for this cause, where it does: what is proposed may still take effect, and
 /// what waits never will.
-fn outcome_by(cause: Cause, standing: Standing) -> Option<Outcome>
-    ensures { result ≡ outcome_by cause standing }
+fn outcome_by(cause: &Cause, standing: &Standing) -> Option<Outcome>
+    ensures { result ≡ outcome_by cause.now standing.now }
 {
     let own = standing.max;
     let proposed = standing.stage == Stage::Proposed;
-    match cause {
+    match *cause {
         Cause::Overtaken { lai } => {
             if proposed && own <= lai {
                 return Some(Outcome::Ambiguous(Ambiguity::Snapshot { own, passed: lai }));
@@ -55,37 +55,39 @@ fn outcome_by(cause: Cause, standing: Standing) -> Option<Outcome>
 }
 
 /// Puts the end of a proposal at the end, where it ends.
-fn push_end(ends: &mut Vec<Ended>, cause: Cause, standing: Standing) -> Result<(), NoMemory>
+fn push_end(ends: &mut Vec<Ended>, cause: &Cause, standing: &Standing) -> Result<(), NoMemory>
     ensures { OnOk result (ends.new.items
-        ≡ ends.old.items ++ filter_map (end_by cause) (standing ∷ [])) }
+        ≡ ends.old.items ++ filter_map (end_by cause.now) (standing.now ∷ [])) }
 {
-    let Some(outcome) = outcome_by(cause, standing) else {
-        return Ok(());
-    };
-    let end = Ended {
-        id: standing.id,
-        outcome,
-    };
-    ends.extend_from_slice(std::slice::from_ref(&end))?;
-    Ok(())
+    match outcome_by(cause, standing) {
+        None => Ok(()),
+        Some(outcome) => {
+            let end = Ended {
+                id: standing.id,
+                outcome,
+            };
+            ends.extend_from_slice(std::slice::from_ref(&end))?;
+            Ok(())
+        }
+    }
 }
 
 /// The ends of proposals for this cause, in their order.
-fn ends_of(alloc: Global, cause: Cause, standings: &[Standing]) -> Result<Outcomes, NoMemory>
-    ensures { IfOk result (λ o. o ≡ filter_map (end_by cause) standings.now) }
+fn ends_of(alloc: Global, cause: &Cause, standings: &[Standing]) -> Result<Outcomes, NoMemory>
+    ensures { IfOk result (λ o. o ≡ filter_map (end_by cause.now) standings.now) }
 {
     let mut ends = Vec::new(alloc);
     for standing in standings {
-        push_end(&mut ends, cause, *standing)?;
+        push_end(&mut ends, cause, standing)?;
     }
     Ok(Outcomes::from_vec(ends))
 }
 
 impl Replica {
     /// How the pending proposals end for this cause, in order of admission.
-    pub(crate) fn ends(&self, cause: Cause) -> Result<Outcomes, NoMemory>
+    pub(crate) fn ends(&self, cause: &Cause) -> Result<Outcomes, NoMemory>
         ensures { IfOk result
-            (λ o. o ≡ filter_map (end_of (ends_by cause)) self.now.replica.pending) }
+            (λ o. o ≡ filter_map (end_of (ends_by cause.now)) self.now.replica.pending) }
     {
         let standings = self.pending.standings()?;
         ends_of(self.source.alloc, cause, standings.as_slice())
@@ -95,7 +97,7 @@ impl Replica {
     pub(crate) fn plan_removal(&self) -> Result<ReplicaPlan, NoMemory>
         ensures { IfOk result (λ p. IsPlan self.now.replica None p (removed self.now.replica)) }
     {
-        let outcomes = self.ends(Cause::Removed)?;
+        let outcomes = self.ends(&Cause::Removed)?;
         Ok(ReplicaPlan::Removes { outcomes })
     }
 
@@ -115,7 +117,7 @@ impl Replica {
         ensures { IfOk result (λ p. IsPlan self.now.replica None p (restarts self.now.replica)) }
     {
         let lease = self.source.state.lease();
-        let outcomes = self.ends(Cause::Restarted { lease })?;
+        let outcomes = self.ends(&Cause::Restarted { lease })?;
         Ok(ReplicaPlan::Restarts { outcomes })
     }
 

@@ -77,13 +77,12 @@ impl Replica {
         ensures last { IfOk result (λ d. d.last ≡ (assigning self.now.replica).last) }
     {
         let alloc = self.source.alloc;
-        let lease = self.source.state.lease();
         let lai = self.source.state.lai();
         let assigned = assign_inbox(
             alloc,
             &self.inbox,
             &self.pending,
-            lease,
+            self.source.state.lease(),
             lai,
             self.assigned,
         )?;
@@ -91,7 +90,8 @@ impl Replica {
         let mut bytes = Payloads::new(alloc);
         push_asks(alloc, &mut bytes, assigned.leases.as_slice())?;
         push_moves(alloc, &mut bytes, &self.pending, moves.as_slice())?;
-        let outcomes = told(alloc, lease, moves.as_slice())?;
+        let lease = self.source.state.lease();
+        let outcomes = told(alloc, &lease, moves.as_slice())?;
         Ok(FlushDraft {
             moves,
             bytes,

@@ -97,25 +97,26 @@ pub(crate) fn push_moves(
 }
 
 /// Puts the end of an attempt at the end, where the move gives it up: the present lease.
-fn push_told(ends: &mut Vec<Ended>, lease: Lease, one: Move) -> Result<(), NoMemory>
-    ensures { OnOk result (ends.new.items ≡ ends.old.items ++ filter_map (told_by lease) (one ∷ [])) }
+fn push_told(ends: &mut Vec<Ended>, lease: &Lease, one: &Move) -> Result<(), NoMemory>
+    ensures { OnOk result (ends.new.items
+        ≡ ends.old.items ++ filter_map (told_by lease.now) (one.now ∷ [])) }
 {
-    let Move::GivesUp(id) = one else {
+    let Move::GivesUp(id) = *one else {
         return Ok(());
     };
-    let outcome = Outcome::Refused(Refusal::NotLeaseHolder { lease });
+    let outcome = Outcome::Refused(Refusal::NotLeaseHolder { lease: *lease });
     let end = Ended { id, outcome };
     ends.extend_from_slice(std::slice::from_ref(&end))?;
     Ok(())
 }
 
 /// What attempts are told that moves give up, in their order.
-pub(crate) fn told(alloc: Global, lease: Lease, moves: &[Move]) -> Result<Outcomes, NoMemory>
-    ensures { IfOk result (λ o. o ≡ filter_map (told_by lease) moves.now) }
+pub(crate) fn told(alloc: Global, lease: &Lease, moves: &[Move]) -> Result<Outcomes, NoMemory>
+    ensures { IfOk result (λ o. o ≡ filter_map (told_by lease.now) moves.now) }
 {
     let mut ends = Vec::new(alloc);
     for one in moves {
-        push_told(&mut ends, lease, *one)?;
+        push_told(&mut ends, lease, one)?;
     }
     Ok(Outcomes::from_vec(ends))
 }

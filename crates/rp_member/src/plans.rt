@@ -16,7 +16,7 @@ use rp_snapshot::Snapshot;
 use rp_split::RightStart;
 
 /// What an applied entry makes of the proposal that it came of (CockroachDB's proposer).
-#[derive(Clone, Copy, Debug, PartialEq, Eq)]
+#[derive(Clone, Copy, PartialEq, Eq)]
 pub enum Turn {
     /// The entry is of no proposal here.
     Stays,

@@ -71,7 +71,7 @@ impl Replica {
             None => Ok(Outcomes::new(self.source.alloc)),
             Some(snapshot) => {
                 let lai = snapshot.lai();
-                self.ends(Cause::Overtaken { lai })
+                self.ends(&Cause::Overtaken { lai })
             }
         }
     }

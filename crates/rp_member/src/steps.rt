@@ -1,21 +1,22 @@
 //! The calls of a replica: an event is planned, given room and committed.
 ghost use Rattle.std.specs.Prelude.{◌≡◌, ◌≤◌, [], IfOk, OnOk, None};
 ghost use Rattle.rp_events.specs.Ends.{cut, peeked};
+ghost use Rattle.rp_events.specs.LeaseAsks.{answers_ask};
 ghost use Rattle.rp_events.specs.ReplicaEvents.{event};
 ghost use Rattle.rp_events.specs.Replicas.{Done};
 ghost use Rattle.rp_events.specs.declared.replica_events.ReplicaEvent.TheVariants.{Collect};
 ghost use Rattle.rp_member.specs.Allows.{Allows, MayCut, draft_at};
-ghost use Rattle.rp_member.specs.Plans.{HandOverFits, HandOverRoom, HasRoom, IsCollect, IsPlan, Makes, PlanFits, entries_of, left_by, left_of, planned};
+ghost use Rattle.rp_member.specs.Plans.{HandOverFits, HandOverRoom, HasRoom, IsCollect, IsPlan, Makes, PlanFits, entries_of, left_by, left_of, opened, planned};
 ghost use Rattle.rp_raft.specs.Plans.{IsMadeIn};
 ghost use Rattle.rp_member.specs.declared.plans.ReplicaPlan.TheVariants.{Cuts, HandsOver};
 ghost use Rattle.rp_member.specs.Rooms.{IsRoomWithin};
 
 use crate::plans::{HandOver, ReplicaPlan};
 use crate::replicas::Replica;
-use rp_base::{Items, Key, NoMemory, Seq, Tick};
+use rp_base::{Items, Key, LeaseAsk, LeaseIndex, NoMemory, Seq, Tick};
 use rp_events::{Effects, EventAnswer, Outcomes, ReplicaEvent};
 use rp_raft::RaftPlan;
-use rp_raftstep::RaftEvent;
+use rp_raftstep::{RaftEvent, RaftOut};
 use rp_snapshot::Snapshot;
 
 impl Replica {
@@ -127,6 +128,30 @@ impl Replica {
         }
     }
 
+    /// Where a flush has given lease indexes, the inbox is empty and the last one is kept.
+    fn open(&mut self, last: Option<LeaseIndex>)
+        ensures replica { self.new.replica ≡ opened self.old.replica last }
+        ensures room { IsRoomWithin self.old.room self.new.room }
+    {
+        match last {
+            None => {}
+            Some(last) => {
+                self.assigned = last;
+                self.inbox.keep_front(0);
+            }
+        }
+    }
+
+    /// The ask is to be put in the buffer, and stands among those that a collect lets through.
+    fn answer_ask(&mut self, ask: &LeaseAsk) -> EventAnswer
+        requires { 1 ≤ self.old.room.asks }
+        ensures replica { self.new.replica ≡ (answers_ask self.old.replica ask.now).replica }
+        ensures answer { result ≡ (answers_ask self.old.replica ask.now).answer }
+    {
+        self.asks.push_reserved(*ask);
+        EventAnswer::Asked(*ask)
+    }
+
     /// The event of Raft is done, a snapshot is taken in, and the moves are made. It takes no
     /// memory.
     fn hand_over(&mut self, hand: HandOver) -> Effects<Snapshot>
@@ -143,18 +168,13 @@ impl Replica {
             outcomes,
             ..
         } = hand;
-        let out = self.raft.commit(raft);
-        if let Some(last) = last {
-            self.assigned = last;
-            self.inbox.keep_front(0);
-        }
-        if let Some((index, snapshot)) = out.taken {
-            self.take_in(index, snapshot, outcomes.as_slice());
-        }
+        let RaftOut { messages, taken } = self.raft.commit(raft);
+        self.open(last);
+        self.take_in_where(taken, outcomes.as_slice());
         self.make_moves(moves.as_slice(), ticks, round);
         Effects {
             answer: EventAnswer::Done,
-            messages: out.messages,
+            messages,
             outcomes,
         }
     }
@@ -201,8 +221,8 @@ impl Replica {
                 self.quiet(EventAnswer::Admitted, none)
             }
             ReplicaPlan::Asks { ask } => {
-                self.asks.push_reserved(ask);
-                self.quiet(EventAnswer::Asked(ask), none)
+                let answer = self.answer_ask(&ask);
+                self.quiet(answer, none)
             }
             ReplicaPlan::Collects { taken } => {
                 self.join_all(taken.as_slice());
