@@ -22,7 +22,12 @@ use Rattle.rp_events.specs.declared.answers.Ended.{Ended}
 use Rattle.rp_events.specs.Ends.{end_of, held_by_others, is_held_by_one, overtaken_by, removed_with}
 use Rattle.rp_member.specs.declared.ends.Cause.{Cause}
 use Rattle.rp_member.specs.declared.ends.Cause.TheVariants.{Overtaken, Removed, Restarted}
+use Rattle.rp_events.specs.Ends.{removed}
+use Rattle.rp_events.specs.Replicas.{Replica}
+use Rattle.rp_events.specs.declared.answers.EventAnswer.TheVariants as answers
 use Rattle.rp_member.specs.Ends.{end_by, ends_by}
+use Rattle.rp_member.specs.Plans.{IsPlan, Left, left_of, planned}
+use Rattle.rp_member.specs.declared.plans.ReplicaPlan.TheVariants.{Removes}
 
 -- nobody's latches are freed
 pub all_held : (hs : List Hold) → held_by_others [] hs ≡ hs
@@ -79,3 +84,21 @@ stays_same lai [] = refl
 stays_same lai (p ∷ ps) =
     ap (λ b. cond b (p ∷ dropped_back lai ps) (dropped_back lai ps)) (sym (stays_by (goes_back lai p) (Ambiguous (causes.Snapshot p.max lai))))
     ∙ ap (λ rest. cond (is_none (overtaken_by lai p)) (p ∷ rest) rest) (stays_same lai ps)
+
+abbrev left_removed : Replica → List Ended → List Proposal → Left
+left_removed r ended ps = record {
+  replica = record r { latches = held_by_others ended r.latches; pending = ps };
+  answer = answers.Done;
+  messages = [];
+  outcomes = ended;
+}
+
+pub removal_plan : (r : Replica) (ended : List Ended) → ended ≡ filter_map (end_of removed_with) r.pending → IsPlan r None (Removes ended) (removed r)
+removal_plan r ended e = record {
+  makes = record {
+    does = ap (λ xs. left_removed r xs []) e ∙ ap (left_removed r (filter_map (end_of removed_with) r.pending)) (sym (none_left r.pending));
+    fits = tt;
+  };
+  right = refl;
+  hands = refl;
+}

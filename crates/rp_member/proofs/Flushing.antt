@@ -1,17 +1,24 @@
 -- An event of Raft with payloads behind it, as it is planned.
-use Rattle.std.proofs.Common.{◌≡◌, ◌≤◌, ℕ, Bool, true, false, cond, List, [], ◌∷◌, ◌++◌, map, Option, None, Some, refl, sym, ap, subst, ◌∙◌}
+use Rattle.std.proofs.Common.{◌≡◌, ◌≤◌, ◌<◌, ◌+◌, ◌^◌, length, ℕ, Bool, true, false, cond, List, [], ◌∷◌, ◌++◌, map, Option, None, Some, refl, sym, ap, subst, ◌∙◌, arith}
 use Rattle.std.proofs.lemmas.List.{map-append}
 use Rattle.std.specs.Prelude.{filter_map}
+use Rattle.std.specs.List.{IsDistinct}
+use Rattle.rp_base.specs.Ids.{same_id}
 use Rattle.rp_base.specs.declared.ids.CmdId.{CmdId}
 use Rattle.rp_base.specs.declared.leases.LeaseAsk.{LeaseAsk}
 use Rattle.rp_codec.specs.Spelling.{spelling}
 use Rattle.rp_raft.specs.Plans.{IsMadeIn, done_by, taken_in, sends_of}
 use Rattle.rp_raft.specs.Plans as rafts
 use Rattle.rp_raft.specs.declared.plans.RaftPlan.{RaftPlan}
+use Rattle.rp_raftlog.specs.LogState.{last_index}
+use Rattle.rp_raftstep.specs.Conditions.{CanRise}
 use Rattle.rp_raftstep.specs.RaftState.{RaftState}
 use Rattle.rp_raftstep.specs.Step.{Draft, then_proposed, step_then}
 use Rattle.rp_raftstep.specs.Step as steps
+use Rattle.rp_raftstep.specs.declared.events.RaftEvent.TheVariants as events
 use Rattle.rp_raftstep.specs.declared.messages.Message.{Message}
+use Rattle.rp_flush.specs.declared.assigns.Assigned.{Assigned}
+use Rattle.rp_events.specs.Flushes.{assigning, emptied, flush_moves, flushed}
 use Rattle.rp_request.specs.Applied.{AppliedState}
 use Rattle.rp_request.specs.declared.commands.Payload.{Payload}
 use Rattle.rp_request.specs.declared.commands.Payload.TheVariants as payloads
@@ -21,12 +28,14 @@ use Rattle.rp_events.specs.declared.answers.EventAnswer.TheVariants as answers
 use Rattle.rp_events.specs.declared.moves.Move.{Move}
 use Rattle.rp_events.specs.Moves.{moved_all, payloads_of, hands_over, hands_to_raft}
 use Rattle.rp_events.specs.Refreshes.{with_taken}
-use Rattle.rp_events.specs.Replicas.{Replica, Told, untold}
-use Rattle.rp_member.specs.Handing.{asks_spelled, moves_spelled, payloads_by, items_of}
+use Rattle.rp_events.specs.Replicas.{Replica, Told, lease_of, untold}
+use Rattle.rp_member.specs.Allows.{MayFlush}
+use Rattle.rp_member.specs.Handing.{asks_spelled, handed_by, moves_spelled, payloads_by, items_of, told_by}
 use Rattle.rp_member.specs.Plans.{Left, EndsOvertaken, IsPlan, begun, left_of, opened, planned, with_raft}
 use Rattle.rp_member.specs.declared.plans.HandOver.{HandOver}
 use Rattle.rp_member.specs.declared.plans.ReplicaPlan.TheVariants.{HandsOver}
-use Rattle.rp_member.proofs.Handing.{write_at}
+use Rattle.rp_member.proofs.Assigning.{few_payloads, flush_apart, flush_ids, flush_none, flush_stand}
+use Rattle.rp_member.proofs.Handing.{AllStand, AreApart, moves_hand, moves_tell, write_at}
 use Rattle.rp_member.proofs.Moving.{at_raft, begun_raft, moves_raft, same_begun}
 
 -- the bytes of asks and moves are those of the payloads that the definition names
@@ -111,3 +120,41 @@ handed_over r h s messages taken o x z ms does opens takes same moves =
       messages = d.out.messages;
       outcomes = h.outcomes;
     }) does
+
+-- a flush, as it is planned
+pub flush_plan : (r : Replica) (h : HandOver) (bytes : List (List ℕ))
+    → IsDistinct same_id (map (λ (p : Proposal). p.id) r.pending)
+    → IsMadeIn r.raft h.raft
+    → rafts.Makes r.raft h.raft (steps.propose r.raft bytes) (steps.step r.applied.index r.applied.state r.raft (events.Propose bytes))
+    → h.moves ≡ flush_moves (assigning r)
+    → bytes ≡ asks_spelled (assigning r).leases ++ moves_spelled r.pending h.moves
+    → h.outcomes ≡ filter_map (told_by (lease_of r)) h.moves
+    → h.last ≡ Some (assigning r).last
+    → IsPlan r (Some (steps.quiet r.raft)) (HandsOver h) (flushed r h.ticks h.round)
+flush_plan r h bytes distinct made makes moves spelled outcomes last =
+    let a : Assigned = assigning r in
+    let t : Told = untold (emptied r a) in
+    let none : taken_in h.raft ≡ None = ap (λ (d : Draft AppliedState). d.taken) makes.drafts in
+    let apart : AreApart h.moves = subst AreApart (sym moves) (flush_apart r.inbox r.pending (lease_of r).seq r.applied.state.lai r.assigned) in
+    let stand : AllStand r.applied.state.lai r.pending h.moves =
+    subst (AllStand r.applied.state.lai r.pending) (sym moves) (flush_stand r.inbox r.pending (lease_of r).seq r.applied.state.lai r.assigned r.applied.state.lai distinct) in
+    let handed : filter_map (write_at (moved_all h.ticks h.round t h.moves).replica.pending) (map (λ write. write.0) a.writes) ≡ payloads_by r.pending h.moves =
+    ap (filter_map (write_at (moved_all h.ticks h.round t h.moves).replica.pending)) (sym (ap (filter_map handed_by) moves ∙ flush_ids a))
+    ∙ moves_hand h.ticks h.round h.moves t apart stand in
+    subst (λ ms. IsPlan r (Some (steps.quiet r.raft)) (HandsOver h) (hands_to_raft r (steps.quiet r.raft) (moved_all h.ticks h.round t ms) a.leases (map (λ write. write.0) a.writes))) moves
+    (hands_plan r h (steps.quiet r.raft) t a.leases (map (λ write. write.0) a.writes) bytes made makes
+    (spelled ∙ bytes_are a.leases r.pending (moved_all h.ticks h.round t h.moves).replica.pending h.moves (map (λ write. write.0) a.writes) handed)
+    (ap (λ o. with_taken (opened r h.last) o) none ∙ ap (λ l. untold (opened r l)) last)
+    (outcomes ∙ sym (moves_tell h.ticks h.round h.moves t apart stand))
+    (subst (λ o. EndsOvertaken r.pending o h.outcomes) (sym none) tt)
+    (let n = ap items_of moves ∙ flush_none a in omega (arith, n)))
+
+-- it may be proposed
+pub may_propose : (r : Replica) (bytes : List (List ℕ)) (moves : List Move) → MayFlush r → moves ≡ flush_moves (assigning r)
+    → bytes ≡ asks_spelled (assigning r).leases ++ moves_spelled r.pending moves
+    → CanRise r.raft × (last_index r.raft.log + length bytes < 2 ^ 64)
+may_propose r bytes moves may m b =
+    let few = few_payloads r.inbox r.pending (lease_of r).seq r.applied.state.lai r.assigned in
+    let e = ap length (b ∙ ap (λ ms. asks_spelled (assigning r).leases ++ moves_spelled r.pending ms) m) in
+    let last = may.last in
+    (may.rise, omega (arith, few, e, last))

@@ -5,3 +5,6 @@ pub mod Moving
 pub mod Asking
 pub mod Ending
 pub mod Flushing
+pub mod Applying
+pub mod Assigning
+pub mod Refreshing

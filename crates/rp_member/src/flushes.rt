@@ -112,6 +112,8 @@ impl Replica {
         ensures plan { IfOk result (λ p. IsPlan self.old.replica
             (Some (quiet self.old.replica.raft)) p (flushed self.old.replica ticks round)) }
     {
+        // An id is looked up, so none may stand twice.
+        self.pending.ids_are_distinct();
         let draft = self.draft_flush()?;
         let FlushDraft {
             moves,
