@@ -8,3 +8,4 @@ pub mod Flushing
 pub mod Applying
 pub mod Assigning
 pub mod Refreshing
+pub mod Ticking

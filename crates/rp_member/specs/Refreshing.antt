@@ -1,13 +1,12 @@
 -- What a refresh is to do behind an event of Raft.
-use Rattle.std.specs.Prelude.{◌≡◌, ◌⊎◌, ℕ, Bool, []}
-use Rattle.rp_raftstep.specs.RaftState.{RaftState}
+use Rattle.std.specs.Prelude.{◌≡◌, ◌⊎◌, ℕ, Bool, true, if◌then◌else◌, []}
 use Rattle.rp_pending.specs.declared.refreshes.Refresh.{Refresh}
-use Rattle.rp_raft.specs.Plans.{drafted_by, taken_in}
+use Rattle.rp_raft.specs.Plans.{drafted_by, head_after, taken_in}
 use Rattle.rp_raft.specs.declared.plans.RaftPlan.{RaftPlan}
 use Rattle.rp_raftstep.specs.Step.{Draft}
 use Rattle.rp_request.specs.Applied.{AppliedState}
 use Rattle.rp_events.specs.Refreshes.{refreshing, with_taken}
-use Rattle.rp_events.specs.Replicas.{Replica, Told}
+use Rattle.rp_events.specs.Replicas.{Replica, Told, has_new_leader}
 
 -- nothing is refreshed
 abbrev pub no_refresh : Refresh
@@ -23,3 +22,10 @@ draft_in r p = drafted_by r.raft p
 
 abbrev pub after_taken : Replica → RaftPlan AppliedState → Told
 after_taken r p = with_taken r (taken_in p)
+
+-- behind a message all is refreshed where it makes a new leader known, and else nothing
+abbrev pub refresh_behind : Replica → RaftPlan AppliedState → (ticks : ℕ) → Refresh
+refresh_behind r p ticks =
+    if has_new_leader r.raft.head (head_after p)
+    then refreshing (after_taken r p).replica ticks true
+    else no_refresh

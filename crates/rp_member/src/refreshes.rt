@@ -9,7 +9,7 @@ ghost use Rattle.rp_events.specs.Replicas.{has_new_leader};
 ghost use Rattle.rp_events.specs.declared.moves.Move.TheVariants.{Repeats, TakesBack};
 ghost use Rattle.rp_member.specs.Allows.{MayDeliver, MayRefresh};
 ghost use Rattle.rp_member.specs.Plans.{IsPlan};
-ghost use Rattle.rp_member.specs.Refreshing.{IsRefresh, after_taken, draft_in, no_refresh};
+ghost use Rattle.rp_member.specs.Refreshing.{IsRefresh, after_taken, draft_in, refresh_behind};
 ghost use Rattle.rp_member.specs.Rooms.{IsRoomWithin};
 
 use crate::ends::Cause;
@@ -98,6 +98,24 @@ impl Replica {
                 })
             }
         }
+    }
+
+    /// A refresh behind a message: of all where it makes a new leader known, and else of nothing.
+    fn refresh_behind(
+        &self,
+        raft: &RaftPlan<Snapshot>,
+        ticks: Tick,
+    ) -> Result<Refresh, NoMemory>
+        ensures { IfOk result (λ f. f ≡ refresh_behind self.now.replica raft.now ticks) }
+    {
+        if self.has_new_leader(raft) {
+            return self.refresh_all(raft, ticks);
+        }
+        let alloc = self.source.alloc;
+        Ok(Refresh {
+            again: Ids::new(alloc),
+            back: Ids::new(alloc),
+        })
     }
 
     /// The planned event of Raft with these payloads behind it.
@@ -206,15 +224,7 @@ impl Replica {
     {
         let receive = RaftEvent::Receive { from, message };
         let raft = self.raft.plan(receive, &self.source)?;
-        if !self.has_new_leader(&raft) {
-            let alloc = self.source.alloc;
-            let refresh = Refresh {
-                again: Ids::new(alloc),
-                back: Ids::new(alloc),
-            };
-            return self.plan_refresh(raft, refresh, ticks, round);
-        }
-        let refresh = self.refresh_all(&raft, ticks)?;
+        let refresh = self.refresh_behind(&raft, ticks)?;
         self.plan_refresh(raft, refresh, ticks, round)
     }
 }
