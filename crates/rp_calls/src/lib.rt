@@ -22,6 +22,8 @@ mod outside;
 #[cfg(test)]
 mod pending;
 #[cfg(test)]
+mod raft;
+#[cfg(test)]
 mod raftlog;
 #[cfg(test)]
 mod range;
@@ -35,5 +37,7 @@ mod snapshot;
 mod split;
 #[cfg(test)]
 mod table;
+#[cfg(test)]
+mod turns;
 #[cfg(test)]
 mod workers;

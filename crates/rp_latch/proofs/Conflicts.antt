@@ -3,7 +3,7 @@ use Rattle.std.proofs.Common.{◌≡◌, ℕ, zero, suc, ◌<◌, ◌≤◌, Boo
 use Rattle.std.proofs.lemmas.Bool.Decides.{nat_tests}
 use Rattle.std.proofs.lemmas.List.Folds.{list_any-append}
 use Rattle.std.proofs.lemmas.List.Sums.{sum_by-remove}
-use Rattle.std.specs.Prelude.{map}
+use Rattle.std.specs.Prelude.{map, Ok}
 use Rattle.std.specs.List.{AllPairs, AllWithin, list_any, find, count_by, remove}
 use Rattle.rp_base.specs.Spans.{meets, span_list, meets_one, any_meet}
 use Rattle.rp_base.specs.declared.ids.CmdId.{CmdId}
@@ -11,7 +11,8 @@ use Rattle.rp_base.specs.declared.spans.Span.{Span}
 use Rattle.rp_base.specs.declared.spans.Spans.{Spans}
 use Rattle.rp_latch.specs.declared.ages.Numbered.{Numbered}
 use Rattle.rp_latch.specs.declared.index.Latch.{Latch}
-use Rattle.rp_latch.specs.Holds.{met_in, held_or, held_by, conflict}
+use Rattle.rp_latch.specs.Holds.{answer, met_in, held_or, held_by, conflict, refused_by}
+use Rattle.rp_latch.specs.declared.holds.Held.{Held}
 use Rattle.rp_latch.specs.Indexes.{hold_of, IsOlder, latch_meets, latch_meets_one, some_meet, IsClear, IsOldest, first_latch, latch_at, second_latch, passes, Lists}
 use Rattle.rp_latch.proofs.Elements.{or_false, left_false, right_false, any_same, any_or, any_less, any_counted, count_push}
 use Rattle.rp_latch.proofs.Order.{At, at_number}
@@ -49,6 +50,14 @@ no_conflict (h ∷ hs) asked e =
       go : (o : Option Span) → is_some o ≡ false → conflict (map hold_of hs) asked ≡ None → held_or h.hold.id o (conflict (map hold_of hs) asked) ≡ None
       go None n k = k
       go (Some s) n k = absurd cc
+
+-- who is not refused meets none
+pub none_held : (hs : List Numbered) (asked : Spans) → answer (map hold_of hs) asked ≡ Ok tt → conflict (map hold_of hs) asked ≡ None
+none_held hs asked e = by (conflict (map hold_of hs) asked) e
+  where
+    by : (o : Option Held) → refused_by o ≡ Ok tt → o ≡ None
+    by None e = refl
+    by (Some held) e = cc
 
 pub none_meets : (hs : List Numbered) (asked : Spans) → conflict (map hold_of hs) asked ≡ None → list_any (λ h. any_meet h.hold.spans asked) hs ≡ false
 none_meets [] asked e = refl

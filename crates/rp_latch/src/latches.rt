@@ -1,5 +1,5 @@
 //! The latches of a range.
-ghost use Rattle.std.specs.Prelude.{◌≡◌, ◌≢◌, ◌≤◌, ◌<◌, ◌+◌, cond, [], ◌∷◌, ◌++◌, Bool, true, false, ℕ, Some, slice_get, IsTrue, IsFalse, OnOk, OnErr, length};
+ghost use Rattle.std.specs.Prelude.{◌≡◌, ◌≢◌, ◌≤◌, ◌<◌, ◌+◌, cond, [], ◌∷◌, ◌++◌, Bool, true, false, ℕ, Some, Ok, slice_get, IsTrue, IsFalse, OnOk, OnErr, length};
 ghost use Rattle.std.specs.List.{filter, list_any, count_by};
 ghost use Rattle.rp_latch.specs.declared.holds.Hold.{Hold};
 ghost use Rattle.rp_latch.specs.declared.index.Latch.{Latch};
@@ -150,6 +150,24 @@ impl Latches {
         }
     }
 
+    /// Holds the spans for the attempt, without memory and without a search, where no held span
+    /// meets one of these.
+    pub fn hold_clear(&mut self, id: CmdId, spans: Spans)
+        requires room { 1 ≤ self.old.spare }
+        requires clear { answer self.old.list spans ≡ Ok tt }
+        ensures list { self.new.list ≡ self.old.list ++ record { id = id; spans = spans } ∷ [] }
+        ensures spare { self.old.spare ≤ self.new.spare + 1 }
+    {
+        let number = self.next;
+        let span = spans.first;
+        self.firsts.put(Latch { span, number });
+        put_second(&mut self.seconds, number, spans.second);
+        self.tags.put(Tag { id, number });
+        let hold = Hold { id, spans };
+        self.holds.push_back_reserved(Numbered { number, hold });
+        self.next += 1;
+    }
+
     /// Holds the spans for the attempt, without memory. `Held` exactly where a held span meets one
     /// of these, whoever holds it; then nothing changes.
     pub fn hold(&mut self, id: CmdId, spans: Spans) -> Result<(), Held>
@@ -164,14 +182,7 @@ impl Latches {
         match self.conflict(spans) {
             Some(held) => Err(held),
             None => {
-                let number = self.next;
-                let span = spans.first;
-                self.firsts.put(Latch { span, number });
-                put_second(&mut self.seconds, number, spans.second);
-                self.tags.put(Tag { id, number });
-                let hold = Hold { id, spans };
-                self.holds.push_back_reserved(Numbered { number, hold });
-                self.next += 1;
+                self.hold_clear(id, spans);
                 Ok(())
             }
         }

@@ -14,8 +14,6 @@ mod proposals;
 mod rafts;
 mod sends;
 mod steps;
-#[cfg(test)]
-mod tests;
 
 pub use plans::RaftPlan;
 pub use rafts::Raft;
