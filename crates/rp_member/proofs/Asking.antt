@@ -49,6 +49,7 @@ module _ (ask : LeaseAsk) where
   found_at true n o e = ((λ h. absurd (clash (sym e ∙ h))), (λ i h. (refl, sym (same (sym e ∙ h))))) where
     clash : Some n ≡ None → ⊥
     clash h = cc
+
     same : {i : ℕ} → Some n ≡ Some i → n ≡ i
     same h = cc
   found_at false n o e = ((λ h. refl), (λ i h. absurd (clash i (sym e ∙ h)))) where

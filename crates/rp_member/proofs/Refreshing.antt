@@ -371,6 +371,7 @@ again_kept lai now all (p ∷ ps) = go (goes_back lai p) refl (again_kept lai no
   not_again : (b : Bool) → goes_again lai now all p ≡ b → goes_back lai p ≡ true → b ≡ false
   not_again true e h = absurd (not_both lai now all p h e)
   not_again false e h = refl
+
   go : (b : Bool) → goes_back lai p ≡ b → filter (goes_again lai now all) (dropped_back lai ps) ≡ filter (goes_again lai now all) ps
       → filter (goes_again lai now all) (cond (not b) (p ∷ dropped_back lai ps) (dropped_back lai ps))
       ≡ cond (goes_again lai now all p) (p ∷ filter (goes_again lai now all) ps) (filter (goes_again lai now all) ps)

@@ -109,7 +109,7 @@ impl Replica {
         ensures { self.new.replica ≡ with_proposal self.old.replica proposal }
     {
         let spans = proposal.request.spans();
-        self.latches.hold(proposal.id, spans).unwrap();
+        self.latches.hold_clear(proposal.id, spans);
         self.pending.add(proposal);
     }
 }

@@ -101,11 +101,7 @@ impl Replica {
     }
 
     /// The inbox goes to Raft: lease asks first, then commands, each with a lease index.
-    pub(crate) fn plan_flush(
-        &mut self,
-        ticks: Tick,
-        round: u64,
-    ) -> Result<ReplicaPlan, NoMemory>
+    pub(crate) fn plan_flush(&mut self, ticks: Tick, round: u64) -> Result<ReplicaPlan, NoMemory>
         requires { MayFlush self.old.replica }
         ensures replica { self.new.replica ≡ self.old.replica }
         ensures room { IsRoomWithin self.old.room self.new.room }

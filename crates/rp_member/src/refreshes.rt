@@ -77,11 +77,7 @@ impl Replica {
     }
 
     /// A refresh of all behind a planned event. What a snapshot overtakes is not there any more.
-    fn refresh_all(
-        &self,
-        raft: &RaftPlan<Snapshot>,
-        ticks: Tick,
-    ) -> Result<Refresh, NoMemory>
+    fn refresh_all(&self, raft: &RaftPlan<Snapshot>, ticks: Tick) -> Result<Refresh, NoMemory>
         ensures { IfOk result (λ f. f
             ≡ refreshing (after_taken self.now.replica raft.now).replica ticks true) }
     {
@@ -101,11 +97,7 @@ impl Replica {
     }
 
     /// A refresh behind a message: of all where it makes a new leader known, and else of nothing.
-    fn refresh_behind(
-        &self,
-        raft: &RaftPlan<Snapshot>,
-        ticks: Tick,
-    ) -> Result<Refresh, NoMemory>
+    fn refresh_behind(&self, raft: &RaftPlan<Snapshot>, ticks: Tick) -> Result<Refresh, NoMemory>
         ensures { IfOk result (λ f. f ≡ refresh_behind self.now.replica raft.now ticks) }
     {
         if self.has_new_leader(raft) {
@@ -189,11 +181,7 @@ impl Replica {
     }
 
     /// Time goes on to this tick.
-    pub(crate) fn plan_tick(
-        &mut self,
-        ticks: Tick,
-        round: u64,
-    ) -> Result<ReplicaPlan, NoMemory>
+    pub(crate) fn plan_tick(&mut self, ticks: Tick, round: u64) -> Result<ReplicaPlan, NoMemory>
         requires { MayRefresh self.old.replica (tick self.old.replica.raft) }
         ensures replica { self.new.replica ≡ self.old.replica }
         ensures room { IsRoomWithin self.old.room self.new.room }
