@@ -20,7 +20,7 @@ use Rattle.rp_events.specs.declared.answers.Ended.{Ended}
 use Rattle.rp_events.specs.declared.answers.EventAnswer.TheVariants as answers
 use Rattle.rp_events.specs.Applications.{applied, applied_one, applied_where, is_own, next_entry, payload_of, proposer_told, recorded, settled}
 use Rattle.rp_events.specs.Replicas.{Replica, Told, leaves, lease_of, untold}
-use Rattle.rp_member.specs.Allows.{MayApply, MayApplyNext, MayApplyThis}
+use Rattle.rp_events.specs.Allows.{MayApply, MayApplyNext, MayApplyThis}
 use Rattle.rp_member.specs.Plans.{IsKnown, IsPlan, Left, left_of, planned, turned}
 use Rattle.rp_member.specs.Plans as plans
 use Rattle.rp_member.specs.Turns.{payload_told, payload_turn, told, told_of, turn, turn_by}

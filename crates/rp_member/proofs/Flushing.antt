@@ -29,7 +29,7 @@ use Rattle.rp_events.specs.declared.moves.Move.{Move}
 use Rattle.rp_events.specs.Moves.{moved_all, payloads_of, hands_over, hands_to_raft}
 use Rattle.rp_events.specs.Refreshes.{with_taken}
 use Rattle.rp_events.specs.Replicas.{Replica, Told, lease_of, untold}
-use Rattle.rp_member.specs.Allows.{MayFlush}
+use Rattle.rp_events.specs.Allows.{MayFlush}
 use Rattle.rp_member.specs.Handing.{asks_spelled, handed_by, moves_spelled, payloads_by, items_of, told_by}
 use Rattle.rp_member.specs.Plans.{Left, EndsOvertaken, IsPlan, begun, left_of, opened, planned, with_raft}
 use Rattle.rp_member.specs.declared.plans.HandOver.{HandOver}

@@ -1,4 +1,3 @@
-pub mod Allows
 pub mod Handing
 pub mod Plans
 pub mod Rooms

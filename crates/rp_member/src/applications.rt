@@ -6,7 +6,7 @@ ghost use Rattle.rp_request.specs.States.{right_by, right_by_request, right_of};
 ghost use Rattle.rp_request.specs.declared.verdicts.Verdict.TheVariants as verdicts;
 ghost use Rattle.rp_raftlog.specs.declared.entries.Entry.{Entry};
 ghost use Rattle.rp_events.specs.Applications.{applied, is_own, next_entry, payload_of};
-ghost use Rattle.rp_member.specs.Allows.{MayApply};
+ghost use Rattle.rp_events.specs.Allows.{MayApply};
 ghost use Rattle.rp_member.specs.Plans.{ApplicationFits, IsKnown, IsPlan, places_of, recorded, turned};
 ghost use Rattle.rp_member.specs.Turns.{payload_told, payload_turn, told, told_of, turn, turn_by};
 

@@ -4,7 +4,7 @@ ghost use Rattle.rp_raftstep.specs.Step.{quiet};
 ghost use Rattle.rp_base.specs.declared.ids.CmdId.{CmdId};
 ghost use Rattle.rp_events.specs.Flushes.{assigning, flush_moves, flushed};
 ghost use Rattle.rp_events.specs.declared.moves.Move.TheVariants.{HandsOut, GivesUp};
-ghost use Rattle.rp_member.specs.Allows.{MayFlush};
+ghost use Rattle.rp_events.specs.Allows.{MayFlush};
 ghost use Rattle.rp_member.specs.Handing.{asks_spelled, moves_spelled, told_by};
 ghost use Rattle.rp_member.specs.Plans.{IsPlan};
 ghost use Rattle.rp_member.specs.Rooms.{IsRoomWithin};

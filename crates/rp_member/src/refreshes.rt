@@ -7,7 +7,7 @@ ghost use Rattle.rp_raft.specs.Plans.{CanExtend, IsMadeIn, IsNoCut, Makes, done_
 ghost use Rattle.rp_events.specs.Refreshes.{delivered, refresh_moves, refreshed_by, refreshing, ticked};
 ghost use Rattle.rp_events.specs.Replicas.{has_new_leader};
 ghost use Rattle.rp_events.specs.declared.moves.Move.TheVariants.{Repeats, TakesBack};
-ghost use Rattle.rp_member.specs.Allows.{MayDeliver, MayRefresh};
+ghost use Rattle.rp_events.specs.Allows.{MayDeliver, MayRefresh};
 ghost use Rattle.rp_member.specs.Plans.{IsPlan};
 ghost use Rattle.rp_member.specs.Refreshing.{IsRefresh, after_taken, draft_in, refresh_behind};
 ghost use Rattle.rp_member.specs.Rooms.{IsRoomWithin};

@@ -5,7 +5,7 @@ ghost use Rattle.rp_events.specs.LeaseAsks.{answers_ask};
 ghost use Rattle.rp_events.specs.ReplicaEvents.{event};
 ghost use Rattle.rp_events.specs.Replicas.{Done};
 ghost use Rattle.rp_events.specs.declared.replica_events.ReplicaEvent.TheVariants.{Collect};
-ghost use Rattle.rp_member.specs.Allows.{Allows, MayCut, draft_at};
+ghost use Rattle.rp_events.specs.Allows.{Allows, MayCut, draft_at};
 ghost use Rattle.rp_member.specs.Plans.{HandOverFits, HandOverRoom, HasRoom, IsCollect, IsPlan, Makes, PlanFits, entries_of, left_by, left_of, opened, planned};
 ghost use Rattle.rp_raft.specs.Plans.{IsMadeIn};
 ghost use Rattle.rp_member.specs.declared.plans.ReplicaPlan.TheVariants.{Cuts, HandsOver};
