@@ -1,0 +1,4 @@
+pub mod Spelled
+pub mod Firm
+pub mod Allowed
+pub mod Stepping
