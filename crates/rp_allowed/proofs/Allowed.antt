@@ -1,6 +1,6 @@
 -- What a replica's calls ask for holds in every reached world.
-use Rattle.std.proofs.Common.{◌≡◌, ℕ, zero, suc, ◌+◌, ◌-◌, ◌*◌, ◌^◌, ◌<◌, ◌≤◌, max, replicate, Bool, true, false, cond, ltb, ltb-true, ltb-false, ◌⊎◌, inl, inr, ⊎_elim, Option, None, Some, Result, Ok, Err, List, [], ◌∷◌, ◌++◌, length, refl, sym, ap, subst, ◌∙◌, arith}
-use Rattle.std.specs.Prelude.{slice_get, sum_by, All, Contains, IsTrue}
+use Rattle.std.proofs.Common.{◌≡◌, ℕ, zero, suc, ◌+◌, ◌-◌, ◌*◌, ◌^◌, ◌<◌, ◌≤◌, Bool, true, false, cond, ltb, ltb-true, ltb-false, ⊎_elim, Option, None, Some, Result, Ok, Err, List, [], ◌∷◌, ◌++◌, length, refl, sym, ap, subst, ◌∙◌, arith}
+use Rattle.std.specs.Prelude.{slice_get, All, Contains}
 use Rattle.std.proofs.lemmas.List.Sums.{sum_by-cons, sum_by-append}
 use Rattle.std.specs.Prelude.{IsOk}
 use Rattle.std.specs.List.{AllByRecursion}
@@ -26,51 +26,47 @@ use Rattle.rp_rangesafe.specs.World as machine
 use Rattle.rp_rangesafe.specs.World.{state_at}
 use Rattle.rp_rangesafe.proofs.OneRange.{effect_at_place}
 use Rattle.rp_events.specs.Applications.{decoded, payload_of, next_entry}
-use Rattle.rp_events.specs.Allows.{MayApplyNext, MayApplyThis}
+use Rattle.rp_events.specs.Allows.{MayApplyNext}
 use Rattle.rp_seats.specs.Turned.{IsNext}
 use Rattle.rp_raftlog.specs.LogState.{last_index, entry_at}
-use Rattle.rp_raftstep.specs.declared.messages.Message.{Message}
-use Rattle.rp_raftstep.specs.declared.messages.Message.TheVariants.{Vote, VoteReply, Append, AppendReply, Forward, Snap}
-use Rattle.rp_raftstep.specs.Conditions.{CanRise, CanAppend, MessageFits}
-use Rattle.rp_raftstep.specs.Step.{Draft, tick, received}
+use Rattle.rp_raftstep.specs.Conditions.{CanRise, CanAppend}
+use Rattle.rp_raftstep.specs.Step.{tick, received}
 use Rattle.rp_request.specs.Applied.{AppliedState}
 use Rattle.rp_raftsafe.specs.World as raft
 use Rattle.rp_raftsafe.specs.Allowed.{IsAllowed, IsShort}
-use Rattle.rp_raftsafe.specs.Bounds.{RaftBelow, ReplicaBelow, MessageBelow, IsBounded, event_weight, bound_after}
-use Rattle.rp_raftsafe.specs.Safety.{OneList, IsShown, IsLive, HasSent}
+use Rattle.rp_raftsafe.specs.Bounds.{ReplicaBelow, event_weight, bound_after}
+use Rattle.rp_raftsafe.specs.Safety.{OneList, IsShown, IsLive}
 use Rattle.rp_raftsafe.proofs.Allow.{events_allowed_holds}
 use Rattle.rp_raftsafe.proofs.Bounded.{bounded_holds}
 use Rattle.rp_rangesafe.specs.Ranges.{Ranges}
 use Rattle.rp_rangesafe.proofs.Joint.{range_reached}
-use Rattle.rp_pending.specs.Proposals.{proposal_of}
 use Rattle.rp_events.specs.Allows.{MayFlush, MayRefresh, MayDeliver, MayApply, MayCut}
 use Rattle.rp_events.specs.Replicas.{Replica, lease_of}
-use Rattle.rp_events.specs.Nodes.{Node, Status, Absent, Live, Removed, seat, parcel_of}
+use Rattle.rp_events.specs.Nodes.{Node, Live, seat, parcel_of}
 use Rattle.rp_events.specs.Worlds.{World, node_of, sent_by}
 use Rattle.rp_events.specs.Lawful.{IsReached}
 use Rattle.rp_events.specs.Lists.{base_of}
 use Rattle.rp_seats.specs.Standing.{Bound, RangeOk}
 use Rattle.rp_seats.specs.Turned.{IsSeated}
-use Rattle.rp_seats.specs.Views.{core, view, range_at, number_in}
+use Rattle.rp_seats.specs.Views.{core, range_at, number_in}
 use Rattle.rp_seats.proofs.Events as seat_events
 use Rattle.rp_seats.proofs.Shown.{is_live}
 use Rattle.rp_seats.proofs.Worlds.{message_seen}
 use Rattle.rp_turns.specs.Fitting.{AreFit}
 use Rattle.rp_turns.proofs.Seated.{has_opened, seated, below}
-use Rattle.rp_bound.specs.Bounds.{Stands}
 use Rattle.rp_bound.specs.Numbers as numbers
 use Rattle.rp_bound.proofs.Along.{stands_fit}
 use Rattle.rp_bound.proofs.Small.{replica_low}
 use Rattle.rp_bound.proofs.Work.{sum_bounded, work_low}
 use Rattle.rp_events.specs.declared.parcels.Parcel.{Parcel}
-use Rattle.rp_journals.specs.Numbers.{IsWithin, IsLow, inbox_at, admissions, other_events, all_pending}
+use Rattle.rp_journals.specs.Numbers.{IsWithin, IsLow}
 use Rattle.rp_journals.proofs.Balancing.{seat_le, node_le}
 use Rattle.rp_journals.proofs.Within.{all_within}
 use Rattle.rp_journals.proofs.Bounding.{low}
 use Rattle.rp_journals.proofs.Inboxes.{waiting_at, pending_long}
-use Rattle.rp_low.specs.Weights.{weight_of, all_waiting, room_of, IsWeighed}
+use Rattle.rp_low.specs.Weights.{weight_of, all_waiting}
 use Rattle.rp_low.proofs.Rooms.{room_low}
-use Rattle.rp_allowed.specs.Firm.{IsSpelled, AllSpelled, IsFirm}
+use Rattle.rp_allowed.specs.Firm.{IsSpelled, IsFirm}
 
 -- the entry that a leader makes of its own spells Nothing
 spelled_nothing : IsSpelled nothing
@@ -242,7 +238,7 @@ module _ (lists : OneList AppliedState) (nodes : ℕ) (w : World) (reached : IsR
     may_deliver from number p is own to =
         let at_site = message_seen range w from number p is own in
         let there_is : raft.message_of (raft.site (raft.world_after g (seen range)) from) (number_in range (sent_by w from) number) ≡ Some (node, p.message) =
-            ap (λ (z : raft.World AppliedState). raft.message_of (raft.site z from) (number_in range (sent_by w from) number)) (sym ok.raft.raft) ∙ at_site ∙ ap (λ k. Some (k, p.message)) to in
+        ap (λ (z : raft.World AppliedState). raft.message_of (raft.site z from) (number_in range (sent_by w from) number)) (sym ok.raft.raft) ∙ at_site ∙ ap (λ k. Some (k, p.message)) to in
         let fits = allowed.receive_fits from (number_in range (sent_by w from) number) p.message there_is short in
         let more = short_more (raft.Comes from (number_in range (sent_by w from) number) (fill (length r.pending))) (let a = fill_long (length r.pending) in let b = pending_low in omega (arith, a, b)) in
         let can : CanAppend (received r.raft from p.message).state (fill (length r.pending)) = allowed.receive_more from (number_in range (sent_by w from) number) p.message there_is (fill (length r.pending)) more in
@@ -257,7 +253,7 @@ module _ (lists : OneList AppliedState) (nodes : ℕ) (w : World) (reached : IsR
       assigned =
           let range_is = (firm.stands.small.ranges range).1 in
           let seat_is : numbers.ReplicaBelow (firm.stands.small.ranges range).0 (numbers.events_of w) (n.ticks + 40) (length n.requests) r =
-              subst (numbers.StatusBelow (firm.stands.small.ranges range).0 (numbers.events_of w) (n.ticks + 40) (length n.requests)) live (range_is.seats node n has) in
+          subst (numbers.StatusBelow (firm.stands.small.ranges range).0 (numbers.events_of w) (n.ticks + 40) (length n.requests)) live (range_is.seats node n has) in
           let a = seat_is.assigned in
           let b = numbers_low.0 in
           let c = range_is.room in

@@ -1,18 +1,17 @@
 -- Every reached world is firm.
-use Rattle.std.proofs.Common.{◌≡◌, ℕ, zero, suc, ◌+◌, ◌<◌, ◌≤◌, ⊎_elim, Option, None, Some, List, [], ◌∷◌, ◌++◌, map, refl, sym, ap, subst, ◌∙◌, arith}
-use Rattle.std.specs.Prelude.{Contains, nat_lt, nat_le}
+use Rattle.std.proofs.Common.{◌≡◌, ℕ, zero, suc, ◌<◌, ◌≤◌, ⊎_elim, List, [], ◌∷◌, ◌++◌, map, refl, ap, subst, ◌∙◌, arith}
+use Rattle.std.specs.Prelude.{Contains}
 use Rattle.std.specs.Option.{option_map_or}
 use Rattle.std.proofs.lemmas.Bool.{ltb-true, leb-true}
 use Rattle.std.proofs.lemmas.List.Elements.{Contains-append_cases}
 use Rattle.std.proofs.lemmas.Grind.{flat_map-append}
 use Rattle.rp_request.specs.Applied.{AppliedState}
-use Rattle.rp_raftsafe.specs.World as raft
 use Rattle.rp_raftsafe.specs.Safety.{OneList}
 use Rattle.rp_raftsafe.specs.Proposed.{event_payloads, payloads_of}
 use Rattle.rp_events.specs.Worlds.{World, Scene, Schedule, first_world, taken_in, happens, run}
 use Rattle.rp_events.specs.Lawful.{Lawful, AllLawful, IsReached}
-use Rattle.rp_seats.specs.Scenes.{node_doings, as_event, scene_doings, doings_in, raft_events}
-use Rattle.rp_bound.specs.Bounds.{Stands, StandsNext, IsStanding, first_seen}
+use Rattle.rp_seats.specs.Scenes.{node_doings, as_event, scene_doings, raft_events}
+use Rattle.rp_bound.specs.Bounds.{StandsNext, first_seen}
 use Rattle.rp_bound.proofs.Along.{stands_next, stands_fit}
 use Rattle.rp_bound.proofs.First.{first_ranges, first_bound}
 use Rattle.rp_bound.proofs.Starts.{none_handed, first_small}
@@ -21,9 +20,9 @@ use Rattle.rp_raftstep.specs.RaftState.{nodes_to}
 use Rattle.rp_journals.proofs.Growing.{reached_later}
 use Rattle.rp_journals.proofs.Writing.{later_scene, first_reached}
 use Rattle.rp_journals.proofs.Elsewhere.{event_some, lawful_node}
-use Rattle.rp_low.specs.Weights.{weight_of, IsWeighed}
+use Rattle.rp_low.specs.Weights.{weight_of}
 use Rattle.rp_low.proofs.Weighed.{weighed_first, weighed_scene, begins_weigh_none}
-use Rattle.rp_allowed.specs.Firm.{IsSpelled, AllSpelled, IsFirm}
+use Rattle.rp_allowed.specs.Firm.{IsFirm}
 use Rattle.rp_allowed.proofs.Spelled.{node_handed}
 
 module _ (lists : OneList AppliedState) where

@@ -1,6 +1,6 @@
 -- What an event hands to Raft spells a payload.
-use Rattle.std.proofs.Common.{◌≡◌, ℕ, ◌+◌, eqb, true, Option, None, Some, Result, Ok, Err, List, [], ◌∷◌, map, refl, sym, ap, subst, arith}
-use Rattle.std.specs.Prelude.{◌==◌, ◌<◌, Contains, filter_map, option_and_then}
+use Rattle.std.proofs.Common.{◌≡◌, ℕ, ◌+◌, eqb, true, Option, None, Some, Result, Ok, Err, List, [], ◌∷◌, map, refl, sym, subst, arith}
+use Rattle.std.specs.Prelude.{Contains, filter_map, option_and_then}
 use Rattle.std.specs.List.{AllByRecursion, cons_option}
 use Rattle.std.proofs.lemmas.Bool.{cond_both}
 use Rattle.std.proofs.lemmas.List.Elements.{All-contains, All-from_recursion}
@@ -146,4 +146,3 @@ module _ (w : World) (shaped : AreShaped w) (fit : AreFit w) (node : ℕ) (n : N
     node_handed (events.Peek at key) taken c = seat_handed at 0 (at_replica.Peek key) [] (seat n at) refl c
     node_handed events.Restart taken c = all_handed at_replica.Restart (λ r ticks round. refl) n.ticks (seat n range) refl c
     node_handed events.Round taken c = absurd (omega (arith, c.1))
-

@@ -1,14 +1,12 @@
 -- Every lawful event of a reached world may come at its node.
-use Rattle.std.proofs.Common.{◌≡◌, ℕ, zero, suc, ◌+◌, ◌^◌, ◌<◌, ◌≤◌, Bool, true, false, ⊎_elim, Option, None, Some, List, [], ◌∷◌, length, replicate, refl, sym, ap, subst, ◌∙◌, arith, eqb-true}
-use Rattle.std.specs.Prelude.{slice_get, not, ◌&&◌, ◌==◌, IsTrue}
-use Rattle.std.specs.Option.{option_map, option_map_or}
-use Rattle.std.proofs.lemmas.Bool.{and_parts}
+use Rattle.std.proofs.Common.{◌≡◌, ℕ, zero, suc, ◌+◌, ◌^◌, ◌<◌, ◌≤◌, Bool, true, false, Option, None, Some, [], length, replicate, refl, sym, ap, subst, ◌∙◌, arith, eqb-true}
+use Rattle.std.specs.Prelude.{◌==◌}
+use Rattle.std.specs.Option.{option_map_or}
 use Rattle.rp_base.specs.declared.ids.CmdId.{CmdId}
 use Rattle.rp_raftstep.specs.declared.messages.Message.{Message}
 use Rattle.rp_raftstep.specs.declared.messages.Message.TheVariants.{Vote, VoteReply, Append, AppendReply, Forward, Snap}
 use Rattle.rp_raftstep.specs.Conditions.{MessageFits}
 use Rattle.rp_request.specs.Applied.{AppliedState}
-use Rattle.rp_request.specs.States.{first_applied}
 use Rattle.rp_request.specs.declared.requests.Request.{Request}
 use Rattle.rp_pending.specs.Proposals.{proposal_of}
 use Rattle.rp_pending.specs.declared.proposals.Proposal.{Proposal}
@@ -17,15 +15,13 @@ use Rattle.rp_raftsafe.specs.Bounds.{MessageBelow, bound_after}
 use Rattle.rp_raftsafe.specs.Safety.{OneList, HasSent}
 use Rattle.rp_raftsafe.proofs.Bounded.{bounded_holds}
 use Rattle.rp_events.specs.declared.answers.EventAnswer.TheVariants as answers
-use Rattle.rp_events.specs.declared.journals.JournalEntry.{JournalEntry}
 use Rattle.rp_events.specs.declared.journals.PastEvent.TheVariants as past
 use Rattle.rp_events.specs.declared.node_events.Event.{Event}
-use Rattle.rp_events.specs.declared.node_events.Event.TheVariants as events
 use Rattle.rp_events.specs.declared.parcels.Parcel.{Parcel}
 use Rattle.rp_events.specs.declared.replica_events.ReplicaEvent.{ReplicaEvent}
 use Rattle.rp_events.specs.declared.replica_events.ReplicaEvent.TheVariants as at_replica
 use Rattle.rp_events.specs.Allows.{Allows}
-use Rattle.rp_events.specs.MaySteps.{SeatAllows, MayTick, MayCome, MayDo, MayStep}
+use Rattle.rp_events.specs.MaySteps.{SeatAllows, MayDo, MayStep}
 use Rattle.rp_events.specs.Replicas.{Replica}
 use Rattle.rp_events.specs.Nodes.{Node, Status, Absent, Live, Removed, seat, is_full, parcel_of}
 use Rattle.rp_events.specs.Worlds as worlds
@@ -112,7 +108,7 @@ module _ (lists : OneList AppliedState) (nodes : ℕ) (w : World) (reached : IsR
         let ok = firm.stands.bound.ranges p.range there in
         let g : raft.Range AppliedState = range_at (length w) p.range (firm.ranges.range p.range).start in
         let at : raft.message_of (raft.site (raft.world_after g (firm.seen p.range)) from) (number_in p.range (sent_by w from) number) ≡ Some (p.to, p.message) =
-            ap (λ (z : raft.World AppliedState). raft.message_of (raft.site z from) (number_in p.range (sent_by w from) number)) (sym ok.raft.raft) ∙ seen_message in
+        ap (λ (z : raft.World AppliedState). raft.message_of (raft.site z from) (number_in p.range (sent_by w from) number)) (sym ok.raft.raft) ∙ seen_message in
         message_fits (bound_after g (firm.seen p.range)) (at_seat.range_short lists nodes w reached firm p.range there)
         p.message ((bounded_holds AppliedState g (firm.seen p.range)).messages from p.to p.message (placed (number_in p.range (sent_by w from) number) at))
       where

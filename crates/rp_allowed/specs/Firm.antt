@@ -1,5 +1,5 @@
--- What stands beside the nodes of every reached world, with the spelling and the weight of what Raft has
--- seen (this project).
+-- What stands beside the nodes of every reached world, with the spelling and the weight of what Raft
+-- has seen (this project).
 use Rattle.std.specs.Prelude.{◌≡◌, ℕ, ◌<◌, List, Contains, Ok}
 use Rattle.rp_codec.specs.Reading.{payload_in}
 use Rattle.rp_request.specs.Applied.{AppliedState}

@@ -1,6 +1,6 @@
 -- Along a schedule Raft's events of a range weigh no more than the nodes' events give room for.
-use Rattle.std.proofs.Common.{◌≡◌, ℕ, zero, suc, ◌+◌, ◌*◌, ◌^◌, ◌<◌, ◌≤◌, Bool, true, false, cond, ⊎_elim, Option, None, Some, List, [], ◌∷◌, ◌++◌, length, map, refl, sym, ap, subst, ◌∙◌, arith}
-use Rattle.std.specs.Prelude.{not, sum_by, count_by, slice_get}
+use Rattle.std.proofs.Common.{◌≡◌, ℕ, suc, ◌+◌, ◌*◌, ◌<◌, ◌≤◌, Bool, true, false, cond, Some, List, [], ◌∷◌, ◌++◌, length, map, refl, sym, ap, subst, ◌∙◌, arith}
+use Rattle.std.specs.Prelude.{not, sum_by, count_by}
 use Rattle.std.specs.Option.{option_map_or}
 use Rattle.std.proofs.lemmas.List.Sums.{sum_by-cons, sum_by-append}
 use Rattle.std.proofs.Math.Nat.{mul-le-mul_left, suc-mul}
@@ -12,13 +12,13 @@ use Rattle.rp_raftsafe.specs.World as raft
 use Rattle.rp_raftsafe.specs.Bounds.{event_weight}
 use Rattle.rp_events.specs.declared.journals.JournalEntry.{JournalEntry}
 use Rattle.rp_events.specs.declared.node_events.Event.{Event}
-use Rattle.rp_events.specs.Nodes.{Node, Status, seat, first_node}
+use Rattle.rp_events.specs.Nodes.{Node, seat}
 use Rattle.rp_events.specs.NodeEvents.{step, past_of}
-use Rattle.rp_events.specs.Worlds.{World, Scene, Schedule, first_world, node_of, with_node, event_of, taken_in, happens}
+use Rattle.rp_events.specs.Worlds.{World, Scene, first_world, node_of, event_of, taken_in, happens}
 use Rattle.rp_events.specs.Lawful.{Lawful, IsReached}
-use Rattle.rp_seats.specs.Scenes.{node_doings, as_event, scene_doings, doings_in, raft_events}
+use Rattle.rp_seats.specs.Scenes.{node_doings, as_event, scene_doings, raft_events}
 use Rattle.rp_seats.specs.Turned.{begins_at_all}
-use Rattle.rp_journals.specs.Numbers.{inbox_at, handed, is_admission, admissions, other_events, all_pending, IsWithin, IsLow}
+use Rattle.rp_journals.specs.Numbers.{handed, is_admission, admissions, other_events, all_pending, IsWithin}
 use Rattle.rp_journals.proofs.Reading.{entry_of, step_journal}
 use Rattle.rp_journals.proofs.Counting.{one_if}
 use Rattle.rp_journals.proofs.Asking.{sum_with, first_sum}
@@ -74,15 +74,15 @@ weighed_scene nodes range below w reached x l seen h =
     let pending = inside.pending in
     let le : pending_long (seat n range) ≤ all_pending n = seat_le pending_long n.seats range refl in
     let admitted : admissions new ≡ admissions n + one_if b =
-        ap (count_by (λ (z : JournalEntry). is_admission z.event)) (step_journal n e.0 taken) ∙ count_push (λ (z : JournalEntry). is_admission z.event) n.journal (entry_of n e.0 taken) in
+    ap (count_by (λ (z : JournalEntry). is_admission z.event)) (step_journal n e.0 taken) ∙ count_push (λ (z : JournalEntry). is_admission z.event) n.journal (entry_of n e.0 taken) in
     let others : other_events new ≡ other_events n + one_if (not b) =
-        ap (count_by (λ (z : JournalEntry). not (is_admission z.event))) (step_journal n e.0 taken) ∙ count_push (λ (z : JournalEntry). not (is_admission z.event)) n.journal (entry_of n e.0 taken) in
+    ap (count_by (λ (z : JournalEntry). not (is_admission z.event))) (step_journal n e.0 taken) ∙ count_push (λ (z : JournalEntry). not (is_admission z.event)) n.journal (entry_of n e.0 taken) in
     let room : room_at new ≡ (other_events n + one_if (not b)) * (admissions n + one_if b + 18) = ap (λ z. z * (admissions new + 18)) others ∙ ap (λ z. (other_events n + one_if (not b)) * (z + 18)) admitted in
     let grown = room_grows b (other_events n) (admissions n) (pending_long (seat n range)) (waiting_at (seat n range)) (waiting_at (seat new range)) (weigh (node_doings range n e.0 taken)) (length (handed range n e.0 taken)) short weighs (omega (arith, le, pending)) in
     let waits = sum_with (λ (z : Node). waiting_at (seat z range)) w x.node n new f.1 in
     let rooms = sum_with room_at w x.node n new f.1 in
     let seen_weighs : weight_of (seen ++ raft_events range w x) ≡ weight_of seen + weigh (node_doings range n e.0 taken) =
-        sum_by-append event_weight seen (raft_events range w x) ∙ ap (λ z. weight_of seen + z) (scene_weight range w x n e.0 f.1 e.1) in
+    sum_by-append event_weight seen (raft_events range w x) ∙ ap (λ z. weight_of seen + z) (scene_weight range w x n e.0 f.1 e.1) in
     let was = h.weighs in
     record {
       weighs = subst (λ z. weight_of (seen ++ raft_events range w x) + all_waiting range z ≤ room_of z) (sym (happens_is w x n e.0 f.1 e.1))

@@ -1,6 +1,6 @@
 -- What a scene weighs for a range's Raft.
-use Rattle.std.proofs.Common.{◌≡◌, ℕ, zero, suc, ◌+◌, ◌*◌, ◌<◌, ◌≤◌, Bool, true, false, cond, eqb, ⊎_elim, Option, None, Some, List, [], ◌∷◌, ◌++◌, length, map, set, refl, sym, ap, subst, ◌∙◌, arith, eq-eqb, eqb-true, get_or-set_same, get_or-set_other}
-use Rattle.std.specs.Prelude.{◌==◌, slice_index_or, sum_by}
+use Rattle.std.proofs.Common.{◌≡◌, ℕ, ◌+◌, ◌<◌, ◌≤◌, cond, eqb, ⊎_elim, Option, None, Some, List, [], ◌∷◌, ◌++◌, length, map, refl, sym, ap, subst, ◌∙◌, arith, eq-eqb}
+use Rattle.std.specs.Prelude.{sum_by}
 use Rattle.std.specs.List.{AllByRecursion}
 use Rattle.std.specs.Option.{option_map_or}
 use Rattle.std.proofs.lemmas.Bool.{cond_both, cases_eq, ne_eqb}
@@ -18,9 +18,9 @@ use Rattle.rp_events.specs.declared.replica_events.ReplicaEvent.TheVariants.{Adm
 use Rattle.rp_events.specs.Replicas.{Replica, Done}
 use Rattle.rp_events.specs.ReplicaEvents.{event}
 use Rattle.rp_events.specs.Applications.{payload_of, next_entry}
-use Rattle.rp_events.specs.Nodes.{Node, Status, Absent, Live, Removed, seat, opened, after_turn, range_numbers}
-use Rattle.rp_events.specs.NodeEvents.{status_after, after_replica, live_turn, with_request, past_of}
-use Rattle.rp_events.specs.Worlds.{World, Scene}
+use Rattle.rp_events.specs.Nodes.{Node, Status, Absent, Live, Removed, seat, range_numbers}
+use Rattle.rp_events.specs.NodeEvents.{live_turn, past_of}
+use Rattle.rp_events.specs.Worlds.{World}
 use Rattle.rp_seats.specs.Scenes.{Doing, Acts, Gets, Starts, applying, doings_of, starting, seen_by, seat_doings, all_doings, message_doings, node_doings, as_event}
 use Rattle.rp_journals.specs.Numbers.{handed_by, handed, is_admission}
 use Rattle.rp_journals.proofs.Inboxes.{IsAscending, ascending, among, same_all, less_apart, SoFar, one_turn}
@@ -139,9 +139,9 @@ module _ (range : ℕ) (e : ReplicaEvent AppliedState) (none : (r : Replica) (ti
   mine m ticks rounds same =
       let k = seat_weighs range m range 0 e [] (seat m range) refl in
       let own : length (option_map_or (handed_by (seat m range) m.ticks m.rounds []) (cond (eqb range range) (Some e) None) []) ≡ length (handed_by (seat m range) m.ticks m.rounds [] e) =
-          ap (λ b. length (option_map_or (handed_by (seat m range) m.ticks m.rounds []) (cond b (Some e) None) [])) (eq-eqb range range refl) in
+      ap (λ b. length (option_map_or (handed_by (seat m range) m.ticks m.rounds []) (cond b (Some e) None) [])) (eq-eqb range range refl) in
       let clock : length (handed_by (seat m range) m.ticks m.rounds [] e) ≡ length (handed_by (seat n range) n.ticks n.rounds [] e) =
-          ap (λ s. length (handed_by s m.ticks m.rounds [] e)) same ∙ ap (λ t. length (handed_by (seat n range) t m.rounds [] e)) ticks ∙ ap (λ t. length (handed_by (seat n range) n.ticks t [] e)) rounds in
+      ap (λ s. length (handed_by s m.ticks m.rounds [] e)) same ∙ ap (λ t. length (handed_by (seat n range) t m.rounds [] e)) ticks ∙ ap (λ t. length (handed_by (seat n range) n.ticks t [] e)) rounds in
       omega (arith, k, own, clock)
 
   all_weigh : (ranges : List ℕ) → IsAscending ranges → (m : Node) → SoFar e none n range m ranges → weigh (all_doings range e m ranges) ≤ allowance

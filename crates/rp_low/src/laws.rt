@@ -6,9 +6,9 @@ ghost use Rattle.rp_events.specs.Worlds.{World, Scene, first_world, happens};
 ghost use Rattle.rp_seats.specs.Scenes.{raft_events};
 ghost use Rattle.rp_low.specs.Weights.{weight_of, room_of, IsWeighed};
 
-/// Raft's events of a range weigh, with what waits in its inboxes, no more than the nodes' events give
-/// room for: at the start, and behind each lawful scene; and the room of five nodes whose journals have
-/// an end is less than 2^63.
+/// Raft's events of a range weigh, with what waits in its inboxes, no more than the nodes' events
+/// give room for: at the start, and behind each lawful scene; and the room of five nodes whose
+/// journals have an end is less than 2^63.
 pub fn rafts_numbers_stay_low()
     ensures first { (nodes : ℕ) (range : ℕ) (seen : List raft.Event) → weight_of seen ≡ 0
         → IsWeighed range (first_world nodes) seen }
