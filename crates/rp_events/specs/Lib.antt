@@ -17,3 +17,4 @@ pub mod Buffered
 pub mod Lists
 pub mod Promises
 pub mod Worked
+pub mod MaySteps

@@ -22,7 +22,7 @@ use Rattle.rp_journals.proofs.Within.{all_within}
 use Rattle.rp_journals.proofs.Inboxes.{waiting_at, pending_long, step_short}
 
 -- a collect gives no more than a buffer holds
-given_few : (w : World) (node : ℕ) (what : Happening) → is_allowed w node what ≡ true → length (taken_in what) ≤ 16
+pub given_few : (w : World) (node : ℕ) (what : Happening) → is_allowed w node what ≡ true → length (taken_in what) ≤ 16
 given_few w node (worlds.Admit range id request) h = omega arith
 given_few w node (worlds.Ask range) h = omega arith
 given_few w node (worlds.Transfer range to) h = omega arith

@@ -64,7 +64,7 @@ other_waits n range e d k ne =
     ∙ ap waiting_at (get_or-set_other n.seats range k (status_after e d.replica) Absent ne)
 
 -- how much the event of a replica may add
-abbrev may_add : ReplicaEvent AppliedState → Status → ℕ
+abbrev pub may_add : ReplicaEvent AppliedState → Status → ℕ
 may_add (Admit id request) status = 0
 may_add e status = pending_long status + 16
 
@@ -110,24 +110,24 @@ by_status_short e n at taken few (Removed applied) is = one_short e n n taken at
     (subst (λ s. length (handed_by s n.ticks n.rounds taken e) + waiting_at s ≤ waiting_at s + may_add e s) (sym is) (omega arith)) (λ k ne. refl)
 
 -- each later number is greater
-abbrev IsAscending : List ℕ → Type 0
+abbrev pub IsAscending : List ℕ → Type 0
 IsAscending [] = Unit {0}
 IsAscending (x ∷ xs) = AllByRecursion (λ y. x < y) xs × IsAscending xs
 
-less_apart : (a b : ℕ) → a < b → a ≡ b → ⊥
+pub less_apart : (a b : ℕ) → a < b → a ≡ b → ⊥
 less_apart a b l e = omega (arith, l, e)
 
 -- an event of each seat that opens no range
 module _ (e : ReplicaEvent AppliedState) (none : (r : Replica) (ticks rounds : ℕ) → (event r e ticks rounds []).right ≡ None) (n : Node) (k : ℕ) where
-  abbrev Final : Node → Type 0
+  abbrev pub Final : Node → Type 0
   Final m = length (handed_by (seat n k) n.ticks n.rounds [] e) + waiting_at (seat m k) ≤ waiting_at (seat n k) + may_add e (seat n k)
 
   -- so far: the clock stands, seats to come are as they were, and this one is done unless it comes
-  record SoFar (m : Node) (ranges : List ℕ) : Type 0 where
-    ticks : m.ticks ≡ n.ticks
-    rounds : m.rounds ≡ n.rounds
-    same : AllByRecursion (λ j. seat m j ≡ seat n j) ranges
-    final : AllByRecursion (λ j. j ≡ k → ⊥) ranges → Final m
+  pub record SoFar (m : Node) (ranges : List ℕ) : Type 0 where
+    pub ticks : m.ticks ≡ n.ticks
+    pub rounds : m.rounds ≡ n.rounds
+    pub same : AllByRecursion (λ j. seat m j ≡ seat n j) ranges
+    pub final : AllByRecursion (λ j. j ≡ k → ⊥) ranges → Final m
 
   turned_is : (m : Node) (at : ℕ) (r : Replica) → after_replica m at e (event r e m.ticks m.rounds []) ≡ after_turn m at (status_after e (event r e m.ticks m.rounds []).replica) (event r e m.ticks m.rounds [])
   turned_is m at r = ap (opened (after_turn m at (status_after e (event r e m.ticks m.rounds []).replica) (event r e m.ticks m.rounds []))) (none r m.ticks m.rounds)
@@ -136,7 +136,7 @@ module _ (e : ReplicaEvent AppliedState) (none : (r : Replica) (ticks rounds : �
   others_same m at new [] up same = tt
   others_same m at new (j ∷ ranges) up same = (get_or-set_other m.seats at j new Absent (λ x. less_apart at j up.0 (sym x)) ∙ same.0, others_same m at new ranges up.1 same.1)
 
-  one_turn : (m : Node) (at : ℕ) (ranges : List ℕ) → AllByRecursion (λ j. at < j) ranges → SoFar m (at ∷ ranges) → (status : Status) → seat m at ≡ status → SoFar (live_turn e m at status) ranges
+  pub one_turn : (m : Node) (at : ℕ) (ranges : List ℕ) → AllByRecursion (λ j. at < j) ranges → SoFar m (at ∷ ranges) → (status : Status) → seat m at ≡ status → SoFar (live_turn e m at status) ranges
   one_turn m at ranges up s Absent is = record {
     ticks = s.ticks;
     rounds = s.rounds;
@@ -196,11 +196,11 @@ module _ (e : ReplicaEvent AppliedState) (none : (r : Replica) (ticks rounds : �
   all_short [] up m s = s.final tt
   all_short (at ∷ ranges) up m s = all_short ranges up.1 (live_turn e m at (seat m at)) (one_turn m at ranges up.0 s (seat m at) refl)
 
-ascending : IsAscending range_numbers
+pub ascending : IsAscending range_numbers
 ascending = ((omega arith, (omega arith, (omega arith, (omega arith, (omega arith, (omega arith, (omega arith, tt))))))), ((omega arith, (omega arith, (omega arith, (omega arith, (omega arith, (omega arith, tt)))))), ((omega arith, (omega arith, (omega arith, (omega arith, (omega arith, tt))))), ((omega arith, (omega arith, (omega arith, (omega arith, tt)))), ((omega arith, (omega arith, (omega arith, tt))), ((omega arith, (omega arith, tt)), ((omega arith, tt), (tt, tt))))))))
 
 -- of the eight ranges each is one
-among : (k : ℕ) → k < 8 → AllByRecursion (λ j. j ≡ k → ⊥) range_numbers → ⊥
+pub among : (k : ℕ) → k < 8 → AllByRecursion (λ j. j ≡ k → ⊥) range_numbers → ⊥
 among zero below out = out.0 refl
 among (suc zero) below out = out.1.0 refl
 among (suc (suc zero)) below out = out.1.1.0 refl
@@ -211,7 +211,7 @@ among (suc (suc (suc (suc (suc (suc zero)))))) below out = out.1.1.1.1.1.1.0 ref
 among (suc (suc (suc (suc (suc (suc (suc zero))))))) below out = out.1.1.1.1.1.1.1.0 refl
 among (suc (suc (suc (suc (suc (suc (suc (suc k)))))))) below out = omega (arith, below)
 
-same_all : (n : Node) → AllByRecursion (λ j. seat n j ≡ seat n j) range_numbers
+pub same_all : (n : Node) → AllByRecursion (λ j. seat n j ≡ seat n j) range_numbers
 same_all n = (refl, (refl, (refl, (refl, (refl, (refl, (refl, (refl, tt))))))))
 
 numbers_short : (e : ReplicaEvent AppliedState) → ((r : Replica) (ticks rounds : ℕ) → (event r e ticks rounds []).right ≡ None) → (n : Node) (k : ℕ) → k < 8
