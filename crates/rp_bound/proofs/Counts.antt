@@ -1,12 +1,11 @@
 -- How an event of a replica lets its numbers grow.
-use Rattle.std.proofs.Common.{◌≡◌, ℕ, zero, suc, ◌+◌, ◌^◌, ◌<◌, ◌≤◌, Bool, true, false, cond, not, eqb, Option, None, Some, Result, Ok, Err, List, [], ◌∷◌, ◌++◌, map, length, max, refl, sym, ap, subst, ◌∙◌, arith, eqb-true}
-use Rattle.std.specs.Prelude.{◌||◌, ◌&&◌, ◌==◌, nat_le, filter_map, option_and_then, Contains, is_none}
+use Rattle.std.proofs.Common.{◌≡◌, ℕ, suc, ◌+◌, ◌≤◌, Bool, true, false, cond, not, Option, None, Some, List, [], ◌∷◌, ◌++◌, map, length, max, refl, sym, ap, subst, ◌∙◌, arith, eqb-true}
+use Rattle.std.specs.Prelude.{◌||◌, ◌&&◌, ◌==◌, nat_le, filter_map, option_and_then}
 use Rattle.std.specs.List.{AllByRecursion, filter, list_any, cons_option}
 use Rattle.std.specs.Option.{option_map_or}
 use Rattle.std.proofs.lemmas.Bool.{cond_both}
 use Rattle.std.proofs.lemmas.List.{length-append, length-map}
-use Rattle.std.proofs.lemmas.List.Elements.{All-contains, All-from_recursion}
-use Rattle.rp_base.proofs.Elements.{all_append, all_filter}
+use Rattle.rp_base.proofs.Elements.{all_append}
 use Rattle.rp_base.specs.Ids.{same_id}
 use Rattle.rp_base.specs.Ids.{same_id}
 use Rattle.rp_base.specs.declared.ids.CmdId.{CmdId}
@@ -16,26 +15,20 @@ use Rattle.rp_base.specs.declared.leases.LeaseAsk.{LeaseAsk}
 use Rattle.rp_codec.specs.Spelling.{spelling}
 use Rattle.rp_codec.proofs.SpellingLaws.{read_as_spelled}
 use Rattle.rp_flush.specs.Assigns.{asks_of, ids_of, once, waits_under, last_after}
-use Rattle.rp_raftstep.specs.declared.messages.Message.{Message}
-use Rattle.rp_raftstep.specs.Step.{Draft, tick, received}
-use Rattle.rp_request.specs.Applied.{AppliedState, command_verdict}
-use Rattle.rp_request.specs.Fits.{FitsAsk, FitsCommand}
+use Rattle.rp_request.specs.Fits.{FitsAsk}
 use Rattle.rp_request.specs.declared.commands.Payload.{Payload}
 use Rattle.rp_request.specs.declared.commands.Payload.TheVariants as payloads
-use Rattle.rp_request.specs.declared.commands.Command.{Command}
-use Rattle.rp_request.specs.declared.verdicts.Verdict.{Verdict}
-use Rattle.rp_request.specs.declared.verdicts.Verdict.TheVariants as verdicts
 use Rattle.rp_pending.specs.declared.proposals.Proposal.{Proposal}
 use Rattle.rp_pending.specs.declared.refreshes.Refresh.{Refresh}
 use Rattle.rp_pending.specs.Proposals.{has_id, proposal_of, without, with_changed, is_proposed, proposed, waiting_again}
 use Rattle.rp_pending.specs.Refreshes.{goes_back, waiting_of, put_by, by_key, ids_by_max}
-use Rattle.rp_events.specs.Replicas.{Replica, Told, untold, lease_of, has_new_leader}
-use Rattle.rp_events.specs.Moves.{Move, HandsOut, GivesUp, TakesBack, Repeats, hands_out, gives_up, takes_back, repeats, moved, moved_all, then_is, proposed_under, waits_again, command_of, write_of, payloads_of}
-use Rattle.rp_events.specs.Flushes.{assigning, emptied, flush_moves}
-use Rattle.rp_events.specs.Refreshes.{refreshing, refresh_moves, with_taken}
+use Rattle.rp_events.specs.Replicas.{Replica, Told, lease_of}
+use Rattle.rp_events.specs.declared.moves.Move.{Move}
+use Rattle.rp_events.specs.declared.moves.Move.TheVariants.{HandsOut, GivesUp, TakesBack, Repeats}
+use Rattle.rp_events.specs.Moves.{hands_out, gives_up, takes_back, repeats, moved, moved_all, then_is, proposed_under, waits_again, command_of, write_of, payloads_of}
+use Rattle.rp_events.specs.Flushes.{assigning, flush_moves}
+use Rattle.rp_events.specs.Refreshes.{refresh_moves}
 use Rattle.rp_events.specs.LeaseAsks.{joined, joined_all, same_ask, without_first}
-use Rattle.rp_events.specs.Ends.{ends_all}
-use Rattle.rp_events.specs.Applications.{is_own, settled, proposer_told}
 use Rattle.rp_seats.specs.Views.{read, payload_or}
 use Rattle.rp_turns.specs.Fitting.{FitsOne, FitEach}
 use Rattle.rp_turns.proofs.Widths.{each_found}
@@ -123,13 +116,17 @@ module _ (seqs expiry : ℕ) where
 
   changed_keeps : (id : CmdId) (g : Proposal → Proposal) (r : Replica) → Keeps seqs expiry 0 r (record r { pending = with_changed id g r.pending })
   changed_keeps id g r = record {
-    assigned = refl; asks = refl; inbox = λ h. h; items = omega arith;
+    assigned = refl;
+    asks = refl;
+    inbox = λ h. h;
+    items = omega arith;
     few = (let e = length-map r.pending (λ p. cond (has_id id p) (g p) p) in omega (arith, e));
   }
 
   pub again_keeps : (id : CmdId) (r : Replica) → Keeps seqs expiry 1 r (waits_again r id)
   again_keeps id r = record {
-    assigned = refl; asks = refl;
+    assigned = refl;
+    asks = refl;
     inbox = λ h. all_append (ItemBelow seqs expiry) r.inbox (items.Write id ∷ []) h (tt, tt);
     items = (let e = length-append r.inbox (items.Write id ∷ []) in omega (arith, e));
     few = (let e = length-map r.pending (λ p. cond (has_id id p) (waiting_again p) p) in omega (arith, e));
@@ -137,7 +134,8 @@ module _ (seqs expiry : ℕ) where
 
   left_keeps : (id : CmdId) (r s : Replica) → s.assigned ≡ r.assigned → s.asks ≡ r.asks → s.inbox ≡ r.inbox → s.pending ≡ without id r.pending → Keeps seqs expiry 0 r s
   left_keeps id r s assigned asks inbox pending = record {
-    assigned = assigned; asks = asks;
+    assigned = assigned;
+    asks = asks;
     inbox = λ h. subst (AllByRecursion (ItemBelow seqs expiry)) (sym inbox) h;
     items = (let e = ap length inbox in omega (arith, e));
     few = (let e = ap length pending in let f = filter_short (λ p. not (has_id id p)) r.pending in omega (arith, e, f));
@@ -252,7 +250,9 @@ module _ (seqs expiry : ℕ) where
       go : (c : Bool) → list_any (λ x. same_ask x ask) r.asks ≡ c → Joins top most 1 r (cond c (record r { inbox = r.inbox ++ items.Lease ask ∷ []; asks = without_first ask r.asks }) r)
       go true is = record {
         below = record {
-          assigned = b.assigned; pending = b.pending; few = b.few;
+          assigned = b.assigned;
+          pending = b.pending;
+          few = b.few;
           inbox = all_append (ItemBelow seqs expiry) r.inbox (items.Lease ask ∷ []) b.inbox (among_below ask r.asks is b.asks, tt);
           asks = without_below ask r.asks b.asks;
         };
@@ -282,8 +282,11 @@ module _ (top seqs : ℕ) (ps : List Proposal) (fits : FitEach ps) (below : AllB
     go None e ih = ih
     go (Some p) e ih =
         cond_both (is_proposed p.stage) (Some (payloads.Write (command_of p))) None (λ o. AllByRecursion Below (map spelling (cons_option o rest)))
-        (λ is. (subst (PayloadBelow top seqs) (sym (ap payload_or (read_as_spelled (payloads.Write (command_of p)) (each_found FitsOne ps fits id p e))))
-        (each_found (ProposalBelow top seqs) ps below id p e).0, ih)) (λ _. ih)
+        (λ is. (
+          subst (PayloadBelow top seqs) (sym (ap payload_or (read_as_spelled (payloads.Write (command_of p)) (each_found FitsOne ps fits id p e))))
+              (each_found (ProposalBelow top seqs) ps below id p e).0,
+          ih,
+        )) (λ _. ih)
 
   pub bytes_below : (asks : List LeaseAsk) → AllByRecursion FitsAsk asks → AllByRecursion (λ (ask : LeaseAsk). ask.prev ≤ seqs) asks → (ids : List CmdId) → AllByRecursion Below (map spelling (payloads_of asks ps ids))
   bytes_below [] fit low ids = ids_below ids

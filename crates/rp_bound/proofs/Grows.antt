@@ -1,15 +1,13 @@
 -- How far each event of a replica lets its numbers grow.
-use Rattle.std.proofs.Common.{◌≡◌, ℕ, zero, suc, ◌+◌, ◌^◌, ◌<◌, ◌≤◌, Bool, true, false, cond, not, Option, None, Some, Result, Ok, Err, List, [], ◌∷◌, ◌++◌, map, length, refl, sym, ap, subst, ◌∙◌, arith}
+use Rattle.std.proofs.Common.{◌≡◌, ℕ, ◌+◌, ◌≤◌, Bool, true, not, Option, None, Some, Result, Ok, Err, List, [], ◌∷◌, ◌++◌, map, length, refl, sym, ap, subst, arith}
 use Rattle.std.specs.Prelude.{is_none, nat_le, ◌&&◌}
-use Rattle.std.specs.List.{AllByRecursion, filter}
-use Rattle.std.specs.Option.{option_map_or}
+use Rattle.std.specs.List.{AllByRecursion}
 use Rattle.std.proofs.lemmas.Bool.{cond_both}
 use Rattle.std.proofs.lemmas.List.{length-append}
 use Rattle.rp_base.proofs.Elements.{all_append, all_filter}
 use Rattle.rp_base.specs.declared.ids.CmdId.{CmdId}
 use Rattle.rp_base.specs.declared.items.Item.{Item}
 use Rattle.rp_base.specs.declared.leases.LeaseAsk.{LeaseAsk}
-use Rattle.rp_flush.specs.declared.assigns.Assigned.{Assigned}
 use Rattle.rp_raftstep.specs.declared.messages.Message.{Message}
 use Rattle.rp_raftstep.specs.Step.{Draft, tick, received}
 use Rattle.rp_request.specs.Applied.{AppliedState, command_verdict}
@@ -23,15 +21,14 @@ use Rattle.rp_request.specs.declared.requests.Request.{Request}
 use Rattle.rp_request.specs.declared.verdicts.Verdict.{Verdict}
 use Rattle.rp_request.specs.declared.verdicts.Verdict.TheVariants as verdicts
 use Rattle.rp_pending.specs.declared.proposals.Proposal.{Proposal}
-use Rattle.rp_pending.specs.declared.refreshes.Refresh.{Refresh}
-use Rattle.rp_pending.specs.Proposals.{has_id, without, with_changed, proposed, waiting_again}
+use Rattle.rp_pending.specs.Proposals.{has_id, proposed, waiting_again}
 use Rattle.rp_pending.specs.Refreshes.{goes_back}
 use Rattle.rp_events.specs.declared.answers.EventAnswer.TheVariants as answers
 use Rattle.rp_events.specs.declared.replica_events.ReplicaEvent.{ReplicaEvent}
 use Rattle.rp_events.specs.declared.replica_events.ReplicaEvent.TheVariants.{Admit, Ask, Transfer, Collect, Flush, Tick, Deliver, Apply, Cut, Remove, Peek, Restart}
 use Rattle.rp_events.specs.Replicas.{Replica, Done, Told, untold, leaves, lease_of, holds_lease, has_new_leader}
-use Rattle.rp_events.specs.Admissions.{guarded, admitted_by, proposal, with_proposal}
-use Rattle.rp_events.specs.Moves.{moved_all, waits_again, hands_to_raft}
+use Rattle.rp_events.specs.Admissions.{guarded, admitted_by, proposal}
+use Rattle.rp_events.specs.Moves.{moved_all, hands_to_raft}
 use Rattle.rp_events.specs.Flushes.{assigning, emptied, flush_moves, flushed}
 use Rattle.rp_events.specs.Refreshes.{refreshing, refresh_moves, ticked, delivered, refreshed_by, with_taken}
 use Rattle.rp_events.specs.LeaseAsks.{is_held, expiry_of, ask_for, answers_ask, lease_ticks, joined_all}
@@ -42,7 +39,7 @@ use Rattle.rp_seats.specs.Views.{read}
 use Rattle.rp_turns.specs.Fitting.{FitEach, IsFit}
 use Rattle.rp_turns.proofs.Widths.{each_changed, each_left, flushed_fits, ticked_fits, delivered_fits, fits_flushed, fits_ticked, fits_delivered}
 use Rattle.rp_bound.specs.Numbers.{AskBelow, ItemBelow, ProposalBelow, PayloadBelow, ReplicaBelow}
-use Rattle.rp_bound.proofs.Counts.{filter_short, back_short, proposal_more, below_more, Keeps, keeps_itself, keeps_further, moves_keep, flush_gain, refresh_gain, again_keeps, one_more, Joins, all_joined, bytes_below, asks_low, assigning_low}
+use Rattle.rp_bound.proofs.Counts.{filter_short, back_short, proposal_more, below_more, Keeps, keeps_itself, keeps_further, moves_keep, flush_gain, refresh_gain, again_keeps, one_more, all_joined, bytes_below, asks_low, assigning_low}
 
 -- what an event leaves of a replica: the greatest index, which with what waits has grown by so much at
 -- most, and what is handed to Raft
@@ -180,7 +177,10 @@ module _ (top seqs ticks most : ℕ) (r : Replica) (b : ReplicaBelow top seqs (t
     taken_keeps : (o : Option (ℕ × AppliedState)) → Keeps seqs (ticks + 40) 0 r (with_taken r o).replica
     taken_keeps None = keeps_itself seqs (ticks + 40) r
     taken_keeps (Some taken) = record {
-      assigned = refl; asks = refl; inbox = λ h. h; items = omega arith;
+      assigned = refl;
+      asks = refl;
+      inbox = λ h. h;
+      items = omega arith;
       few = filter_short (λ p. is_none (overtaken_by taken.1.lai p)) r.pending;
     }
 

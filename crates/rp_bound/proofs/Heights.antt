@@ -1,10 +1,10 @@
 -- How far the lease index and the lease sequence of a range's states have grown.
-use Rattle.std.proofs.Common.{◌≡◌, ℕ, zero, suc, ◌+◌, ◌<◌, ◌≤◌, Bool, true, false, cond, ◌⊎◌, inl, inr, Option, None, Some, Result, Ok, Err, List, [], ◌∷◌, ◌++◌, map, length, refl, sym, ap, subst, ◌∙◌, arith, eqb-true}
-use Rattle.std.specs.Prelude.{◌==◌, Contains, slice_index_or, All}
+use Rattle.std.proofs.Common.{◌≡◌, ℕ, zero, suc, ◌<◌, ◌≤◌, true, cond, ◌⊎◌, inl, inr, Option, None, Some, List, [], ◌∷◌, map, length, refl, sym, ap, subst, arith, eqb-true}
+use Rattle.std.specs.Prelude.{◌==◌, Contains}
 use Rattle.std.specs.List.{AllByRecursion}
 use Rattle.std.proofs.lemmas.Bool.{cond_both}
 use Rattle.std.proofs.lemmas.List.Elements.{All-contains, Contains-append_left, Contains-append_right}
-use Rattle.rp_base.specs.Leases.{taken_by, extended, renewed, moved, lease_after}
+use Rattle.rp_base.specs.Leases.{taken_by, extended, renewed, moved}
 use Rattle.rp_base.specs.declared.leases.Lease as leases
 use Rattle.rp_base.specs.declared.leases.LeaseAsk.{LeaseAsk}
 use Rattle.rp_codec.proofs.WorkedBytes.{nothing_read}
@@ -13,7 +13,6 @@ use Rattle.rp_request.specs.Applied.{AppliedState, command_verdict, written, ask
 use Rattle.rp_request.specs.States.{first_applied}
 use Rattle.rp_request.specs.declared.commands.Payload.{Payload}
 use Rattle.rp_request.specs.declared.commands.Payload.TheVariants as payloads
-use Rattle.rp_request.specs.declared.commands.Command.{Command}
 use Rattle.rp_request.specs.declared.verdicts.Verdict.{Verdict}
 use Rattle.rp_request.specs.declared.verdicts.Verdict.TheVariants as verdicts
 use Rattle.rp_raftsafe.specs.World as raft
@@ -22,10 +21,10 @@ use Rattle.rp_raftsafe.specs.Proposed.{payloads_of, WasProposed}
 use Rattle.rp_rangesafe.specs.Along.{entry, state}
 use Rattle.rp_rangesafe.specs.World.{state_at}
 use Rattle.rp_rangesafe.specs.Ranges.{Ranges}
-use Rattle.rp_rangesafe.proofs.Rights.{Opens, IsOrigin, opens_it, sources_reached, lai_at_start, left_below}
+use Rattle.rp_rangesafe.proofs.Rights.{IsOrigin, opens_it, sources_reached, lai_at_start, left_below}
 use Rattle.rp_events.specs.Worlds.{World}
 use Rattle.rp_seats.specs.Views.{read, payload_or, range_at}
-use Rattle.rp_seats.specs.Standing.{RangeOk, Bound}
+use Rattle.rp_seats.specs.Standing.{Bound}
 use Rattle.rp_bound.specs.Numbers.{PayloadBelow}
 
 module _ (top seqs : ℕ) where

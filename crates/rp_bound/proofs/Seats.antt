@@ -1,27 +1,24 @@
 -- What an event of a node makes of one of its seats: nothing, an event of its replica, or a fresh one.
-use Rattle.std.proofs.Common.{◌≡◌, ℕ, zero, suc, ◌+◌, ◌<◌, ◌≤◌, ◌⊎◌, inl, inr, ⊎_elim, Bool, true, false, cond, eqb, Option, None, Some, List, [], ◌∷◌, ◌++◌, map, length, refl, sym, ap, subst, ◌∙◌, arith, eqb-true}
+use Rattle.std.proofs.Common.{◌≡◌, ℕ, ◌<◌, ◌⊎◌, inl, inr, ⊎_elim, cond, eqb, Option, None, Some, List, [], ◌∷◌, ◌++◌, map, length, refl, sym, ap, subst, ◌∙◌, arith}
 use Rattle.std.specs.Prelude.{Contains}
-use Rattle.std.proofs.lemmas.Bool.{cond_both, eqb-false, ne_eqb, cases_eq}
-use Rattle.std.proofs.lemmas.List.{length-set, length-append}
+use Rattle.std.proofs.lemmas.Bool.{cond_both, ne_eqb, cases_eq}
+use Rattle.std.proofs.lemmas.List.{length-set}
 use Rattle.rp_base.specs.declared.items.Item.{Item}
 use Rattle.rp_raftstep.specs.declared.messages.Message.{Message}
 use Rattle.rp_raftstep.specs.declared.messages.Message.TheVariants.{Vote, VoteReply, Append, AppendReply, Forward, Snap}
 use Rattle.rp_request.specs.Applied.{AppliedState}
 use Rattle.rp_raftsafe.specs.Proposed.{payloads_of}
-use Rattle.rp_events.specs.declared.node_events.Event.{Event}
-use Rattle.rp_events.specs.declared.node_events.Event.TheVariants as events
 use Rattle.rp_events.specs.declared.replica_events.ReplicaEvent.{ReplicaEvent}
-use Rattle.rp_events.specs.declared.replica_events.ReplicaEvent.TheVariants.{Admit, Ask, Transfer, Collect, Flush, Tick, Deliver, Apply, Cut, Remove, Peek, Restart}
+use Rattle.rp_events.specs.declared.replica_events.ReplicaEvent.TheVariants.{Admit, Deliver}
 use Rattle.rp_events.specs.Replicas.{Replica, Done, started, made_by_snap}
 use Rattle.rp_events.specs.ReplicaEvents.{event}
 use Rattle.rp_events.specs.Nodes.{Node, Status, Absent, Live, Removed, seat, with_seat, after_turn, opened, opened_by, right_base, right_base_term, range_numbers}
-use Rattle.rp_events.specs.NodeEvents.{status_after, after_replica, by_status, live_turn, all_turns, delivered, answered_absent, seat_by_message, acted, step, with_request}
+use Rattle.rp_events.specs.NodeEvents.{status_after, after_replica, by_status, all_turns, delivered, answered_absent, seat_by_message}
 use Rattle.rp_events.specs.Worlds.{World}
-use Rattle.rp_seats.specs.Scenes.{Doing, Gets, doings_of, starting, seen_by, seat_doings, all_doings, message_doings, node_doings, as_event}
+use Rattle.rp_seats.specs.Scenes.{Doing, Gets, doings_of, starting, seen_by, seat_doings, all_doings, message_doings, as_event}
 use Rattle.rp_seats.proofs.Nodes.{seat_same, seat_other, live_within}
 use Rattle.rp_seats.proofs.Scenes.{opened_seat, left_something, handed_seen, handed_start}
 use Rattle.rp_turns.proofs.All.{IsBare, each_once, after_once, after_bare, once_handed, bare_handed}
-use Rattle.rp_bound.proofs.Grows.{IsOther}
 
 -- a replica that has nothing yet
 pub record IsBlank (r : Replica) : Type 0 where

@@ -81,7 +81,8 @@ pub record RangeBelow (w : World) (range : ℕ) (seen : List raft.Event) (top : 
   pub handed : (bytes : List ℕ) → Contains (payloads_of seen) bytes
       → PayloadBelow top (events_of w) (read bytes)
 
--- so it is of each node and of each range
+-- so it is of each node and of each range, at five nodes at most
 pub record AreSmall (w : World) (seen : ℕ → List raft.Event) : Type 0 where
+  pub few : length w ≤ 5
   pub nodes : (node : ℕ) (n : Node) → node_of w node ≡ Some n → NodeBelow n
   pub ranges : (range : ℕ) → (top : ℕ) × RangeBelow w range (seen range) top

@@ -4,7 +4,7 @@ use rp_base::{CmdId, LeaseIndex};
 
 /// What becomes of one proposal before payloads go to Raft (after CockroachDB's proposal buffer and
 /// its refresh). One that stands otherwise than its move wants stays as it is.
-#[derive(Clone, Copy, Debug, PartialEq, Eq)]
+#[derive(Clone, Copy, PartialEq, Eq)]
 pub enum Move {
     /// A waiting one is proposed under this lease index.
     HandsOut { id: CmdId, max: LeaseIndex },

@@ -1,3 +1,4 @@
+pub mod Bounds
 pub mod Dues
 pub mod Proposals
 pub mod Refreshes

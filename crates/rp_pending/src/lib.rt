@@ -2,10 +2,12 @@
 //! that were handed to the log and are proposed again where they were lost.
 #![tactic(auto)]
 
+mod bounds;
 pub mod laws;
 mod lists;
 mod proposals;
 mod refreshes;
+mod shelf;
 mod slots;
 
 pub use lists::Pending;

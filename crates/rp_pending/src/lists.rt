@@ -10,7 +10,7 @@ ghost use Rattle.rp_pending.specs.Turns.{dropped_back, given_up, goes_back_at, h
 
 use crate::proposals::{Change, Proposal};
 use crate::refreshes::{self, Ids, Refresh, Standings};
-use crate::slots::{self, Slots, clear, get, keep_staying, put, take, tidy};
+use crate::shelf::Shelf;
 use rp_base::{CmdId, LeaseIndex, NoMemory, Tick};
 use rp_request::WaitList;
 use std::alloc::Global;
@@ -20,19 +20,18 @@ use std::marker::Model;
 /// distinct, and apart from it the spare room: how many can be added without memory.
 #[derive(Drop)]
 pub struct Pending {
-    slots: Slots,
+    slots: Shelf,
     count: usize,
 }
 
 impl Model for Pending {
     ghost use Rattle.rp_base.specs.Kept.{Kept};
-    ghost use Rattle.indexmap.specs.IndexMap.{spare};
     ghost use Rattle.rp_pending.specs.declared.proposals.Proposal.{Proposal};
     ghost use Rattle.rp_pending.specs.Slots.{proposals_in, AreSound};
 
     ghost Value = { Kept Proposal };
 
-    ghost view = { λ p. record { list = proposals_in p.slots.entries; spare = spare p.slots } };
+    ghost view = { λ p. record { list = proposals_in p.slots.entries; spare = p.slots.spare } };
 
     ghost invariant = { λ p. AreSound p.slots.entries p.count };
 }
@@ -43,7 +42,7 @@ impl Pending {
         ensures { result.list ≡ [] }
     {
         Pending {
-            slots: Slots::new(alloc),
+            slots: Shelf::new(alloc),
             count: 0,
         }
     }
@@ -54,8 +53,7 @@ impl Pending {
         ensures room { OnOk result (n ≤ self.new.spare) }
         ensures kept { self.old.spare ≤ self.new.spare }
     {
-        self.slots.reserve(n)?;
-        Ok(())
+        self.slots.reserve(n)
     }
 
     /// Puts a proposal at the end, without memory.
@@ -67,8 +65,8 @@ impl Pending {
     {
         let id = proposal.id;
         // An empty slot of this id would keep its place.
-        clear(&mut self.slots, id, self.count);
-        put(&mut self.slots, id, proposal);
+        self.slots.clear(id, self.count);
+        self.slots.put(id, proposal);
         self.count += 1;
     }
 
@@ -76,7 +74,7 @@ impl Pending {
     pub fn find(&self, id: CmdId) -> Option<&Proposal>
         ensures { option_copied result ≡ proposal_of id self.now.list }
     {
-        match get(&self.slots, id) {
+        match self.slots.get(id) {
             None => None,
             Some(slot) => slot.as_ref(),
         }
@@ -88,11 +86,11 @@ impl Pending {
         ensures list { self.new.list ≡ without id self.old.list }
         ensures spare { self.old.spare ≤ self.new.spare }
     {
-        match take(&mut self.slots, id) {
+        match self.slots.take(id) {
             None => None,
             Some(taken) => {
                 self.count -= 1;
-                tidy(&mut self.slots, self.count);
+                self.slots.tidy(self.count);
                 Some(taken)
             }
         }
@@ -105,7 +103,7 @@ impl Pending {
         ensures list { self.new.list ≡ with_changed id (proposed max now round) self.old.list }
         ensures spare { self.old.spare ≤ self.new.spare }
     {
-        let _ = slots::change(&mut self.slots, id, Change::Propose { max, now, round });
+        let _ = self.slots.change(id, Change::Propose { max, now, round });
     }
 
     /// The proposal with this id waits for a lease index again.
@@ -114,7 +112,7 @@ impl Pending {
         ensures list { self.new.list ≡ with_changed id waiting_again self.old.list }
         ensures spare { self.old.spare ≤ self.new.spare }
     {
-        let _ = slots::change(&mut self.slots, id, Change::WaitAgain);
+        let _ = self.slots.change(id, Change::WaitAgain);
     }
 
     /// Makes a change of the proposal with this id where it stands as the change wants it, and says
@@ -124,7 +122,7 @@ impl Pending {
         ensures list { self.new.list ≡ turned_at change id self.old.list }
         ensures spare { self.old.spare ≤ self.new.spare }
     {
-        slots::change(&mut self.slots, id, change)
+        self.slots.change(id, change)
     }
 
     /// The proposal with this id is proposed under a lease index, where it waits. It says whether
@@ -179,7 +177,7 @@ impl Pending {
         ensures list { self.new.list ≡ dropped_back lai self.old.list }
         ensures spare { self.old.spare ≤ self.new.spare }
     {
-        keep_staying(&mut self.slots, lai);
+        self.slots.keep_staying(lai);
         self.count = self.slots.len();
     }
 
@@ -188,28 +186,28 @@ impl Pending {
     pub fn first_round(&self) -> Option<u64>
         ensures { result ≡ first_round self.now.list }
     {
-        refreshes::first_round(&self.slots)
+        refreshes::first_round(self.slots.slots())
     }
 
     /// The ids of all pending proposals, in order of admission.
     pub fn ids(&self) -> Result<Ids, NoMemory>
         ensures { IfOk result (λ ids. ids ≡ map (λ p. p.id) self.now.list) }
     {
-        refreshes::ids(&self.slots)
+        refreshes::ids(self.slots.slots())
     }
 
     /// How far all pending proposals have come, in order of admission.
     pub fn standings(&self) -> Result<Standings, NoMemory>
         ensures { IfOk result (λ all. all ≡ map standing self.now.list) }
     {
-        refreshes::standings(&self.slots)
+        refreshes::standings(self.slots.slots())
     }
 
     /// The proposals that wait for a lease index, in order of admission.
     pub fn waiting(&self) -> Result<WaitList, NoMemory>
         ensures { IfOk result (λ w. w ≡ waiting_of self.now.list) }
     {
-        refreshes::waiting(&self.slots)
+        refreshes::waiting(self.slots.slots())
     }
 
     /// What a refresh is to do at a tick, under this lease applied index (CockroachDB's refresh of

@@ -33,7 +33,7 @@ pub struct Proposal {
 }
 
 /// How far a proposal has come.
-#[derive(Clone, Copy, Debug, PartialEq, Eq)]
+#[derive(Clone, Copy, PartialEq, Eq)]
 pub struct Standing {
     pub id: CmdId,
     pub max: LeaseIndex,

@@ -7,7 +7,9 @@ ghost use Rattle.rp_pending.specs.Refreshes.{by_key, first_round, goes_again, go
 ghost use Rattle.rp_pending.specs.Slots.{proposals_in};
 ghost use Rattle.rp_pending.specs.Dues.{again_due, back_due, due, id_of, standing, standing_of};
 
+use crate::bounds::Wanted;
 use crate::proposals::{Proposal, Stage, Standing};
+use crate::shelf::Shelf;
 use crate::slots::Slots;
 use rp_base::{CmdId, LeaseIndex, NoMemory, Seq, Tick};
 use rp_request::{WaitList, Waiting};
@@ -36,7 +38,7 @@ pub(crate) struct Due {
 }
 
 /// A refresh proposes a proposal again after so many ticks.
-const REFRESH_TICKS: u64 = 5;
+pub(crate) const REFRESH_TICKS: u64 = 5;
 
 impl Stage {
     pub(crate) fn is_proposed(self) -> bool
@@ -203,7 +205,7 @@ pub(crate) fn first_round(slots: &Slots) -> Option<u64>
     slots.values().filter_map(|slot| round_in(slot)).min()
 }
 
-fn back_in(slot: &Option<Proposal>, lai: LeaseIndex) -> Option<Due>
+pub(crate) fn back_in(slot: &Option<Proposal>, lai: LeaseIndex) -> Option<Due>
     ensures { result ≡ option_and_then (back_due lai) slot.now }
 {
     match slot {
@@ -212,24 +214,18 @@ fn back_in(slot: &Option<Proposal>, lai: LeaseIndex) -> Option<Due>
     }
 }
 
-fn again_in(slot: &Option<Proposal>, lai: LeaseIndex, now: Tick, all: bool) -> Option<Due>
+pub(crate) fn again_in(
+    slot: &Option<Proposal>,
+    lai: LeaseIndex,
+    now: Tick,
+    all: bool,
+) -> Option<Due>
     ensures { result ≡ option_and_then (again_due lai now all) slot.now }
 {
     match slot {
         None => None,
         Some(proposal) => proposal.again(lai, now, all),
     }
-}
-
-fn back_dues(slots: &Slots, lai: LeaseIndex) -> Result<Vec<Due>, AllocError>
-    ensures { IfOk result
-        (λ v. v.items ≡ filter_map (back_due lai) (proposals_in slots.now.entries)) }
-{
-    let alloc = *slots.allocator();
-    slots
-        .values()
-        .filter_map(|slot| back_in(slot, lai))
-        .collect(alloc)
 }
 
 fn again_dues(slots: &Slots, lai: LeaseIndex, now: Tick, all: bool) -> Result<Vec<Due>, AllocError>
@@ -258,17 +254,29 @@ fn in_order(mut dues: Vec<Due>) -> Result<Ids, NoMemory>
     Ok(Seq::from_vec(ids))
 }
 
-/// What a refresh is to do, in one pass for each list and one sort.
+/// What is proposed again. Where that is not all, blocks in which nothing is due are passed over.
+fn dues_again(shelf: &Shelf, lai: LeaseIndex, now: Tick, all: bool) -> Result<Vec<Due>, AllocError>
+    ensures { IfOk result
+        (λ v. v.items ≡ filter_map (again_due lai now all) (proposals_in shelf.now.entries)) }
+{
+    if !all {
+        return shelf.dues(Wanted::Again { lai, now });
+    }
+    again_dues(shelf.slots(), lai, now, all)
+}
+
+/// What a refresh is to do: of all in one pass, else only where something may be due; and a sort
+/// of what is.
 pub(crate) fn to_refresh(
-    slots: &Slots,
+    shelf: &Shelf,
     lai: LeaseIndex,
     now: Tick,
     all: bool,
 ) -> Result<Refresh, NoMemory>
-    ensures { IfOk result (λ r. r ≡ to_refresh lai now all (proposals_in slots.now.entries)) }
+    ensures { IfOk result (λ r. r ≡ to_refresh lai now all (proposals_in shelf.now.entries)) }
 {
-    let again = again_dues(slots, lai, now, all)?;
-    let back = back_dues(slots, lai)?;
+    let again = dues_again(shelf, lai, now, all)?;
+    let back = shelf.dues(Wanted::Back { lai })?;
     Ok(Refresh {
         again: in_order(again)?,
         back: in_order(back)?,

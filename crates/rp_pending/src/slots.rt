@@ -1,5 +1,5 @@
 //! Slots of proposals, by id and in order of admission.
-ghost use Rattle.std.specs.Prelude.{◌≡◌, ◌+◌, ◌≤◌, ◌<◌, ◌^◌, [], ◌∷◌, ◌++◌, is_some, Option, filter};
+ghost use Rattle.std.specs.Prelude.{◌≡◌, ◌+◌, ◌≤◌, ◌<◌, ◌^◌, [], ◌∷◌, ◌++◌, is_some, length, position, Option, filter};
 ghost use Rattle.std.specs.List.{IsDistinct};
 ghost use Rattle.std.specs.Map.{keys_of, remove_entry};
 ghost use Rattle.std.specs.Option.{option_copied, option_flatten, option_map};
@@ -64,6 +64,14 @@ pub(crate) fn get(slots: &Slots, id: CmdId) -> Option<&Option<Proposal>>
     slots.get(&id)
 }
 
+/// The place of this id's slot, where there is one.
+pub(crate) fn place_of(slots: &Slots, id: CmdId) -> Option<usize>
+    ensures place { result ≡ position (same_id id) (keys_of slots.now.entries) }
+    ensures there { is_some result ≡ is_some (slot_of id slots.now.entries) }
+{
+    slots.get_index_of(&id)
+}
+
 /// Puts a proposal into a new slot at the end, without memory.
 pub(crate) fn put(slots: &mut Slots, id: CmdId, proposal: Proposal)
     requires room { 1 ≤ spare slots.old }
@@ -92,6 +100,8 @@ pub(crate) fn clear(slots: &mut Slots, id: CmdId, count: usize)
     ensures sound { AreSound slots.new.entries count }
     ensures same { proposals_in slots.new.entries ≡ proposals_in slots.old.entries }
     ensures new_id { slot_of id slots.new.entries ≡ None }
+    ensures kept { length slots.new.entries ≡ length slots.old.entries
+        → slots.new.entries ≡ slots.old.entries }
     ensures small { count < 2 ^ 63 }
     ensures spare { spare slots.old ≤ spare slots.new }
 {
@@ -120,6 +130,8 @@ pub(crate) fn tidy(slots: &mut Slots, count: usize)
     requires { AreSound slots.old.entries count }
     ensures sound { AreSound slots.new.entries count }
     ensures same { proposals_in slots.new.entries ≡ proposals_in slots.old.entries }
+    ensures kept { length slots.new.entries ≡ length slots.old.entries
+        → slots.new.entries ≡ slots.old.entries }
     ensures spare { spare slots.old ≤ spare slots.new }
 {
     let empty = slots.len() - count;

@@ -1,10 +1,9 @@
 -- An admission as a turn of each range: one that is refused, and one that is granted.
-use Rattle.std.proofs.Common.{◌≡◌, ℕ, zero, suc, ◌+◌, ◌-◌, ◌^◌, ◌<◌, ◌≤◌, ◌⊎◌, inl, inr, ⊎_elim, Bool, true, false, cond, not, eqb, Option, None, Some, Result, Ok, Err, List, [], ◌∷◌, ◌++◌, map, length, is_some, refl, sym, ap, subst, ◌∙◌, arith, append-nil, eq-eqb}
-use Rattle.std.specs.Prelude.{Contains, IsTrue, ◌&&◌}
-use Rattle.std.specs.List.{find, list_any}
+use Rattle.std.proofs.Common.{◌≡◌, ℕ, zero, suc, ◌-◌, ◌^◌, ◌<◌, ◌≤◌, ⊎_elim, Bool, true, false, cond, eqb, Option, None, Some, Result, Ok, Err, List, [], ◌∷◌, ◌++◌, map, length, refl, sym, ap, subst, ◌∙◌, arith, append-nil, eq-eqb}
+use Rattle.std.specs.Prelude.{IsTrue}
+use Rattle.std.specs.List.{find}
 use Rattle.std.specs.Option.{option_map, option_map_or}
-use Rattle.std.proofs.lemmas.Bool.{cond_both, eqb-false, ne_eqb, cases_eq}
-use Rattle.rp_base.proofs.Elements.{found_some}
+use Rattle.std.proofs.lemmas.Bool.{cond_both, ne_eqb, cases_eq}
 use Rattle.rp_base.proofs.IdLaws.{same_itself, same_is, apart_not_same}
 use Rattle.rp_base.proofs.KeyLaws.{key_inside}
 use Rattle.rp_base.specs.Ids.{same_id}
@@ -17,14 +16,12 @@ use Rattle.rp_request.specs.declared.evaluations.Evaluated.{Evaluated}
 use Rattle.rp_request.specs.declared.outcomes.Outcome.{Outcome}
 use Rattle.rp_request.specs.declared.outcomes.Outcome.TheVariants as outcomes
 use Rattle.rp_request.specs.declared.outcomes.Refusal.{Refusal}
-use Rattle.rp_request.specs.declared.outcomes.Refusal.TheVariants.{NoReplica}
 use Rattle.rp_request.specs.declared.requests.Request.{Request}
 use Rattle.rp_request.specs.declared.requests.Request.TheVariants as requests
 use Rattle.rp_pending.specs.declared.proposals.Proposal.{Proposal}
 use Rattle.rp_raftsafe.specs.World as raft
 use Rattle.rp_raftsafe.specs.World.{IsRange}
-use Rattle.rp_raftsafe.specs.Safety.{OneList, OneListOf}
-use Rattle.rp_raftsafe.specs.Proposed.{payloads_of}
+use Rattle.rp_raftsafe.specs.Safety.{OneList}
 use Rattle.rp_rangesafe.specs.Attempts.{Body, Stage, Unborn, Waiting, Proposed, Success, Refused, Overtaken, Removed, Restarted, IsBorn}
 use Rattle.rp_rangesafe.specs.World as machine
 use Rattle.rp_rangesafe.specs.World.{Commit, MayAdmit, MayCommit, here}
@@ -42,29 +39,28 @@ use Rattle.rp_events.specs.declared.replica_events.ReplicaEvent.TheVariants.{Adm
 use Rattle.rp_events.specs.Admissions.{guarded, admitted_by, proposal, with_proposal}
 use Rattle.rp_events.specs.Replicas.{Replica, Done, lease_of}
 use Rattle.rp_events.specs.ReplicaEvents.{event}
-use Rattle.rp_events.specs.Nodes as nodes
-use Rattle.rp_events.specs.Nodes.{Node, Status, Absent, Live, seat, with_seat}
+use Rattle.rp_events.specs.Nodes.{Node, Status, Live, seat}
 use Rattle.rp_events.specs.NodeEvents.{after_replica, by_status, acted, step, with_request}
 use Rattle.rp_events.specs.Worlds as worlds
 use Rattle.rp_events.specs.Worlds.{World, Scene, node_of, with_node, is_admission_of, ended_of, outcome_by, outcome_at, happens}
 use Rattle.rp_events.specs.Lawful.{is_lawful}
-use Rattle.rp_seats.specs.Scenes.{Doing, doings_of, starting, seen_by, seat_doings, node_doings, as_event, doings_in, raft_events}
+use Rattle.rp_seats.specs.Scenes.{Doing, seen_by, seat_doings, node_doings, raft_events}
 use Rattle.rp_seats.specs.Standing.{SeatOk, RangeOk, Bound}
 use Rattle.rp_seats.specs.Turned.{IsSeated, IsNodeChange, TurnBehind}
-use Rattle.rp_seats.specs.Views.{view, read, range_at}
+use Rattle.rp_seats.specs.Views.{range_at}
 use Rattle.rp_seats.proofs.Admits.{numbered, lawful, admitted_seat}
 use Rattle.rp_seats.proofs.Bound.{bound_behind, commits_quiet}
 use Rattle.rp_seats.proofs.Events as seat_events
 use Rattle.rp_seats.proofs.Nodes.{seat_same, seat_other, live_within}
-use Rattle.rp_seats.proofs.Scenes.{node_change, no_bytes}
+use Rattle.rp_seats.proofs.Scenes.{node_change}
 use Rattle.rp_seats.proofs.Shown.{is_live}
 use Rattle.rp_seats.proofs.Worlds.{scene_seen}
 use Rattle.rp_turns.specs.Fitting.{IsFit, AreFit}
 use Rattle.rp_turns.specs.Turning.{admission, RangeTurned}
 use Rattle.rp_turns.proofs.Scenes as scenes
 use Rattle.rp_turns.proofs.Scenes.{born_before}
-use Rattle.rp_turns.proofs.Seated.{below, has_opened, seated, starts}
-use Rattle.rp_turns.proofs.Tells.{end_in, told_by, no_admission}
+use Rattle.rp_turns.proofs.Seated.{below, seated, starts}
+use Rattle.rp_turns.proofs.Tells.{end_in}
 use Rattle.rp_turns.proofs.Widths.{have_keys}
 
 -- a request of its widths has its keys in the key space

@@ -1,5 +1,5 @@
 -- An event of each live replica of a node, as one range has it: its own, and those of others.
-use Rattle.std.proofs.Common.{◌≡◌, ℕ, zero, suc, ◌+◌, ◌<◌, ◌≤◌, ◌⊎◌, inl, inr, ⊎_elim, false, cond, eqb, Option, None, Some, List, [], ◌∷◌, ◌++◌, map, length, refl, sym, ap, subst, ◌∙◌, arith, append-nil, eqb-true}
+use Rattle.std.proofs.Common.{◌≡◌, ℕ, zero, suc, ◌<◌, ◌≤◌, ◌⊎◌, inl, inr, ⊎_elim, cond, eqb, Option, None, List, [], ◌∷◌, ◌++◌, map, refl, sym, ap, subst, ◌∙◌, arith, append-nil, eqb-true}
 use Rattle.std.specs.Prelude.{Contains, flat_map}
 use Rattle.std.proofs.lemmas.Bool.{cond_both, eqb-false, ne_eqb, cases_eq}
 use Rattle.std.proofs.lemmas.List.Elements.{Contains-append_cases}
@@ -67,31 +67,35 @@ one_of range at more = cond_both (eqb at range) (suc (times range more)) (times 
     (λ is e. inl (eqb-true at range is, omega (arith, e))) (λ ne e. inr (eqb-false at range ne, e))
 
 -- what stands behind in such a list is another, and stood there once
-behind : (at : ℕ) (more : List ℕ) → AreOnce (at ∷ more) → (other : ℕ) → times other more ≡ 1 → (at ≡ other → ⊥) × (times other (at ∷ more) ≡ 1)
+pub behind : (at : ℕ) (more : List ℕ) → AreOnce (at ∷ more) → (other : ℕ) → times other more ≡ 1 → (at ≡ other → ⊥) × (times other (at ∷ more) ≡ 1)
 behind at more once other is = cond_both (eqb at other) (suc (times other more)) (times other more) (λ z. z ≤ 1 → (at ≡ other → ⊥) × (z ≡ 1))
     (λ _ le. absurd (omega (arith, le, is))) (λ ne le. (eqb-false at other ne, is)) (once other)
 
-once_behind : (at : ℕ) (more : List ℕ) → AreOnce (at ∷ more) → AreOnce more
+pub once_behind : (at : ℕ) (more : List ℕ) → AreOnce (at ∷ more) → AreOnce more
 once_behind at more once other = let a = times_more other at more in let c = once other in omega (arith, a, c)
+
+-- the first one stands there once
+pub first_there : (at : ℕ) (more : List ℕ) → AreOnce (at ∷ more) → times at (at ∷ more) ≡ 1
+first_there at more once = cond_both (eqb at at) (suc (times at more)) (times at more) (λ z. z ≤ 1 → z ≡ 1) (λ _ le. omega (arith, le)) (λ ne _. absurd (eqb-false at at ne refl)) (once at)
 
 -- an event that starts no right range
 module _ (e : ReplicaEvent AppliedState) (none : (r : Replica) (ticks round : ℕ) → (event r e ticks round []).right ≡ None) where
-  abbrev done_at : Node → Replica → Done
+  abbrev pub done_at : Node → Replica → Done
   done_at n r = event r e n.ticks n.rounds []
 
   abbrev turned : Node → ℕ → Replica → Node
   turned n at r = after_turn n at (status_after e (done_at n r).replica) (done_at n r)
 
-  live_is : (n : Node) (at : ℕ) (r : Replica) → live_turn e n at (Live r) ≡ turned n at r
+  pub live_is : (n : Node) (at : ℕ) (r : Replica) → live_turn e n at (Live r) ≡ turned n at r
   live_is n at r = ap (opened (turned n at r)) (none r n.ticks n.rounds)
 
   -- what it leaves of a node beside its seats, its outcomes and what it sent
-  record Alike (n m : Node) : Type 0 where
+  pub record Alike (n m : Node) : Type 0 where
     pub ticks : m.ticks ≡ n.ticks
     pub rounds : m.rounds ≡ n.rounds
     pub journal : m.journal ≡ n.journal
 
-  alike_turn : (n : Node) (at : ℕ) (status : Status) → Alike n (live_turn e n at status)
+  pub alike_turn : (n : Node) (at : ℕ) (status : Status) → Alike n (live_turn e n at status)
   alike_turn n at Absent = record { ticks = refl; rounds = refl; journal = refl }
   alike_turn n at (Live r) = subst (Alike n) (sym (live_is n at r)) (record { ticks = refl; rounds = refl; journal = refl })
   alike_turn n at (Removed applied) = record { ticks = refl; rounds = refl; journal = refl }
@@ -123,7 +127,7 @@ module _ (e : ReplicaEvent AppliedState) (none : (r : Replica) (ticks round : �
       append_twice [] ys zs = refl
       append_twice (x ∷ xs) ys zs = ap (λ l. x ∷ l) (append_twice xs ys zs)
 
-  other_seat : (n : Node) (at range : ℕ) → (at ≡ range → ⊥) → (status : Status) → seat (live_turn e n at status) range ≡ seat n range
+  pub other_seat : (n : Node) (at range : ℕ) → (at ≡ range → ⊥) → (status : Status) → seat (live_turn e n at status) range ≡ seat n range
   other_seat n at range ne Absent = refl
   other_seat n at range ne (Live r) = ap (λ (z : Node). seat z range) (live_is n at r) ∙ seat_other n at range (status_after e (done_at n r).replica) ne
   other_seat n at range ne (Removed applied) = refl
@@ -149,7 +153,7 @@ module _ (e : ReplicaEvent AppliedState) (none : (r : Replica) (ticks round : �
     own_turn : (n : Node) (r : Replica) → seat n range ≡ Live r → (at : ℕ) → at ≡ range → live_turn e n at (seat n at) ≡ turned n range r
     own_turn n r live at same = ap (λ i. live_turn e n i (seat n i)) same ∙ ap (live_turn e n range) live ∙ live_is n range r
 
-    same_done : (n m : Node) (r : Replica) → Alike n m → done_at m r ≡ done_at n r
+    pub same_done : (n m : Node) (r : Replica) → Alike n m → done_at m r ≡ done_at n r
     same_done n m r a = ap (λ i. event r e i m.rounds []) a.ticks ∙ ap (λ i. event r e n.ticks i []) a.rounds
 
     pub after_once : (ranges : List ℕ) → times range ranges ≡ 1 → (n : Node) (r : Replica) → seat n range ≡ Live r → seat (all_turns e n ranges) range ≡ status_after e (done_at n r).replica
@@ -168,8 +172,8 @@ module _ (e : ReplicaEvent AppliedState) (none : (r : Replica) (ticks round : �
     after_bare [] n k = refl
     after_bare (at ∷ more) n k =
         let same : seat (live_turn e n at (seat n at)) range ≡ seat n range = ⊎_elim
-            (λ (here : at ≡ range). ap (λ (z : Node). seat z range) (bare_turn n at (seat n at) (subst (λ i. IsBare (seat n i)) (sym here) k)))
-            (λ (there : at ≡ range → ⊥). other_seat n at range there (seat n at)) (cases_eq at range) in
+        (λ (here : at ≡ range). ap (λ (z : Node). seat z range) (bare_turn n at (seat n at) (subst (λ i. IsBare (seat n i)) (sym here) k)))
+        (λ (there : at ≡ range → ⊥). other_seat n at range there (seat n at)) (cases_eq at range) in
         after_bare more (live_turn e n at (seat n at)) (subst IsBare (sym same) k) ∙ same
 
     -- the end of an attempt of this range, among the outcomes
@@ -188,15 +192,12 @@ module _ (e : ReplicaEvent AppliedState) (none : (r : Replica) (ticks round : �
       turn_ends n at (Live r) lack = ap (λ (z : Node). end_in q z.outcomes) (live_is n at r) ∙ lacking q n.outcomes (done_at n r).outcomes (lack r refl)
       turn_ends n at (Removed applied) lack = refl
 
-      once_there : (at : ℕ) (more : List ℕ) → AreOnce (at ∷ more) → times at (at ∷ more) ≡ 1
-      once_there at more once = cond_both (eqb at at) (suc (times at more)) (times at more) (λ z. z ≤ 1 → z ≡ 1) (λ _ le. omega (arith, le)) (λ ne _. absurd (eqb-false at at ne refl)) (once at)
-
       none_ends : (ranges : List ℕ) → AreOnce ranges → times range ranges ≡ 0 → (n : Node) → OthersLack n ranges → end_in q (all_turns e n ranges).outcomes ≡ end_in q n.outcomes
       none_ends [] once c n lack = refl
       none_ends (at ∷ more) once c n lack =
           let k = none_of range at more c in
           none_ends more (once_behind at more once) k.1 (live_turn e n at (seat n at)) (lack_behind at more once n lack)
-          ∙ turn_ends n at (seat n at) (λ r live. lack at k.0 (once_there at more once) r live)
+          ∙ turn_ends n at (seat n at) (λ r live. lack at k.0 (first_there at more once) r live)
 
       pub bare_ends : (ranges : List ℕ) → AreOnce ranges → (n : Node) → IsBare (seat n range) → OthersLack n ranges → end_in q (all_turns e n ranges).outcomes ≡ end_in q n.outcomes
       bare_ends [] once n bare lack = refl
@@ -207,7 +208,7 @@ module _ (e : ReplicaEvent AppliedState) (none : (r : Replica) (ticks round : �
           bare_ends more (once_behind at more once) m (subst (λ (z : Node). IsBare (seat z range)) (sym same) bare) (lack_behind at more once n lack) ∙ ap (λ (z : Node). end_in q z.outcomes) same)
           (λ (there : at ≡ range → ⊥).
           bare_ends more (once_behind at more once) m (subst IsBare (sym (other_seat n at range there (seat n at))) bare) (lack_behind at more once n lack)
-          ∙ turn_ends n at (seat n at) (λ r live. lack at there (once_there at more once) r live))
+          ∙ turn_ends n at (seat n at) (λ r live. lack at there (first_there at more once) r live))
           (cases_eq at range)
 
       pub own_ends : (ranges : List ℕ) → AreOnce ranges → times range ranges ≡ 1 → (n : Node) (r : Replica) → seat n range ≡ Live r → OthersLack n ranges
@@ -221,7 +222,7 @@ module _ (e : ReplicaEvent AppliedState) (none : (r : Replica) (ticks round : �
           (λ (there : (at ≡ range → ⊥) × (times range more ≡ 1)).
           own_ends more (once_behind at more once) there.1 m r (other_seat n at range there.0 (seat n at) ∙ live) (lack_behind at more once n lack)
           ∙ ap (λ (d : Done). end_in q (m.outcomes ++ d.outcomes)) (same_done n m r (alike_turn n at (seat n at)))
-          ∙ further_same q m.outcomes n.outcomes (done_at n r).outcomes (turn_ends n at (seat n at) (λ r' live'. lack at there.0 (once_there at more once) r' live')))
+          ∙ further_same q m.outcomes n.outcomes (done_at n r).outcomes (turn_ends n at (seat n at) (λ r' live'. lack at there.0 (first_there at more once) r' live')))
           (one_of range at more c)
 
     -- what is handed to Raft

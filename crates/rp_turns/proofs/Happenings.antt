@@ -1,7 +1,7 @@
 -- Each kind of scene that admits nothing as a turn of one range.
-use Rattle.std.proofs.Common.{◌≡◌, ℕ, zero, suc, ◌+◌, ◌<◌, ◌⊎◌, inl, inr, ⊎_elim, Bool, true, false, cond, eqb, Option, None, Some, List, [], ◌∷◌, ◌++◌, map, length, refl, sym, ap, subst, ◌∙◌, arith, append-nil, eqb-true}
-use Rattle.std.specs.Prelude.{Contains, IsTrue}
-use Rattle.std.proofs.lemmas.Bool.{cond_both, eqb-false, ne_eqb, cases_eq}
+use Rattle.std.proofs.Common.{◌≡◌, ℕ, ◌<◌, ⊎_elim, true, false, eqb, None, Some, List, [], ◌∷◌, ◌++◌, length, refl, sym, ap, subst, ◌∙◌, arith}
+use Rattle.std.specs.Prelude.{IsTrue}
+use Rattle.std.proofs.lemmas.Bool.{cond_both, cases_eq}
 use Rattle.rp_base.specs.declared.ids.CmdId.{CmdId}
 use Rattle.rp_base.specs.declared.items.Item.{Item}
 use Rattle.rp_raftstep.specs.declared.messages.Message.{Message}
@@ -13,20 +13,18 @@ use Rattle.rp_rangesafe.specs.Attempts.{IsBorn}
 use Rattle.rp_rangesafe.specs.Ranges.{Ranges}
 use Rattle.rp_events.specs.declared.answers.EventAnswer.{EventAnswer}
 use Rattle.rp_events.specs.declared.node_events.Event.{Event}
-use Rattle.rp_events.specs.declared.node_events.Event.TheVariants as events
 use Rattle.rp_events.specs.declared.parcels.Parcel.{Parcel}
 use Rattle.rp_events.specs.declared.replica_events.ReplicaEvent.{ReplicaEvent}
-use Rattle.rp_events.specs.declared.replica_events.ReplicaEvent.TheVariants.{Tick, Deliver, Restart}
+use Rattle.rp_events.specs.declared.replica_events.ReplicaEvent.TheVariants.{Deliver}
 use Rattle.rp_events.specs.Replicas.{Replica, Done, made_by_snap}
 use Rattle.rp_events.specs.ReplicaEvents.{event}
 use Rattle.rp_events.specs.Nodes.{Node, Status, Absent, Live, Removed, seat, with_seat, parcel_of, range_numbers}
-use Rattle.rp_events.specs.NodeEvents.{status_after, after_replica, by_status, live_turn, all_turns, delivered, answered_absent, seat_by_message, acted}
+use Rattle.rp_events.specs.NodeEvents.{status_after, after_replica, by_status, all_turns, delivered, answered_absent, seat_by_message, acted}
 use Rattle.rp_events.specs.Worlds.{World, Scene, node_of, sent_by, event_of, taken_in, is_admission_of, outcome_at}
 use Rattle.rp_events.specs.Lists.{base_of}
 use Rattle.rp_events.specs.Lawful.{is_lawful}
 use Rattle.rp_seats.specs.Scenes.{Doing, Gets, seat_doings, all_doings, message_doings, node_doings}
 use Rattle.rp_seats.specs.Standing.{SeatOk, Bound}
-use Rattle.rp_seats.specs.Steps.{told_after}
 use Rattle.rp_seats.specs.Turned.{SeatTurned, IsJump}
 use Rattle.rp_seats.specs.Views.{range_at}
 use Rattle.rp_seats.proofs.Begins.{made_turn}
@@ -115,7 +113,7 @@ module _ (lists : OneList AppliedState) (w : World) (m : Ranges) (seen : ℕ →
     made : (term index index_term : ℕ) (snapshot : AppliedState) → msg ≡ messages.Snap term index index_term snapshot → at ≡ range → seat n at ≡ Absent → left ≡ answering → Turned
     made term index index_term snapshot is own bare left_is =
         let turn = made_turn x.node range (m.range range) (λ id. outcome_at id n)
-            (subst (λ z. SeatOk (m.range range) x.node range z (λ id. outcome_at id n)) (subst (λ i. seat n i ≡ Absent) own bare) ((b.ranges range there).seats x.node n has)) index snapshot jump n.node n.nodes term from index_term in
+        (subst (λ z. SeatOk (m.range range) x.node range z (λ id. outcome_at id n)) (subst (λ i. seat n i ≡ Absent) own bare) ((b.ranges range there).seats x.node n has)) index snapshot jump n.node n.nodes term from index_term in
         scenes.by_turn lists w m seen b fit x lawful n has ev ev_is range there (Live (made_by_snap n.node n.nodes term from index index_term snapshot)) [] [] turn
         (ap (λ (z : Node). seat z range) left_is ∙ ap (λ i. seat (with_seat n i (seat_by_message n from msg)) range) own ∙ seat_same n range (seat_by_message n from msg) within ∙ ap (seat_by_message n from) is)
         (λ q born. bare_told left_is q (born_before (m.range range) turn.events turn.lawful turn.quiet q born))

@@ -9,3 +9,8 @@ pub mod Happenings
 pub mod Admissions
 pub mod Far
 pub mod Whole
+pub mod Rows
+pub mod States
+pub mod Wide
+pub mod Handed
+pub mod Kept

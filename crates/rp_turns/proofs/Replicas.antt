@@ -1,26 +1,20 @@
 -- An event of a replica that admits nothing, as the machine's part at its seat, whatever its attempts were
 -- told that have ended.
-use Rattle.std.proofs.Common.{◌≡◌, ℕ, ◌+◌, ◌<◌, Bool, true, false, cond, Option, None, Some, Result, Ok, Err, List, [], ◌∷◌, ◌++◌, length, refl, sym, ap, subst, ◌∙◌}
-use Rattle.std.specs.List.{AllByRecursion}
+use Rattle.std.proofs.Common.{◌≡◌, ℕ, ◌+◌, Bool, true, false, cond, Option, None, Some, Err, List, [], refl, sym, ap, subst}
 use Rattle.std.proofs.lemmas.Bool.{cond_both}
 use Rattle.rp_base.specs.declared.ids.CmdId.{CmdId}
 use Rattle.rp_base.specs.declared.items.Item.{Item}
-use Rattle.rp_raftstep.specs.declared.messages.Message.{Message}
 use Rattle.rp_request.specs.Applied.{AppliedState}
 use Rattle.rp_request.specs.declared.commands.Payload.{Payload}
-use Rattle.rp_request.specs.declared.evaluations.Evaluated.{Evaluated}
 use Rattle.rp_request.specs.declared.outcomes.Outcome.{Outcome}
-use Rattle.rp_request.specs.declared.outcomes.Outcome.TheVariants as outcomes
 use Rattle.rp_request.specs.declared.outcomes.Refusal.{Refusal}
 use Rattle.rp_request.specs.declared.outcomes.Refusal.TheVariants.{NotLeaseHolder}
-use Rattle.rp_request.specs.declared.requests.Request.{Request}
 use Rattle.rp_raftsafe.specs.World as raft
 use Rattle.rp_raftsafe.specs.Safety.{OneList}
-use Rattle.rp_rangesafe.specs.Attempts.{Stage, Unborn, Waiting, Proposed, Success, Refused, Overtaken, Removed, Restarted, IsBorn, IsBornAt, Attempt}
+use Rattle.rp_rangesafe.specs.Attempts.{Stage, Unborn, Waiting, Proposed, Success, Refused, Overtaken, Removed, Restarted, IsBorn}
 use Rattle.rp_rangesafe.specs.World as machine
 use Rattle.rp_rangesafe.specs.World.{here}
 use Rattle.rp_events.specs.declared.answers.EventAnswer.TheVariants as answers
-use Rattle.rp_events.specs.declared.parcels.Parcel.{Parcel}
 use Rattle.rp_events.specs.declared.replica_events.ReplicaEvent.{ReplicaEvent}
 use Rattle.rp_events.specs.declared.replica_events.ReplicaEvent.TheVariants.{Admit, Ask, Transfer, Collect, Flush, Tick, Deliver, Apply, Cut, Remove, Peek, Restart}
 use Rattle.rp_events.specs.Replicas.{Replica, Done, leaves, lease_of, holds_lease}
@@ -30,9 +24,7 @@ use Rattle.rp_events.specs.Applications.{payload_of, next_entry, applied_where}
 use Rattle.rp_events.specs.ReplicaEvents.{event}
 use Rattle.rp_events.specs.Nodes.{Node, Live, parcel_of}
 use Rattle.rp_events.specs.NodeEvents.{status_after}
-use Rattle.rp_events.specs.Worlds as worlds
-use Rattle.rp_events.specs.Worlds.{World, node_of, sent_by, outcome_at}
-use Rattle.rp_seats.specs.Views.{range_at}
+use Rattle.rp_events.specs.Worlds.{World, sent_by, outcome_at}
 use Rattle.rp_seats.specs.Standing.{SeatOk}
 use Rattle.rp_seats.specs.Steps.{EndEach}
 use Rattle.rp_seats.specs.Turned.{SeatTurned, IsSeated}
@@ -40,7 +32,7 @@ use Rattle.rp_seats.proofs.Bound.{seat_told}
 use Rattle.rp_seats.proofs.Events as seat_events
 use Rattle.rp_seats.proofs.Messages.{jumps, message_turn}
 use Rattle.rp_seats.proofs.Seats.{quiet_turn, items_seat, flush_turn, tick_turn, apply_turn, remove_turn, restart_turn}
-use Rattle.rp_turns.specs.Fitting.{FitEach, IsFit}
+use Rattle.rp_turns.specs.Fitting.{IsFit}
 use Rattle.rp_turns.proofs.Widths.{fits_pending, fits_flushed, fits_ticked, fits_delivered}
 
 -- what an event brings: a message was sent to the range, and an admission is refused

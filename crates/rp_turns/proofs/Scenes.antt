@@ -1,23 +1,20 @@
 -- A scene as a turn of one range, by what it leaves of the node.
-use Rattle.std.proofs.Common.{◌≡◌, ℕ, zero, suc, ◌+◌, ◌<◌, ◌⊎◌, inl, inr, ⊎_elim, Bool, true, false, cond, eqb, Option, None, Some, List, [], ◌∷◌, ◌++◌, map, length, refl, sym, ap, subst, ◌∙◌, arith, append-nil, eqb-true}
-use Rattle.std.specs.Prelude.{Contains, IsTrue, flat_map}
+use Rattle.std.proofs.Common.{◌≡◌, ℕ, ◌<◌, ⊎_elim, true, false, cond, Option, None, Some, List, [], ◌∷◌, ◌++◌, map, length, refl, sym, ap, subst, ◌∙◌, arith}
+use Rattle.std.specs.Prelude.{Contains, IsTrue}
 use Rattle.std.specs.List.{find}
 use Rattle.std.specs.Option.{option_map_or}
-use Rattle.std.proofs.lemmas.Bool.{cond_both, eqb-false, ne_eqb, cases_eq}
-use Rattle.std.proofs.lemmas.List.Elements.{Contains-append_cases}
+use Rattle.std.proofs.lemmas.Bool.{ne_eqb, cases_eq}
 use Rattle.std.proofs.lemmas.List.{length-set}
 use Rattle.rp_base.specs.declared.ids.CmdId.{CmdId}
 use Rattle.rp_base.specs.declared.items.Item.{Item}
-use Rattle.rp_raftstep.specs.declared.messages.Message.{Message}
 use Rattle.rp_request.specs.Applied.{AppliedState}
 use Rattle.rp_request.specs.declared.outcomes.Outcome.{Outcome}
 use Rattle.rp_raftsafe.specs.World as raft
 use Rattle.rp_raftsafe.specs.Safety.{OneList}
 use Rattle.rp_raftsafe.specs.Proposed.{payloads_of}
-use Rattle.rp_rangesafe.specs.Attempts.{IsBorn, IsBornAt}
+use Rattle.rp_rangesafe.specs.Attempts.{IsBorn}
 use Rattle.rp_rangesafe.specs.World as machine
 use Rattle.rp_rangesafe.specs.World.{AllLawful}
-use Rattle.rp_rangesafe.specs.Places.{IsReached}
 use Rattle.rp_rangesafe.specs.Ranges.{Ranges}
 use Rattle.rp_rangesafe.proofs.Growth.{Admits, made_before}
 use Rattle.rp_rangesafe.proofs.Joint.{range_reached}
@@ -32,21 +29,21 @@ use Rattle.rp_events.specs.Nodes.{Node, Status, Absent, Live, Removed, seat, wit
 use Rattle.rp_events.specs.NodeEvents.{status_after, after_replica, acted, past_of, step}
 use Rattle.rp_events.specs.Worlds.{World, Scene, node_of, with_node, event_of, taken_in, after_step, happens_at, happens, is_admission_of, outcome_at}
 use Rattle.rp_events.specs.Lawful.{is_lawful}
-use Rattle.rp_seats.specs.Scenes.{Doing, Starts, doings_of, starting, seen_by, seat_doings, node_doings, as_event, scene_doings, doings_in, raft_events}
+use Rattle.rp_seats.specs.Scenes.{Doing, doings_of, starting, seen_by, node_doings, as_event, scene_doings, doings_in, raft_events}
 use Rattle.rp_seats.specs.Standing.{SeatOk, RangeOk, Bound}
-use Rattle.rp_seats.specs.Steps.{AdmitsNone, told_after, AreEnds, with_outcomes}
-use Rattle.rp_seats.specs.Turned.{SeatTurned, TurnOk, IsSeated, IsNodeChange}
+use Rattle.rp_seats.specs.Steps.{AdmitsNone, told_after}
+use Rattle.rp_seats.specs.Turned.{SeatTurned, TurnOk}
 use Rattle.rp_seats.proofs.Begins.{start_turn}
 use Rattle.rp_seats.proofs.Nodes.{seat_same, seat_other, live_within, opens_above}
 use Rattle.rp_seats.proofs.Outcomes.{all_told_so}
-use Rattle.rp_seats.proofs.Scenes.{opened_seat, opened_journal, opened_outcomes, left_something, node_change, handed_seen, handed_start, no_bytes, scene_turn}
+use Rattle.rp_seats.proofs.Scenes.{opened_seat, opened_journal, opened_outcomes, left_something, handed_seen, handed_start, scene_turn}
 use Rattle.rp_seats.proofs.Seats.{quiet_turn}
 use Rattle.rp_seats.proofs.Shaped.{length_with}
-use Rattle.rp_turns.specs.Fitting.{IsFit, AreFit}
+use Rattle.rp_turns.specs.Fitting.{AreFit}
 use Rattle.rp_turns.specs.Turning.{RangeTurned}
 use Rattle.rp_turns.proofs.Replicas.{MayHappen, event_turn}
-use Rattle.rp_turns.proofs.Seated.{below, seated, lacks, starts, right_known}
-use Rattle.rp_turns.proofs.Tells.{end_in, Lacks, lacking, told_by, no_admission}
+use Rattle.rp_turns.proofs.Seated.{below, seated, lacks, starts}
+use Rattle.rp_turns.proofs.Tells.{end_in, lacking, told_by, no_admission}
 
 -- what was made in events that admit nothing was made before
 admits_none : (e : machine.Event) (es : List machine.Event) → AdmitsNone (e ∷ es) → ((q : CmdId) → Admits e q → ⊥) × AdmitsNone es
@@ -192,7 +189,7 @@ module _ (lists : OneList AppliedState) (w : World) (m : Ranges) (seen : ℕ →
           other_doings : (at ≡ range → ⊥) → (bytes : List ℕ) → Hands bytes (node_doings range n ev (taken_in x.what)) → ⊥
           other_doings ne bytes c =
               let k = handed_start range w x.node d.right [] bytes
-                  (subst (λ t. Hands bytes (cond t (doings_of number r e d.proposed) [] ++ starting range d.right)) (ne_eqb at range ne) (subst (Hands bytes) doings c)) in
+              (subst (λ t. Hands bytes (cond t (doings_of number r e d.proposed) [] ++ starting range d.right)) (ne_eqb at range ne) (subst (Hands bytes) doings c)) in
               omega (arith, k.1)
 
           -- the start of the range, where it is the right one of a split

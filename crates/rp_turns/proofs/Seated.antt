@@ -1,7 +1,6 @@
 -- The ranges of a world beside the machine: where each replica stands, what its events end, and in which
 -- states its splits start.
-use Rattle.std.proofs.Common.{◌≡◌, ℕ, zero, suc, ◌+◌, ◌^◌, ◌<◌, ◌≤◌, Bool, true, false, Option, None, Some, Result, Ok, Err, List, [], ◌∷◌, ◌++◌, length, refl, sym, ap, subst, ◌∙◌, arith}
-use Rattle.std.specs.Prelude.{IsTrue, not, ◌&&◌}
+use Rattle.std.proofs.Common.{◌≡◌, ℕ, zero, suc, ◌^◌, ◌<◌, ◌≤◌, Bool, true, false, Option, None, Some, Result, Ok, Err, List, [], refl, sym, ap, subst, ◌∙◌, arith}
 use Rattle.std.specs.Option.{option_map_or}
 use Rattle.std.proofs.lemmas.Bool.{cond_both}
 use Rattle.rp_base.specs.declared.ids.CmdId.{CmdId}
@@ -16,8 +15,6 @@ use Rattle.rp_raftsafe.specs.World as raft
 use Rattle.rp_raftsafe.specs.Safety.{OneList}
 use Rattle.rp_rangesafe.specs.Along.{entry}
 use Rattle.rp_rangesafe.specs.Attempts.{IsBorn}
-use Rattle.rp_rangesafe.specs.World as machine
-use Rattle.rp_rangesafe.specs.World.{state_at}
 use Rattle.rp_rangesafe.specs.Ranges.{Ranges}
 use Rattle.rp_rangesafe.proofs.Joint.{one_range, range_reached}
 use Rattle.rp_rangesafe.proofs.Rights.{number_along}
@@ -29,16 +26,13 @@ use Rattle.rp_events.specs.Admissions.{guarded, admitted_by}
 use Rattle.rp_events.specs.Applications.{payload_of, next_entry, applied_where}
 use Rattle.rp_events.specs.Replicas.{Replica, Done}
 use Rattle.rp_events.specs.ReplicaEvents.{event}
-use Rattle.rp_events.specs.Nodes as nodes
 use Rattle.rp_events.specs.Nodes.{Node, Status, Absent, Live, seat}
-use Rattle.rp_events.specs.Worlds.{World, Scene, node_of, event_of, taken_in, happens}
-use Rattle.rp_events.specs.Lawful.{is_lawful}
-use Rattle.rp_seats.specs.Scenes.{node_doings, scene_doings, doings_in, raft_events, as_event, StartsIn}
-use Rattle.rp_seats.specs.Standing.{Bound, IsShut}
+use Rattle.rp_events.specs.Worlds.{World, Scene, node_of, event_of, taken_in}
+use Rattle.rp_seats.specs.Scenes.{node_doings, scene_doings, doings_in, StartsIn}
+use Rattle.rp_seats.specs.Standing.{Bound}
 use Rattle.rp_seats.specs.Turned.{IsSeated}
 use Rattle.rp_seats.proofs.Events as seat_events
-use Rattle.rp_seats.proofs.Nodes.{live_within}
-use Rattle.rp_seats.proofs.Shut.{shut_seat, scene_starts, stays_shut}
+use Rattle.rp_seats.proofs.Shut.{shut_seat, scene_starts}
 use Rattle.rp_turns.specs.Fitting.{IsFit, AreFit}
 use Rattle.rp_turns.proofs.Doings.{EachStart, starts_in, nothing_starts, node_starts}
 use Rattle.rp_turns.proofs.Replicas.{MayHappen, ends_here, not_told_here, told_here}

@@ -12,9 +12,9 @@ use Rattle.rp_events.specs.declared.answers.EventAnswer.{EventAnswer}
 use Rattle.rp_events.specs.declared.answers.EventAnswer.TheVariants as answers
 use Rattle.rp_events.specs.declared.journals.JournalEntry.{JournalEntry}
 use Rattle.rp_events.specs.Nodes.{Node}
-use Rattle.rp_events.specs.Worlds.{is_admission_of, ended_of, outcome_by, outcome_at}
+use Rattle.rp_events.specs.Worlds.{is_admission_of, outcome_by, outcome_at}
 use Rattle.rp_seats.specs.Steps.{tell, EndEach, IsEnd}
-use Rattle.rp_seats.proofs.Outcomes.{found_before, found_behind, journal_told}
+use Rattle.rp_seats.proofs.Outcomes.{found_before, found_behind}
 
 -- the end of an attempt among these
 abbrev pub end_in : CmdId → List Ended → Option Ended

@@ -1,6 +1,6 @@
 -- A lawful scene turns each range.
-use Rattle.std.proofs.Common.{◌≡◌, ℕ, zero, suc, ◌+◌, ◌<◌, ◌≤◌, ◌⊎◌, inl, inr, ⊎_elim, Bool, true, false, cond, not, Option, None, Some, Result, Ok, Err, List, [], ◌∷◌, ◌++◌, map, length, is_some, refl, sym, ap, subst, ◌∙◌, arith, append-nil}
-use Rattle.std.specs.Prelude.{IsTrue, ◌&&◌, ◌||◌, ◌==◌, nat_lt, slice_get}
+use Rattle.std.proofs.Common.{◌≡◌, ℕ, zero, suc, ◌+◌, ◌<◌, ◌≤◌, ⊎_elim, Bool, true, false, cond, not, Option, None, Some, Result, Ok, Err, List, [], ◌∷◌, ◌++◌, map, length, is_some, refl, sym, ap, subst, ◌∙◌, arith, append-nil}
+use Rattle.std.specs.Prelude.{IsTrue, ◌&&◌, ◌||◌, ◌==◌, slice_get}
 use Rattle.std.specs.List.{find, list_any}
 use Rattle.std.specs.Option.{option_map, option_map_or}
 use Rattle.std.proofs.lemmas.Bool.{cases_lt}
@@ -12,7 +12,6 @@ use Rattle.rp_raftstep.specs.declared.messages.Message.{Message}
 use Rattle.rp_request.specs.Applied.{AppliedState}
 use Rattle.rp_request.specs.States.{first_applied}
 use Rattle.rp_request.specs.declared.evaluations.Evaluated.{Evaluated}
-use Rattle.rp_request.specs.declared.outcomes.Outcome.{Outcome}
 use Rattle.rp_request.specs.declared.outcomes.Outcome.TheVariants as outcomes
 use Rattle.rp_request.specs.declared.outcomes.Refusal.{Refusal}
 use Rattle.rp_request.specs.declared.outcomes.Refusal.TheVariants.{NoReplica}
@@ -38,12 +37,10 @@ use Rattle.rp_events.specs.Nodes as nodes
 use Rattle.rp_events.specs.Nodes.{Node, Status, Absent, Live, seat, after_turn, parcel_of, is_full, range_numbers}
 use Rattle.rp_events.specs.NodeEvents.{status_after, after_replica, by_status, delivered, acted, past_of, step, with_request}
 use Rattle.rp_events.specs.Worlds.{World, Scene, Happening, Admit, Ask, Transfer, Collect, Flush, Tick, Deliver, Apply, Cut, Remove, Peek, Restart, Round, node_of, with_node, sent_by, delivery, event_of, taken_in, happens, is_admission_of, asked_at, was_asked, outcome_by, outcome_at}
-use Rattle.rp_events.specs.Lawful.{Lawful, is_allowed, is_lawful, may_begin}
+use Rattle.rp_events.specs.Lawful.{Lawful, is_allowed, is_lawful}
 use Rattle.rp_seats.specs.Scenes.{seat_doings, node_doings, as_event, doings_in, raft_events}
 use Rattle.rp_seats.specs.Standing.{Bound, IsShut}
-use Rattle.rp_seats.specs.Steps.{IsEnd}
-use Rattle.rp_seats.specs.Turned.{IsNodeChange}
-use Rattle.rp_seats.specs.Views.{view, site_of, range_at}
+use Rattle.rp_seats.specs.Views.{view, range_at}
 use Rattle.rp_seats.proofs.Scenes.{node_change, opened_journal, opened_outcomes}
 use Rattle.rp_seats.proofs.Shut.{no_parcel, stays_shut}
 use Rattle.rp_seats.proofs.Worlds.{and_right, view_with, site_seen, same_site}

@@ -1,12 +1,11 @@
 -- What is pending keeps its widths through the moves of a flush and of a refresh, and where some end.
-use Rattle.std.proofs.Common.{◌≡◌, ℕ, ◌+◌, ◌^◌, ◌<◌, ◌≤◌, Bool, true, false, cond, not, Option, None, Some, List, [], ◌∷◌, ◌++◌, map, length, max, refl, sym, subst, arith}
+use Rattle.std.proofs.Common.{◌≡◌, ℕ, ◌+◌, ◌^◌, ◌<◌, ◌≤◌, Bool, true, false, cond, not, Option, None, Some, List, [], ◌∷◌, ◌++◌, map, length, max, refl, subst, arith}
 use Rattle.std.specs.List.{AllByRecursion, filter}
 use Rattle.std.specs.Option.{option_map_or}
 use Rattle.std.proofs.lemmas.Bool.{cond_both}
-use Rattle.rp_base.proofs.Elements.{all_append, all_filter}
+use Rattle.rp_base.proofs.Elements.{all_filter}
 use Rattle.rp_base.specs.declared.ids.CmdId.{CmdId}
 use Rattle.rp_flush.specs.Assigns.{numbered, once, ids_of, waits_under, last_after}
-use Rattle.rp_flush.specs.declared.assigns.Assigned.{Assigned}
 use Rattle.rp_raftstep.specs.declared.messages.Message.{Message}
 use Rattle.rp_raftstep.specs.Step.{Draft, tick, received}
 use Rattle.rp_request.specs.Applied.{AppliedState}
@@ -15,8 +14,10 @@ use Rattle.rp_pending.specs.declared.refreshes.Refresh.{Refresh}
 use Rattle.rp_pending.specs.Proposals.{has_id, proposal_of, without, with_changed, is_proposed, proposed, waiting_again}
 use Rattle.rp_pending.specs.Refreshes.{goes_back, waiting_of}
 use Rattle.rp_events.specs.Flushes.{assigning, emptied, flush_moves, flushed}
-use Rattle.rp_events.specs.Moves.{Move, HandsOut, GivesUp, TakesBack, Repeats, hands_out, gives_up, takes_back, repeats, moved, moved_all, then_is, proposed_under, waits_again, hands_to_raft}
-use Rattle.rp_events.specs.Refreshes.{refreshing, refreshed_by, refresh_moves, ticked, delivered, delivered_by, with_taken}
+use Rattle.rp_events.specs.declared.moves.Move.{Move}
+use Rattle.rp_events.specs.declared.moves.Move.TheVariants.{HandsOut, GivesUp, TakesBack, Repeats}
+use Rattle.rp_events.specs.Moves.{hands_out, gives_up, takes_back, repeats, moved, moved_all, then_is, proposed_under, waits_again, hands_to_raft}
+use Rattle.rp_events.specs.Refreshes.{refreshing, refreshed_by, refresh_moves, ticked, delivered, with_taken}
 use Rattle.rp_events.specs.Replicas.{Replica, Told, untold, lease_of, has_new_leader}
 use Rattle.rp_seats.specs.Turned.{FitsPending, HaveKeys}
 use Rattle.rp_turns.specs.Fitting.{FitsOne, FitEach, HasKeysOne, IsFit}

@@ -1,10 +1,11 @@
-use Rattle.std.proofs.Common.{arith, sym, subst, ap, ◌∙◌}
+use Rattle.std.proofs.Common.{length, arith, sym, subst, ap, ◌∙◌}
 use Rattle.std.specs.List.{IsDistinct}
 use Rattle.std.specs.Map.{keys_of}
 use Rattle.rp_base.specs.Ids.{same_id}
 use Rattle.rp_pending.specs.Slots.{proposals_in, AreSound}
 use Rattle.rp_pending.proofs.Finding.{compacted, no_more}
 use Rattle.rp_pending.proofs.Keeping.{sound_compacted}
+use Rattle.rp_pending.proofs.Passing.{none_cut}
 use Rattle.rp_pending.proofs.slots.tidy.Goals as goal
 
 pub overflow_sub-empty : goal.overflow_sub-empty
@@ -19,3 +20,7 @@ returns-then-empty-gt-FEW_SLOTS-clause-sound c =
 
 pub returns-then-empty-gt-FEW_SLOTS-clause-same : goal.returns-then-empty-gt-FEW_SLOTS-clause-same
 returns-then-empty-gt-FEW_SLOTS-clause-same c = ap proposals_in c.compact.ensures.entries ∙ (compacted c.args.slots.now.entries c.requires.named).0
+
+pub returns-then-empty-gt-FEW_SLOTS-clause-kept : goal.returns-then-empty-gt-FEW_SLOTS-clause-kept
+returns-then-empty-gt-FEW_SLOTS-clause-kept c same =
+    let e = c.compact.ensures.entries in e ∙ none_cut _ c.args.slots.now.entries (ap length (sym e) ∙ same)

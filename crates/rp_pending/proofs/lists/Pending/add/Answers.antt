@@ -15,9 +15,9 @@ pub invariant_of-self : goal.invariant_of-self
 invariant_of-self c =
     let e = c.put.ensures.entries in
     subst (λ fs. AreSound fs (c.self.inside.count + 1)) (sym e)
-    (sound_more c.args.proposal.id c.clear.new.slots.entries _ c.clear.ensures.sound c.args.proposal refl (subst (λ fs. IsDistinct same_id (keys_of fs)) e c.put.ensures.distinct))
+    (sound_more c.args.proposal.id c.clear.new.self.entries _ c.clear.ensures.sound c.args.proposal refl (subst (λ fs. IsDistinct same_id (keys_of fs)) e c.put.ensures.distinct))
 
 pub returns-clause-list : goal.returns-clause-list
 returns-clause-list c =
-    ap proposals_in c.put.ensures.entries ∙ one_more_in c.args.proposal.id c.clear.new.slots.entries _ c.clear.ensures.sound c.args.proposal
+    ap proposals_in c.put.ensures.entries ∙ one_more_in c.args.proposal.id c.clear.new.self.entries _ c.clear.ensures.sound c.args.proposal
     ∙ ap (λ ps. ps ++ c.args.proposal ∷ []) (c.clear.ensures.same ∙ ap (λ v. v.list) c.self.view_is)

@@ -7,7 +7,7 @@ use Rattle.rp_pending.proofs.lists.Pending.drop_back.Goals as goal
 pub invariant_of-self : goal.invariant_of-self
 invariant_of-self c =
     let k = c.keep_staying.ensures in
-    subst (λ n. AreSound c.keep_staying.new.slots.entries n) (sym c.len-self-inside.ensures.len) (kept_staying c.args.lai _ _ _ c.self.invariant k.entries k.distinct).0
+    subst (λ n. AreSound c.keep_staying.new.self.entries n) (sym c.len-self-inside.ensures.len) (kept_staying c.args.lai _ _ _ c.self.invariant k.entries k.distinct).0
 
 pub returns-clause-list : goal.returns-clause-list
 returns-clause-list c =
