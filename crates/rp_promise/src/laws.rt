@@ -4,11 +4,12 @@ ghost use Rattle.rp_request.specs.Applied.{AppliedState};
 ghost use Rattle.rp_raftsafe.specs.World as raft;
 ghost use Rattle.rp_raftsafe.specs.Safety.{OneList};
 ghost use Rattle.rp_rangesafe.specs.Ranges.{Ranges, AreLater};
+ghost use Rattle.rp_events.specs.Journals.{Replays};
 ghost use Rattle.rp_events.specs.Lawful.{IsReached, Lawful};
 ghost use Rattle.rp_events.specs.Promises.{Promise};
 ghost use Rattle.rp_events.specs.Worlds.{World, Scene, first_world, happens};
 ghost use Rattle.rp_seats.specs.Standing.{Bound};
-ghost use Rattle.rp_turns.specs.Fitting.{AreFit};
+ghost use Rattle.rp_journals.specs.Alike.{AllKeepSame};
 ghost use Rattle.rp_promise.specs.Records.{AllRecords};
 ghost use Rattle.rp_promise.specs.Beside.{AreAdmitted, IsPromising};
 
@@ -49,8 +50,15 @@ pub fn a_world_keeps_the_promise()
         → (seen : ℕ → List raft.Event) → IsPromising lists nodes w m seen → Promise w }
 {}
 
-/// Every reached world keeps the promise, where in each of them what the replicas hold has its widths.
-pub fn the_promise_is_kept_where_all_fits()
-    ensures { (nodes : ℕ) → ((w : World) → IsReached nodes w → AreFit w) → (w : World)
-        → IsReached nodes w → Promise w }
+/// The promise is kept. For every lawful list of events of one to five nodes with up to eight ranges,
+/// whatever is lost, repeated, reordered, split, moved or restarted: each client command takes effect at
+/// most once, under the lease it was proposed with and inside its range; every replica's table is the fold
+/// of a prefix of its range's one applied list; Success is the reply at that place, Refused means never,
+/// Ambiguous comes only where a snapshot passed its lease index, its replica was removed or its node
+/// restarted while pending. So it is for nodes that are what their journals say, and have kept what those
+/// of such a world have kept.
+pub fn the_promise_is_kept()
+    ensures reached { (nodes : ℕ) (w : World) → IsReached nodes w → Promise w }
+    ensures told { (nodes : ℕ) (w : World) (v : World) → IsReached nodes w → Replays v
+        → AllKeepSame w v → Promise v }
 {}
