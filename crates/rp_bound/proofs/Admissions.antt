@@ -1,5 +1,5 @@
 -- A lawful admission is of an attempt that the machine may begin.
-use Rattle.std.proofs.Common.{◌≡◌, ℕ, ◌<◌, Bool, true, false, ◌⊎◌, inl, inr, Option, None, Some, List, refl, sym, ap, subst, ◌∙◌, arith, eqb-true}
+use Rattle.std.proofs.Common.{◌≡◌, ℕ, ◌<◌, Bool, true, false, ◌⊎◌, inl, inr, Option, None, Some, List, refl, subst, arith, eqb-true}
 use Rattle.std.specs.Prelude.{not, ◌&&◌, ◌||◌, ◌==◌, nat_lt, IsTrue}
 use Rattle.std.specs.Option.{option_map_or}
 use Rattle.std.proofs.lemmas.Bool.{cases_eq}
@@ -14,7 +14,6 @@ use Rattle.rp_request.specs.declared.outcomes.Refusal.{Refusal}
 use Rattle.rp_request.specs.declared.requests.Request.{Request}
 use Rattle.rp_raftsafe.specs.World as raft
 use Rattle.rp_raftsafe.specs.Safety.{OneList}
-use Rattle.rp_rangesafe.specs.Attempts.{IsBorn}
 use Rattle.rp_rangesafe.specs.Ranges.{Ranges, Owner, Nobody, Turned, At, IsRefusedAt, IsRefused, MayBegin}
 use Rattle.rp_events.specs.Nodes.{Node, seat, is_full}
 use Rattle.rp_events.specs.Worlds.{World, Scene, Happening, Admit, Ask, Transfer, Collect, Flush, Tick, Deliver, Apply, Cut, Remove, Peek, Restart, Round, node_of, outcome_at, outcome_of, asked_request, was_asked}
@@ -108,8 +107,10 @@ module _ (lists : OneList AppliedState) (w : World) (m : Ranges) (seen : ℕ →
       go true e h = inl (eqb-true id.attempt 1 e)
       go false e h =
           let both = and_left (nat_lt 1 id.attempt && was_refused w (previous id)) (same_asked id request) h in
-          inr (above_one id.attempt (and_left (nat_lt 1 id.attempt) (was_refused w (previous id)) both),
-          refused_before (previous id) (and_right (nat_lt 1 id.attempt) (was_refused w (previous id)) both))
+          inr (
+            above_one id.attempt (and_left (nat_lt 1 id.attempt) (was_refused w (previous id)) both),
+            refused_before (previous id) (and_right (nat_lt 1 id.attempt) (was_refused w (previous id)) both),
+          )
 
   pub scene_new : (node : ℕ) (what : Happening) → IsTrue (is_allowed w node what) → IsNew m what
   scene_new node (Admit range id request) may = (begins_lawful id request may).new

@@ -1,5 +1,5 @@
 -- What the nodes tell of an attempt, beside whether one was asked and beside the machine.
-use Rattle.std.proofs.Common.{◌≡◌, ℕ, zero, suc, Bool, true, false, cond, Option, None, Some, List, [], ◌∷◌, refl, sym, ap, subst, ◌∙◌}
+use Rattle.std.proofs.Common.{◌≡◌, ℕ, zero, suc, Bool, true, false, cond, Option, None, Some, List, [], ◌∷◌, refl, ap, ◌∙◌}
 use Rattle.std.specs.Prelude.{◌||◌, slice_get, option_and_then}
 use Rattle.std.specs.Option.{option_map}
 use Rattle.std.specs.List.{list_any, find}
@@ -10,7 +10,7 @@ use Rattle.rp_request.specs.declared.outcomes.Ambiguity.{Ambiguity}
 use Rattle.rp_request.specs.declared.outcomes.Refusal.{Refusal}
 use Rattle.rp_pending.specs.declared.proposals.Proposal.{Proposal}
 use Rattle.rp_pending.specs.Proposals.{proposal_of}
-use Rattle.rp_rangesafe.specs.Attempts.{Stage, Unborn, Waiting, Proposed, Success, Refused, Overtaken, Removed, Restarted, Attempt, IsBorn, IsBornAt}
+use Rattle.rp_rangesafe.specs.Attempts.{Stage, Unborn, Waiting, Proposed, Success, Refused, Overtaken, Removed, Restarted, IsBornAt}
 use Rattle.rp_rangesafe.specs.World as machine
 use Rattle.rp_events.specs.declared.journals.JournalEntry.{JournalEntry}
 use Rattle.rp_events.specs.Nodes.{Node, Status}

@@ -1,5 +1,5 @@
 -- The nodes of the first world are bound to the first range, and each other one is shut.
-use Rattle.std.proofs.Common.{◌≡◌, ℕ, zero, suc, ◌<◌, ◌≤◌, Bool, true, false, cond, eqb, List, [], ◌∷◌, map, length, get_or, replicate, Option, None, Some, refl, sym, ap, subst, ◌∙◌, eqb-true}
+use Rattle.std.proofs.Common.{◌≡◌, ℕ, zero, suc, ◌<◌, ◌≤◌, Bool, true, false, List, [], ◌∷◌, map, length, get_or, replicate, None, Some, refl, sym, ap, subst, ◌∙◌, eqb-true}
 use Rattle.std.proofs.lemmas.Bool.{eqb-false}
 use Rattle.std.specs.Prelude.{◌==◌}
 use Rattle.rp_base.specs.declared.ids.CmdId.{CmdId}
@@ -10,12 +10,12 @@ use Rattle.rp_raftsafe.specs.World as raft
 use Rattle.rp_raftsafe.specs.Safety.{OneList}
 use Rattle.rp_rangesafe.specs.World as machine
 use Rattle.rp_rangesafe.specs.World.{begin, run}
-use Rattle.rp_rangesafe.specs.Ranges.{Ranges, In, Nobody, AreReached, at_first, after_steps}
+use Rattle.rp_rangesafe.specs.Ranges.{Ranges, In, AreReached, at_first, after_steps}
 use Rattle.rp_rangesafe.proofs.Runs.{run_start}
 use Rattle.rp_rangesafe.proofs.Holders.{range_holder}
-use Rattle.rp_events.specs.Nodes.{Node, Status, Absent, seat, first_node}
+use Rattle.rp_events.specs.Nodes.{Node, Absent, first_node}
 use Rattle.rp_events.specs.Worlds.{World, first_world, node_of, outcome_at}
-use Rattle.rp_seats.specs.Views.{core_of, site_of, view, range_at}
+use Rattle.rp_seats.specs.Views.{core_of, site_of}
 use Rattle.rp_seats.specs.Standing.{RangeOk, IsShut, IsOwned, Bound}
 use Rattle.rp_seats.specs.Turned.{begins_at_all, FirstOk}
 use Rattle.rp_seats.proofs.Opens.{first_is, first_length, first_shaped, first_ok}
@@ -27,7 +27,7 @@ use Rattle.rp_bound.proofs.Next.{begun_ok}
 abbrev bare : raft.Site AppliedState
 bare = record { status = raft.Absent; sent = [] }
 
-all_absent : (n place : ℕ) → get_or (replicate n Absent) place Absent ≡ Absent
+pub all_absent : (n place : ℕ) → get_or (replicate n Absent) place Absent ≡ Absent
 all_absent zero place = refl
 all_absent (suc n) zero = refl
 all_absent (suc n) (suc place) = all_absent n place

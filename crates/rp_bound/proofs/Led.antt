@@ -1,17 +1,15 @@
 -- What a scene admits, as the first step of all ranges.
-use Rattle.std.proofs.Common.{◌≡◌, ℕ, Bool, true, false, cond, eqb, ◌⊎◌, inl, inr, Option, None, Some, List, [], ◌∷◌, ◌++◌, refl, sym, ap, subst, ◌∙◌, eqb-true, eq-eqb}
-use Rattle.std.proofs.lemmas.Bool.{cond_both, ne_eqb, cases_eq}
-use Rattle.rp_base.specs.Ids.{same_id}
+use Rattle.std.proofs.Common.{◌≡◌, ℕ, true, cond, ◌⊎◌, inl, inr, Option, None, Some, [], ◌∷◌, refl, sym, ap, subst, ◌∙◌, eq-eqb}
+use Rattle.std.proofs.lemmas.Bool.{ne_eqb, cases_eq}
 use Rattle.rp_base.specs.declared.ids.CmdId.{CmdId}
 use Rattle.rp_base.proofs.IdLaws.{equal_same, apart_not_same, id_cases}
-use Rattle.rp_request.specs.declared.outcomes.Outcome.{Outcome}
 use Rattle.rp_request.specs.declared.outcomes.Outcome.TheVariants as outcomes
 use Rattle.rp_request.specs.declared.outcomes.Refusal.{Refusal}
 use Rattle.rp_request.specs.declared.requests.Request.{Request}
 use Rattle.rp_rangesafe.specs.Attempts.{Body, IsBornAt}
 use Rattle.rp_rangesafe.specs.World as machine
 use Rattle.rp_rangesafe.specs.World.{Event, AllLawful, MayAdmit}
-use Rattle.rp_rangesafe.specs.Ranges.{Ranges, Owner, Nobody, Turned, At, Step, In, Turn_away, MayBegin, with_owner, after_event, after_step, AreLater}
+use Rattle.rp_rangesafe.specs.Ranges.{Ranges, Owner, Turned, At, In, Turn_away, MayBegin, with_owner, after_event, after_step, AreLater}
 use Rattle.rp_rangesafe.proofs.Tables.{node_same, node_other, at_same}
 use Rattle.rp_events.specs.Nodes.{Node}
 use Rattle.rp_events.specs.Worlds.{World, Happening, Admit, Ask, Transfer, Collect, Flush, Tick, Deliver, Apply, Cut, Remove, Peek, Restart, Round, node_of, outcome_at}

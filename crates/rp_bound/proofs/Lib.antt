@@ -7,4 +7,12 @@ pub mod Led
 pub mod Owners
 pub mod Next
 pub mod First
+pub mod Counts
+pub mod Grows
+pub mod Heights
+pub mod Seats
+pub mod Work
+pub mod Grown
+pub mod Small
+pub mod Starts
 pub mod Along

@@ -1,6 +1,6 @@
 -- A lawful scene leaves the nodes bound to the ranges, which have gone on.
-use Rattle.std.proofs.Common.{◌≡◌, ℕ, zero, suc, ◌<◌, Bool, true, false, ◌⊎◌, inl, inr, Option, None, Some, List, [], ◌∷◌, ◌++◌, length, refl, sym, ap, subst, ◌∙◌, arith}
-use Rattle.std.specs.Prelude.{IsTrue, slice_get}
+use Rattle.std.proofs.Common.{◌≡◌, ℕ, zero, suc, ◌<◌, Bool, true, false, ◌⊎◌, inl, inr, Some, List, [], ◌∷◌, ◌++◌, length, refl, sym, ap, subst, ◌∙◌, arith}
+use Rattle.std.specs.Prelude.{IsTrue}
 use Rattle.std.proofs.lemmas.Option.{slice_get_within}
 use Rattle.rp_base.specs.declared.ids.CmdId.{CmdId}
 use Rattle.rp_request.specs.Applied.{AppliedState}
@@ -9,13 +9,12 @@ use Rattle.rp_raftsafe.specs.World.{IsRange}
 use Rattle.rp_raftsafe.specs.Safety.{OneList}
 use Rattle.rp_rangesafe.specs.World as machine
 use Rattle.rp_rangesafe.specs.World.{Event, AllLawful, begin, run}
-use Rattle.rp_rangesafe.specs.Ranges.{Ranges, Owner, Nobody, AreReached, AreLater}
+use Rattle.rp_rangesafe.specs.Ranges.{Ranges, Nobody, AreReached, AreLater}
 use Rattle.rp_rangesafe.proofs.Runs.{run_start, run_further}
 use Rattle.rp_rangesafe.proofs.Holders.{range_holder}
 use Rattle.rp_events.specs.Nodes.{Node}
 use Rattle.rp_events.specs.Worlds.{World, Scene, Happening, Admit, Ask, Transfer, Collect, Flush, Tick, Deliver, Apply, Cut, Remove, Peek, Restart, Round, node_of, happens}
 use Rattle.rp_events.specs.Lawful.{is_allowed, Lawful}
-use Rattle.rp_seats.specs.Views.{range_at}
 use Rattle.rp_seats.specs.Scenes.{raft_events}
 use Rattle.rp_seats.specs.Standing.{RangeOk, IsShut, IsOwned, Bound}
 use Rattle.rp_seats.specs.Steps.{AdmitsNone}

@@ -3,7 +3,7 @@ use Rattle.std.proofs.Common.{◌≡◌, ℕ, zero, suc, ◌<◌, ◌≤◌, Boo
 use Rattle.std.proofs.lemmas.Bool.{cases_lt}
 use Rattle.rp_base.specs.declared.ids.CmdId.{CmdId}
 use Rattle.rp_request.specs.Applied.{AppliedState}
-use Rattle.rp_rangesafe.specs.World.{World, Event, AllLawful, begin, run}
+use Rattle.rp_rangesafe.specs.World.{Event, AllLawful, begin, run}
 use Rattle.rp_rangesafe.specs.Ranges.{Ranges, Step, In, at_first, AreLawful, AreReached, AreLater, after_step, after_steps}
 use Rattle.rp_seats.specs.Steps.{AdmitsNone}
 use Rattle.rp_bound.proofs.Quiet.{Went, quiet_went}
@@ -90,14 +90,17 @@ module _ (m : Ranges) (es : ℕ → List Event) where
 
   module _ (lawful : (q : ℕ) → m.opened q ≡ true → AllLawful (m.range q) (es q)) (quiet : (q : ℕ) → m.opened q ≡ true → AdmitsNone (es q)) where
     pub each_upto : (k : ℕ) → (v : Ranges) × Upto m es k v
-    each_upto zero = (m, record {
-      onward = onward_itself m;
-      owner = λ id. refl;
-      opened = λ q o. o;
-      done = λ q l o. absurd (omega (arith, l));
-      still = λ q l o. refl;
-      shut = λ q o now. absurd (not_both (m.opened q) now o);
-    })
+    each_upto zero = (
+      m,
+      record {
+        onward = onward_itself m;
+        owner = λ id. refl;
+        opened = λ q o. o;
+        done = λ q l o. absurd (omega (arith, l));
+        still = λ q l o. refl;
+        shut = λ q o now. absurd (not_both (m.opened q) now o);
+      },
+    )
     each_upto (suc k) = one_more (each_upto k) (m.opened k) refl where
       one_more : (v : Ranges) × Upto m es k v → (b : Bool) → m.opened k ≡ b → (v : Ranges) × Upto m es (suc k) v
       one_more u false e = (u.0, skipped k u.0 e u.1)

@@ -1,17 +1,14 @@
 -- What the nodes tell of each attempt after a scene, beside where it was made.
-use Rattle.std.proofs.Common.{◌≡◌, ℕ, zero, suc, true, ◌⊎◌, inl, inr, Option, None, Some, List, [], ◌∷◌, ◌++◌, set, refl, sym, ap, subst, ◌∙◌}
+use Rattle.std.proofs.Common.{◌≡◌, ℕ, zero, suc, Option, None, Some, List, [], ◌∷◌, set, refl, sym, subst, ◌∙◌}
 use Rattle.std.specs.Prelude.{slice_get}
 use Rattle.std.specs.Option.{option_map_or}
 use Rattle.rp_base.specs.declared.ids.CmdId.{CmdId}
 use Rattle.rp_request.specs.Applied.{AppliedState}
-use Rattle.rp_request.specs.declared.outcomes.Outcome.{Outcome}
 use Rattle.rp_request.specs.declared.outcomes.Outcome.TheVariants as outcomes
 use Rattle.rp_raftsafe.specs.World as raft
 use Rattle.rp_raftsafe.specs.Safety.{OneList}
-use Rattle.rp_rangesafe.specs.Attempts.{Body, IsBornAt}
-use Rattle.rp_rangesafe.specs.Places.{IsLater}
+use Rattle.rp_rangesafe.specs.Attempts.{Body}
 use Rattle.rp_rangesafe.specs.Ranges.{Ranges, Owner, Nobody, Turned, At, AreReached, AreLater}
-use Rattle.rp_rangesafe.proofs.Growth.{Same}
 use Rattle.rp_rangesafe.proofs.Runs.{later_grown}
 use Rattle.rp_rangesafe.proofs.Joint.{range_goes_on}
 use Rattle.rp_events.specs.declared.node_events.Event.{Event}

@@ -1,11 +1,10 @@
 -- Events of one range, none of which admits, as steps of all ranges.
-use Rattle.std.proofs.Common.{◌≡◌, ℕ, Bool, true, false, cond, eqb, List, [], ◌∷◌, map, length, Option, None, Some, refl, sym, ap, subst, ◌∙◌, eqb-true}
-use Rattle.std.proofs.lemmas.Bool.{cond_both, cases_eq}
+use Rattle.std.proofs.Common.{◌≡◌, ℕ, Bool, true, false, cond, List, [], ◌∷◌, map, length, Option, None, Some, refl, sym, subst, ◌∙◌}
 use Rattle.rp_base.specs.declared.ids.CmdId.{CmdId}
 use Rattle.rp_request.specs.Applied.{AppliedState}
 use Rattle.rp_request.specs.States.{right_of}
 use Rattle.rp_rangesafe.specs.World.{World, Event, Admit, Flush, Return, Refuse, Commit, Apply, Snapshot, Remove, Restart, AllLawful, begin, happens, run, state_at, with_node}
-use Rattle.rp_rangesafe.specs.Ranges.{Ranges, Begins, Step, In, with_right, within, after_event, AreLawful, after_steps}
+use Rattle.rp_rangesafe.specs.Ranges.{Ranges, Begins, In, with_right, within, after_event, AreLawful, after_steps}
 use Rattle.rp_rangesafe.proofs.Tables.{node_same, node_other, at_with_node}
 use Rattle.rp_seats.specs.Steps.{AdmitsNone}
 

@@ -1,3 +1,4 @@
+pub mod Allows
 pub mod Replicas
 pub mod Moves
 pub mod Admissions

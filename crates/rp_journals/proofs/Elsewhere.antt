@@ -200,7 +200,7 @@ event_there w other g worlds.Restart e is = is
 event_there w other g worlds.Round e is = is
 
 -- a lawful scene is an event
-event_some : (w : World) (node : ℕ) (what : Happening) → is_allowed w node what ≡ true → (e : Event AppliedState) × (event_of w what ≡ Some e)
+pub event_some : (w : World) (node : ℕ) (what : Happening) → is_allowed w node what ≡ true → (e : Event AppliedState) × (event_of w what ≡ Some e)
 event_some w node (worlds.Admit range id request) h = (_, refl)
 event_some w node (worlds.Ask range) h = (_, refl)
 event_some w node (worlds.Transfer range to) h = (_, refl)
@@ -219,11 +219,11 @@ event_some w node (worlds.Peek range key) h = (_, refl)
 event_some w node worlds.Restart h = (_, refl)
 event_some w node worlds.Round h = (_, refl)
 
-happens_is : (w : World) (x : Scene) (n : Node) (e : Event AppliedState) → node_of w x.node ≡ Some n → event_of w x.what ≡ Some e → happens w x ≡ with_node w x.node (step n e (taken_in x.what)).node
+pub happens_is : (w : World) (x : Scene) (n : Node) (e : Event AppliedState) → node_of w x.node ≡ Some n → event_of w x.what ≡ Some e → happens w x ≡ with_node w x.node (step n e (taken_in x.what)).node
 happens_is w x n e has came = ap (λ o. option_map_or (happens_at w x) o w) has ∙ ap (λ o. option_map_or (after_step w x.node n (taken_in x.what)) o w) came
 
 -- a lawful scene has its node
-lawful_node : (w : World) (x : Scene) → is_lawful w x ≡ true → (n : Node) × (node_of w x.node ≡ Some n) × (is_allowed w x.node x.what ≡ true)
+pub lawful_node : (w : World) (x : Scene) → is_lawful w x ≡ true → (n : Node) × (node_of w x.node ≡ Some n) × (is_allowed w x.node x.what ≡ true)
 lawful_node w x l = go (node_of w x.node) refl l where
   go : (o : Option Node) → node_of w x.node ≡ o → option_map_or (λ (k : Node). not (is_full k) && is_allowed w x.node x.what) o false ≡ true → (n : Node) × (node_of w x.node ≡ Some n) × (is_allowed w x.node x.what ≡ true)
   go None has h = absurd cc

@@ -14,3 +14,8 @@ pub mod Telling
 pub mod Waiting
 pub mod Elsewhere
 pub mod Alike
+pub mod Sizes
+pub mod Within
+pub mod Inboxes
+pub mod Handing
+pub mod Bounding

@@ -14,4 +14,5 @@ pub record KeepsSame (n m : Node) : Type 0 where
 -- and two worlds of such nodes
 pub record AllKeepSame (w v : World) : Type 0 where
   pub size : length v ≡ length w
-  pub each : (node : ℕ) (n m : Node) → node_of w node ≡ Some n → node_of v node ≡ Some m → KeepsSame n m
+  pub each : (node : ℕ) (n m : Node) → node_of w node ≡ Some n → node_of v node ≡ Some m
+      → KeepsSame n m

@@ -21,7 +21,8 @@ AskedOnce w = (id : CmdId) (node place : ℕ) (e : JournalEntry) → IsWritten w
     → IsTrue (is_admission_of id e) → IsAskedOnceAt w id node place
 
 -- how an attempt was admitted: the replica as it stood just before, which let it through
-pub record WasAdmitted (w : World) (id : CmdId) (node place range : ℕ) (request : Request) : Type 0 where
+pub record WasAdmitted (w : World) (id : CmdId) (node place range : ℕ) (request : Request)
+    : Type 0 where
   pub only : IsAskedOnceAt w id node place
   pub replica : Replica
   pub stood : StoodAs w node place range replica

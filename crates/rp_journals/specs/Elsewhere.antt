@@ -5,8 +5,8 @@ use Rattle.rp_events.specs.Lawful.{AllLawful}
 use Rattle.rp_journals.specs.Growth.{WorldGrows}
 use Rattle.rp_journals.specs.Asked.{AskedOnce, all_at}
 
--- a world in which other nodes have gone on, and this one is the same: what each has kept, and so what it
--- has sent, begins with what it kept in the first world
+-- a world in which other nodes have gone on, and this one is the same: what each has kept, and so
+-- what it has sent, begins with what it kept in the first world
 pub record IsAhead (w other : World) (node : ℕ) : Type 0 where
   pub same : node_of other node ≡ node_of w node
   pub grows : WorldGrows w other

@@ -1,4 +1,5 @@
--- What ends: each attempt that was admitted is pending at its replica until it ends, once (this project).
+-- What ends: each attempt that was admitted is pending at its replica until it ends, once (this
+-- project).
 use Rattle.std.specs.Prelude.{◌≡◌, ℕ, ◌+◌, ◌<◌, Bool, true, false, ◌&&◌, List, [], slice_get, count_by, sum_by, Some}
 use Rattle.std.specs.List.{AllByRecursion}
 use Rattle.rp_base.specs.Ids.{same_id}
@@ -72,8 +73,8 @@ abbrev pub AllTrueEnds : World → Type 0
 AllTrueEnds w = (node : ℕ) (n : Node) → node_of w node ≡ Some n
     → AllByRecursion (λ (e : Ended). IsTrueEnd w e.id e.outcome) n.outcomes
 
--- the proposal's attempt was admitted in this range of this node, for its request, is told that it is
--- pending, and has no end
+-- the proposal's attempt was admitted in this range of this node, for its request, is told that it
+-- is pending, and has no end
 pub record IsHeldThere (w : World) (id : CmdId) (node range : ℕ) (p : Proposal) : Type 0 where
   pub place : ℕ
   pub admitted : IsAdmitted w id node place range p.request

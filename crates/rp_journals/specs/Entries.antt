@@ -30,8 +30,8 @@ AllReadBack w = (node : ℕ) (n : Node) → node_of w node ≡ Some n → ReadsB
 abbrev pub at_node : (node : ℕ) → Happening → Scene
 at_node node what = record { node = node; what = what }
 
--- how the entry at this place of a node's journal was written: by a lawful scene of an earlier world, in
--- which the node had written so many entries
+-- how the entry at this place of a node's journal was written: by a lawful scene of an earlier
+-- world, in which the node had written so many entries
 pub record WasWritten (nodes : ℕ) (w : World) (node place : ℕ) (e : JournalEntry) : Type 0 where
   -- the world before, and what happened in it
   pub before : World
@@ -52,4 +52,5 @@ pub record WasWritten (nodes : ℕ) (w : World) (node place : ℕ) (e : JournalE
     answer = (step n event (taken_in what)).answer;
   }
   -- what the event left has only grown since
-  pub grown : (now : Node) → node_of w node ≡ Some now → Grows (step n event (taken_in what)).node now
+  pub grown : (now : Node) → node_of w node ≡ Some now
+      → Grows (step n event (taken_in what)).node now

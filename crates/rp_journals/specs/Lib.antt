@@ -4,3 +4,4 @@ pub mod Asked
 pub mod Ended
 pub mod Elsewhere
 pub mod Alike
+pub mod Numbers

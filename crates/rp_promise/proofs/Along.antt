@@ -1,37 +1,22 @@
 -- Along a schedule: where each lawful scene leads on to what stands beside the world behind it, every reached
 -- world keeps the promise.
-use Rattle.std.proofs.Common.{◌≡◌, ℕ, ◌<◌, ◌≤◌, List, [], ◌∷◌, ◌++◌, refl, sym, ap, subst, ◌∙◌, append_assoc, append-nil, leb-true, ltb-true}
+use Rattle.std.proofs.Common.{◌≡◌, ℕ, ◌≤◌, List, [], ◌∷◌, ◌++◌, refl, sym, ap, subst, ◌∙◌, append_assoc, append-nil}
 use Rattle.rp_request.specs.Applied.{AppliedState}
 use Rattle.rp_raftsafe.specs.World as raft
 use Rattle.rp_raftsafe.specs.Safety.{OneList}
-use Rattle.rp_rangesafe.specs.Ranges.{Ranges, Step, after_step, after_steps, AreLawful, AreLater}
-use Rattle.rp_events.specs.Lawful.{IsReached, IsLater, Lawful, AllLawful}
+use Rattle.rp_rangesafe.specs.Ranges.{Ranges, AreLater}
+use Rattle.rp_events.specs.Lawful.{IsReached, Lawful, AllLawful}
 use Rattle.rp_events.specs.Promises.{Promise}
 use Rattle.rp_events.specs.Worlds.{World, Scene, Schedule, first_world, happens, run}
 use Rattle.rp_journals.proofs.Growing.{reached_later}
 use Rattle.rp_seats.specs.Standing.{Bound}
-use Rattle.rp_promise.specs.Beside.{StandsWith, GoesOn, IsPromising}
+use Rattle.rp_bound.proofs.Onward.{onward_itself, onward_further}
+use Rattle.rp_promise.specs.Beside.{StandsWith}
 use Rattle.rp_promise.proofs.First.{first_records}
 use Rattle.rp_promise.proofs.Made.{first_admitted, admitted_on}
 use Rattle.rp_promise.proofs.Opened.{all_now}
 use Rattle.rp_promise.proofs.Promised.{promised}
 use Rattle.rp_promise.proofs.Scenes.{scene_turned}
-
--- steps of the ranges one after another
-steps_further : (m : Ranges) (xs ys : List Step) → after_steps m (xs ++ ys) ≡ after_steps (after_steps m xs) ys
-steps_further m [] ys = refl
-steps_further m (x ∷ xs) ys = steps_further (after_step m x) xs ys
-
-steps_lawful : (m : Ranges) (xs ys : List Step) → AreLawful m xs → AreLawful (after_steps m xs) ys → AreLawful m (xs ++ ys)
-steps_lawful m [] ys l k = k
-steps_lawful m (x ∷ xs) ys l k = (l.0, steps_lawful (after_step m x) xs ys l.1 k)
-
-onward_further : (m n k : Ranges) → AreLater m n → AreLater n k → AreLater m k
-onward_further m n k a b = record {
-  steps = a.steps ++ b.steps;
-  lawful = steps_lawful m a.steps b.steps a.lawful (subst (λ z. AreLawful z b.steps) (sym a.reached) b.lawful);
-  reached = steps_further m a.steps b.steps ∙ ap (λ z. after_steps z b.steps) a.reached ∙ b.reached;
-}
 
 -- what stands beside a world, and is carried on by each lawful scene
 module _ (lists : OneList AppliedState) (Stands : World → Ranges → (ℕ → List raft.Event) → Type 0)
@@ -75,7 +60,7 @@ module _ (lists : OneList AppliedState) (Stands : World → Ranges → (ℕ → 
   all_scenes nodes [] w m seen c l = record {
     ranges = m;
     events = seen;
-    onward = record { steps = []; lawful = tt; reached = refl };
+    onward = onward_itself m;
     grown = λ range. ([], sym (append-nil (seen range)));
     carried = c;
   }

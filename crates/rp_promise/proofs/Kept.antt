@@ -1,8 +1,9 @@
 -- A scene keeps the records beside the machine.
-use Rattle.std.proofs.Common.{◌≡◌, ℕ, zero, suc, ◌+◌, ◌-◌, ◌^◌, ◌<◌, ◌≤◌, max, Bool, true, false, ◌⊎◌, inl, inr, ⊎_elim, Option, None, Some, List, [], ◌∷◌, ◌++◌, length, refl, sym, ap, subst, ◌∙◌, arith}
-use Rattle.std.specs.Prelude.{Contains, slice_get, slice_index_or}
+use Rattle.std.proofs.Common.{◌≡◌, ℕ, zero, suc, ◌+◌, ◌-◌, ◌<◌, ◌≤◌, max, Bool, true, false, ◌⊎◌, inl, inr, ⊎_elim, Option, None, Some, List, [], ◌∷◌, length, refl, sym, ap, subst, ◌∙◌, arith}
+use Rattle.std.proofs.lemmas.Option.{none-some}
+use Rattle.std.specs.Prelude.{Contains, slice_get}
 use Rattle.std.specs.Option.{option_map_or}
-use Rattle.std.proofs.lemmas.Bool.{cases_eq, cases_lt}
+use Rattle.std.proofs.lemmas.Bool.{cases_lt}
 use Rattle.std.proofs.lemmas.List.{length_push}
 use Rattle.std.proofs.lemmas.List.Elements.{Contains-append_cases, Contains-append_left, Contains-append_right}
 use Rattle.rp_base.proofs.SplitLaws.{parts}
@@ -28,13 +29,16 @@ use Rattle.rp_rangesafe.proofs.Tables.{at_with_node}
 use Rattle.rp_events.specs.declared.parcels.Parcel.{Parcel}
 use Rattle.rp_events.specs.Replicas.{Replica}
 use Rattle.rp_events.specs.Nodes.{Node, Status, seat, right_base}
-use Rattle.rp_events.specs.Worlds.{World, Scene, node_of, with_node, happens}
+use Rattle.rp_events.specs.Worlds.{World, Scene, node_of, happens}
 use Rattle.rp_events.specs.Lists.{base_of, history_in, HasApplied, StandsIn, Keeps}
+use Rattle.rp_journals.proofs.Growing.{with_same}
+use Rattle.rp_journals.proofs.Lists.{get_end}
 use Rattle.rp_seats.specs.Standing.{Bound}
-use Rattle.rp_promise.specs.Records.{record_at, IsRecordAt, HistoryOk, IsHad, SnapUpTo, RecordsOk, IsOpenedBelow, AllRecords}
-use Rattle.rp_promise.proofs.Turned.{at_seat, AppliedAt, WasSent, SnapSent, SplitNow, Jumped, Begun, Became, kept, goes, jumps, begins, FromHistory, Answers}
-use Rattle.rp_promise.proofs.Scenes.{Pieces, some_past, get_last, get_push, changed_node, node_now, SceneTurned, still_has, keeps_on}
-use Rattle.rp_promise.proofs.Stands.{SeatStands, silent, unhad, had_opened, seat_stands, seat_next}
+use Rattle.rp_promise.specs.Records.{record_at, IsRecordAt, HistoryOk, IsHad, SnapUpTo, RecordsOk, AllRecords}
+use Rattle.rp_promise.proofs.Turned.{at_seat, AppliedAt, SnapSent, SplitNow, Jumped, Begun, Became, kept, goes, jumps, begins, FromHistory, Answers}
+use Rattle.rp_promise.proofs.Scenes.{Pieces, one_piece, get_push, node_now, SceneTurned, still_has, keeps_on}
+use Rattle.rp_promise.proofs.Stands.{silent, unhad, seat_stands, seat_next}
+use Rattle.rp_promise.proofs.Somes.{some_is}
 
 -- the machine's node goes on
 index_event : (h : machine.World) (e : machine.Event) → machine.Lawful h e → (node : ℕ) → h.index node ≤ (machine.happens h e).index node
@@ -117,15 +121,7 @@ abbrev applied_in : Status → ℕ
 applied_in status = option_map_or (λ (past : History). past.index) (history_in status) 0
 
 pub no_record : (index at : ℕ) (r : Record) → StandsIn (none_after index) at r → ⊥
-no_record index at r s = none_some s.here where
-  none_some : ◌≡◌ {A = Option Record} None (Some r) → ⊥
-  none_some e = cc
-
-pub one_piece : (piece other : Piece) → Contains (piece ∷ []) other → other ≡ piece
-one_piece piece other c = go c.0 c.1 c.2 where
-  go : (i : ℕ) → i < length (piece ∷ []) → slice_index_or (piece ∷ []) i other ≡ other → other ≡ piece
-  go zero lt e = sym e
-  go (suc i) lt e = absurd (omega (arith, lt))
+no_record index at r s = none-some r s.here
 
 module _ (lists : OneList AppliedState) (w : World) (m : Ranges) (seen : ℕ → List raft.Event) (b : Bound lists w m seen) (x : Scene) (t : SceneTurned w x)
     (n : Ranges) (further : ℕ → List raft.Event) (b' : Bound lists (happens w x) n further) (on : AreLater m n) (a : AllRecords w m) where
@@ -136,7 +132,7 @@ module _ (lists : OneList AppliedState) (w : World) (m : Ranges) (seen : ℕ →
   node = x.node
 
   pub new_has : node_of after node ≡ Some t.new
-  new_has = ap (λ z. node_of z node) t.after ∙ changed_node w node t.n t.new t.has
+  new_has = ap (λ z. node_of z node) t.after ∙ with_same w node t.n t.new t.has
 
   had_on : (range : ℕ) → IsHad w range → IsHad after range
   had_on range had =
@@ -334,9 +330,9 @@ module _ (lists : OneList AppliedState) (w : World) (m : Ranges) (seen : ℕ →
 
       go : Became w t.n.seats t.new.seats range → HistoryOk k base reach' past
       go (kept e) = history_lifts k base reach reach' past (omega arith) (moved.histories node past (record { n = t.n; has = t.has; history = sym e ∙ is }))
-      go (goes r p g) = subst (λ z. HistoryOk k base reach' z) (some_past (history.applied r.applied p) past (sym g.history ∙ is)) (applied_ok r p g)
-      go (jumps j) = subst (λ z. HistoryOk k base reach' z) (sym j.history ∙ some_past j.replica.applied past (sym (ap history_in j.is) ∙ is)) (jumped j)
-      go (begins g) = subst (λ z. HistoryOk k base reach' z) (sym g.history ∙ some_past g.replica.applied past (sym (ap history_in g.is) ∙ is)) (begun g)
+      go (goes r p g) = subst (λ z. HistoryOk k base reach' z) (some_is (history.applied r.applied p) past (sym g.history ∙ is)) (applied_ok r p g)
+      go (jumps j) = subst (λ z. HistoryOk k base reach' z) (sym j.history ∙ some_is j.replica.applied past (sym (ap history_in j.is) ∙ is)) (jumped j)
+      go (begins g) = subst (λ z. HistoryOk k base reach' z) (sym g.history ∙ some_is g.replica.applied past (sym (ap history_in g.is) ∙ is)) (begun g)
 
     -- the nodes of the world behind the scene
     pub now : (other : ℕ) (o : Node) → node_of after other ≡ Some o → ((other ≡ node) × (o ≡ t.new)) ⊎ (node_of w other ≡ Some o)
@@ -354,7 +350,7 @@ module _ (lists : OneList AppliedState) (w : World) (m : Ranges) (seen : ℕ →
           applied = record { n = t.new; has = new_has; history = v.applied.history };
           piece = with_record past.records rec;
           among = Contains-append_right past.earlier (with_record past.records rec ∷ []) (with_record past.records rec) (0, omega arith, refl);
-          stands = record { place = length past.records.list; here = get_last past.records.list rec; at = omega (arith, first, at) };
+          stands = record { place = length past.records.list; here = get_end past.records.list rec []; at = omega (arith, first, at) };
         })
 
     pub records_now : RecordsOk after range k reach'

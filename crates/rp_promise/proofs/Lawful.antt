@@ -1,21 +1,18 @@
 -- Places are lawful.
-use Rattle.std.proofs.Common.{◌≡◌, ℕ, zero, suc, ◌+◌, ◌<◌, ◌≤◌, IsTrue, ◌⊎◌, inl, inr, ⊎_elim, Option, None, Some, Ok, List, [], ◌∷◌, ◌++◌, length, take, refl, sym, ap, subst, ◌∙◌, arith}
+use Rattle.std.proofs.Common.{◌≡◌, ℕ, ◌<◌, ⊎_elim, Some, List, ◌++◌, length, take, refl, sym, ap, subst, ◌∙◌, arith}
+use Rattle.std.proofs.lemmas.Option.{none-some}
 use Rattle.std.specs.Prelude.{slice_get}
 use Rattle.std.proofs.Math.Seq.{take-length}
 use Rattle.std.proofs.lemmas.List.{take-append-le}
 use Rattle.rp_base.specs.Leases.{Follows}
 use Rattle.rp_base.specs.declared.leases.Lease as leases
-use Rattle.rp_request.specs.Applied.{AppliedState, record_of, item}
-use Rattle.rp_request.specs.Covers.{in_bounds}
-use Rattle.rp_request.specs.Effect.{effect}
+use Rattle.rp_request.specs.Applied.{AppliedState, record_of}
 use Rattle.rp_request.specs.Items.{State, fold}
 use Rattle.rp_request.specs.Places.{IsPlaceOf, IsOnceInAll}
 use Rattle.rp_request.specs.States.{shown}
 use Rattle.rp_request.specs.declared.commands.Command.{Command}
-use Rattle.rp_request.specs.declared.commands.Payload.TheVariants as payloads
 use Rattle.rp_request.specs.declared.items.Place.{Place}
 use Rattle.rp_request.specs.declared.items.Place.TheVariants as places
-use Rattle.rp_request.specs.declared.items.Record.TheVariants.{Took}
 use Rattle.rp_request.proofs.Opened.{item_tells}
 use Rattle.rp_raftsafe.specs.World as raft
 use Rattle.rp_raftsafe.specs.Safety.{OneList}
@@ -25,7 +22,6 @@ use Rattle.rp_rangesafe.specs.Attempts as stages
 use Rattle.rp_rangesafe.specs.World as machine
 use Rattle.rp_rangesafe.specs.World.{state_at}
 use Rattle.rp_rangesafe.specs.Places.{IsReached, IsPlace, items_to}
-use Rattle.rp_rangesafe.specs.Places as machine_places
 use Rattle.rp_rangesafe.specs.Ranges.{Ranges, lists}
 use Rattle.rp_rangesafe.proofs.Joint.{range_reached}
 use Rattle.rp_rangesafe.proofs.Once.{once_in_all, placed_born}
@@ -33,11 +29,11 @@ use Rattle.rp_rangesafe.proofs.OneRange.{fold_is_state, lawful_place, refused_ne
 use Rattle.rp_rangesafe.proofs.Rights.{begin_with}
 use Rattle.rp_rangesafe.proofs.Runs.{later_itself}
 use Rattle.rp_events.specs.Worlds.{World}
+use Rattle.rp_journals.proofs.Lists.{get_front}
 use Rattle.rp_events.specs.Lists.{Claim, claim_of, IsAdmittedUnder}
-use Rattle.rp_events.specs.Promises.{lists_of, TakesEffect, IsLawfulPlace, IsLawfulLease, PlacesAreLawful}
+use Rattle.rp_events.specs.Promises.{lists_of, IsLawfulPlace, IsLawfulLease, PlacesAreLawful}
 use Rattle.rp_promise.specs.Beside.{IsPromising}
-use Rattle.rp_promise.proofs.Scenes.{get_front}
-use Rattle.rp_promise.proofs.Places.{claim_by, does, ItemAt, item_at, TakenCommand, TakenAsk, taken_by, PlaceAt, place_at, place_says}
+use Rattle.rp_promise.proofs.Places.{claim_by, does, ItemAt, item_at, TakenCommand, TakenAsk, taken_by, place_at, place_says}
 use Rattle.rp_promise.proofs.Listed.{records, start, lists_are}
 
 -- an attempt with a place was not refused
@@ -125,13 +121,10 @@ module _ (one : OneList AppliedState) (w : World) (m : Ranges) (seen : ℕ → L
     follows = follows (at range place (places.Lease lease) e) (in_log range place (places.Lease lease) e);
   }
     where
-      none_some : (c : Claim) → ◌≡◌ {A = Option Claim} None (Some c) → ⊥
-      none_some c f = cc
-
       follows : (i : ItemAt (m.range range) (k.now.records.reach range) place (places.Lease lease)) → i.index < length (m.range range).log → Follows (state_at (m.range range) i.index).lease lease
       follows i lt = ⊎_elim
           (λ (t : TakenCommand (state_at (m.range range) i.index) (entry (m.range range).log i.index) (places.Lease lease)).
-          absurd (none_some (claim_by t.command) (ap claim_of (sym t.is)
+          absurd (none-some (claim_by t.command) (ap claim_of (sym t.is)
           ∙ place_says (m.range range) (range_reached m k.now.bound.reached range) t.command.id i.index t.command (record { within = lt; takes = record { here = t.here; taken = t.took }; named = refl }))))
           (λ (t : TakenAsk (state_at (m.range range) i.index) (entry (m.range range).log i.index) (places.Lease lease)).
           item_tells (state_at (m.range range) i.index) t.ask lease (ap (record_of (state_at (m.range range) i.index)) (sym t.here) ∙ i.is))

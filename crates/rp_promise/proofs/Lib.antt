@@ -1,3 +1,4 @@
+pub mod Somes
 pub mod Replicas
 pub mod Turned
 pub mod Scenes
@@ -13,3 +14,4 @@ pub mod Outcomes
 pub mod Made
 pub mod Promised
 pub mod Along
+pub mod Fitting

@@ -1,30 +1,28 @@
 -- The one list of each range: the records of the entries that have one.
-use Rattle.std.proofs.Common.{◌≡◌, ℕ, zero, suc, ◌+◌, ◌-◌, ◌^◌, ◌<◌, ◌≤◌, true, ◌⊎◌, inl, inr, ⊎_elim, Option, None, Some, Result, Ok, Err, List, [], ◌∷◌, ◌++◌, length, take, refl, sym, ap, subst, ◌∙◌, arith, append_assoc}
-use Rattle.std.specs.Prelude.{slice_get, Contains}
+use Rattle.std.proofs.Common.{◌≡◌, ℕ, zero, suc, ◌+◌, ◌-◌, ◌<◌, true, ⊎_elim, Some, Result, Ok, Err, List, [], ◌∷◌, ◌++◌, length, take, refl, sym, ap, subst, ◌∙◌, arith, append_assoc}
+use Rattle.std.specs.Prelude.{slice_get}
 use Rattle.std.proofs.lemmas.List.{length-take-le, take-take}
 use Rattle.std.proofs.lemmas.Option.{slice_get_within}
 use Rattle.rp_base.specs.Splits.{split_of}
-use Rattle.rp_base.specs.Tables.{Table, from_on}
+use Rattle.rp_base.specs.Tables.{from_on}
 use Rattle.rp_base.specs.declared.ids.CmdId.{CmdId}
 use Rattle.rp_base.specs.declared.leases.Lease as leases
 use Rattle.rp_base.specs.declared.ranges.Desc.{Desc}
 use Rattle.rp_base.specs.declared.ranges.SplitFault.{SplitFault}
 use Rattle.rp_base.specs.declared.ranges.SplitFault.TheVariants as faults
 use Rattle.rp_base.proofs.SplitLaws.{parts}
-use Rattle.rp_request.specs.Applied.{AppliedState, command_verdict, item, item_by, command_record, record_of, records_of, right_number, after}
+use Rattle.rp_request.specs.Applied.{AppliedState, item_by, command_record, record_of, records_of, right_number, after}
 use Rattle.rp_request.specs.Effect.{Effect, effect, split}
 use Rattle.rp_request.specs.History.{History}
 use Rattle.rp_request.specs.Items.{State, fold}
 use Rattle.rp_request.specs.Records.{applied}
-use Rattle.rp_request.specs.Starts.{left_range, IsRightStart, SplitsOff, IsStart, first, split_off}
+use Rattle.rp_request.specs.Starts.{IsRightStart, SplitsOff, IsStart, first, split_off}
 use Rattle.rp_request.specs.States.{shown, first_applied, right_of, right_by, right_by_request, right_with}
 use Rattle.rp_request.specs.declared.commands.Command.{Command}
 use Rattle.rp_request.specs.declared.commands.Payload.{Payload}
-use Rattle.rp_request.specs.declared.commands.Payload.TheVariants as payloads
 use Rattle.rp_request.specs.declared.items.Place.{Place}
 use Rattle.rp_request.specs.declared.items.Place.TheVariants as places
 use Rattle.rp_request.specs.declared.items.Record.{Record}
-use Rattle.rp_request.specs.declared.outcomes.Refusal.{Refusal}
 use Rattle.rp_request.specs.declared.requests.Request.{Request}
 use Rattle.rp_request.specs.declared.requests.Request.TheVariants.{Put, Add, CPut, Del, Wipe, Move, Split}
 use Rattle.rp_rangesafe.specs.Along.{entry}
@@ -39,12 +37,12 @@ use Rattle.rp_rangesafe.proofs.Rights.{Opens, opens_it, IsOrigin, sources_reache
 use Rattle.rp_rangesafe.proofs.Splits.{is_there, split_opens, one_origin}
 use Rattle.rp_rangesafe.proofs.Whole.{whole_reached}
 use Rattle.rp_events.specs.Worlds.{World}
-use Rattle.rp_events.specs.Nodes.{Node, seat}
+use Rattle.rp_events.specs.Nodes.{seat}
 use Rattle.rp_events.specs.Lists.{base_of, history_in, HasApplied, Keeps, IsOneList, prefix_of}
 use Rattle.rp_events.specs.Promises.{lists_of, IsSplitAt}
-use Rattle.rp_promise.specs.Records.{record_at, HistoryOk, IsHad, AllRecords, IsOpenedBelow}
-use Rattle.rp_promise.proofs.Scenes.{some_past}
-use Rattle.rp_promise.proofs.Places.{does, ItemAt, item_at, TakenCommand, TakenAsk, taken_by}
+use Rattle.rp_promise.specs.Records.{record_at, IsHad, AllRecords}
+use Rattle.rp_promise.proofs.Places.{does, item_at, TakenCommand, TakenAsk, taken_by}
+use Rattle.rp_promise.proofs.Somes.{some_is}
 
 get_take : {A : Type 0} (xs : List A) (n i : ℕ) → i < n → slice_get (take n xs) i ≡ slice_get xs i
 get_take xs zero i lt = absurd (omega (arith, lt))
@@ -61,9 +59,6 @@ records_take b (p ∷ log) (suc i) = ap (λ z. record_of b p ∷ z) (records_tak
 records_length : (b : AppliedState) (log : List Payload) → length (records_of b log) ≡ length log
 records_length b [] = refl
 records_length b (p ∷ log) = let rest = records_length (after b p) log in omega (arith, rest)
-
-some_record : (a b : Record) → ◌≡◌ {A = Option Record} (Some a) (Some b) → a ≡ b
-some_record a b e = cc
 
 -- an item of a split is one of a command that splits
 split_is : (d : Desc) (c : Command) (r : Request) (id : CmdId) (key right seq : ℕ) → item_by d c r ≡ places.Split id key right seq → (r ≡ Split key) × (right_number d ≡ right)
@@ -123,9 +118,7 @@ module _ (w : World) (m : Ranges) (reached : AreReached m) (a : AllRecords w m) 
       ∙ recorded_at (m.range range).start (m.range range).log place (omega (arith, lt, within))
 
   same_history : (node range : ℕ) (p q : History) → HasApplied w node range p → HasApplied w node range q → p ≡ q
-  same_history node range p q x y = some_past p q (sym x.history ∙ ap (λ z. history_in (seat z range)) (some_node x.n y.n (sym x.has ∙ y.has)) ∙ y.history) where
-    some_node : (c d : Node) → ◌≡◌ {A = Option Node} (Some c) (Some d) → c ≡ d
-    some_node c d e = cc
+  same_history node range p q x y = some_is p q (sym x.history ∙ ap (λ z. history_in (seat z range)) (some_is x.n y.n (sym x.has ∙ y.has)) ∙ y.history)
 
   pub one_list : (range : ℕ) → IsOneList w range (records range)
   one_list range = record {
@@ -148,7 +141,7 @@ module _ (w : World) (m : Ranges) (reached : AreReached m) (a : AllRecords w m) 
         let inside = slice_get_within (records range) place kept e in
         let below : place < a.reach range = omega (arith, long, inside) in
         let c = (a.each range).covered place below in
-        (c.0, subst (Keeps w c.0 range (base_of range + place + 1)) (some_record (record_at (m.range range) place) kept (sym (list_at range place below) ∙ e)) c.1);
+        (c.0, subst (Keeps w c.0 range (base_of range + place + 1)) (some_is (record_at (m.range range) place) kept (sym (list_at range place below) ∙ e)) c.1);
     reaches = λ node past applied.
         let o = (a.each range).histories node past applied in
         let long = list_length range in

@@ -1,5 +1,6 @@
 -- An attempt that the machine has is one that a journal admitted: in the first world, and behind each scene.
-use Rattle.std.proofs.Common.{◌≡◌, ℕ, zero, suc, ◌+◌, ◌<◌, ◌≤◌, Bool, true, false, cond, ◌⊎◌, inl, inr, ⊎_elim, IsTrue, Option, None, Some, Result, Ok, Err, List, [], ◌∷◌, ◌++◌, length, refl, sym, ap, subst, ◌∙◌, arith}
+use Rattle.std.proofs.Common.{◌≡◌, ℕ, zero, suc, ◌<◌, ◌≤◌, Bool, true, false, cond, ◌⊎◌, inl, inr, ⊎_elim, Option, None, Some, Result, Ok, Err, List, [], ◌∷◌, length, refl, sym, ap, subst, ◌∙◌, arith}
+use Rattle.std.proofs.lemmas.Option.{none-some}
 use Rattle.std.specs.Prelude.{slice_get}
 use Rattle.std.specs.List.{find}
 use Rattle.std.specs.Option.{option_map, option_or}
@@ -23,8 +24,6 @@ use Rattle.rp_raftsafe.specs.World.{world_after}
 use Rattle.rp_raftsafe.specs.Safety.{OneList, IsLive}
 use Rattle.rp_rangesafe.specs.Attempts.{Stage, Attempt, IsBorn, IsEnded}
 use Rattle.rp_rangesafe.specs.Attempts as stages
-use Rattle.rp_rangesafe.specs.World as machine
-use Rattle.rp_rangesafe.specs.Places.{IsLater}
 use Rattle.rp_rangesafe.specs.Ranges.{Ranges, Owner, Nobody, Turned, At, IsMade, AreLater}
 use Rattle.rp_rangesafe.proofs.Growth.{Grown}
 use Rattle.rp_rangesafe.proofs.Joint.{range_goes_on, owner_stays, one_range}
@@ -34,35 +33,31 @@ use Rattle.rp_events.specs.declared.answers.EventAnswer.{EventAnswer}
 use Rattle.rp_events.specs.declared.answers.EventAnswer.TheVariants as answers
 use Rattle.rp_events.specs.declared.journals.JournalEntry.{JournalEntry}
 use Rattle.rp_events.specs.declared.journals.PastEvent.TheVariants as past
-use Rattle.rp_events.specs.declared.node_events.Event.{Event}
 use Rattle.rp_events.specs.declared.node_events.Event.TheVariants as events
 use Rattle.rp_events.specs.declared.replica_events.ReplicaEvent.TheVariants as at_replica
 use Rattle.rp_events.specs.Replicas.{Replica, lease_of}
 use Rattle.rp_events.specs.Admissions.{guarded, proposal, with_proposal, admitted_by}
-use Rattle.rp_events.specs.Nodes as nodes
-use Rattle.rp_events.specs.Nodes.{Node, Status, Absent, Live, Removed, seat, with_seat, first_node}
-use Rattle.rp_events.specs.NodeEvents.{by_status, after_replica, past_of, step, with_request}
-use Rattle.rp_events.specs.Worlds as worlds
-use Rattle.rp_events.specs.Worlds.{World, Scene, Happening, first_world, node_of, taken_in, event_of, happens, is_admission_of, outcome_by, outcome_at}
+use Rattle.rp_events.specs.Nodes.{Node, Status, Absent, Live, Removed, seat}
+use Rattle.rp_events.specs.NodeEvents.{by_status, after_replica, step, with_request}
+use Rattle.rp_events.specs.Worlds.{World, Scene, first_world, node_of, taken_in, event_of, happens, is_admission_of, outcome_by, outcome_at}
 use Rattle.rp_events.specs.Lawful.{IsReached, Lawful}
-use Rattle.rp_events.specs.Lawful as lawful_lists
-use Rattle.rp_events.specs.Lists.{base_of, history_in, HasApplied, IsAdmitted, IsAdmittedUnder, IsAskedOnceAt, StoodAs}
+use Rattle.rp_events.specs.Lists.{history_in, IsAdmittedUnder}
 use Rattle.rp_journals.specs.Growth.{WorldGrows}
 use Rattle.rp_journals.proofs.Growing.{Happened, happened, one_node, scene_grows, reached_later, with_same, with_other}
-use Rattle.rp_journals.proofs.Reading.{mapped_some, entry_of, step_journal, reads_back, stands_now}
+use Rattle.rp_journals.proofs.Reading.{entry_of, step_journal, reads_back, stands_now}
 use Rattle.rp_journals.proofs.Staying.{admitted_stays, stood_stays}
 use Rattle.rp_journals.proofs.Asking.{Admitting, admits, asked_once}
 use Rattle.rp_journals.proofs.Admitting.{asked_here, passed_under}
 use Rattle.rp_journals.proofs.Lists.{get_end}
-use Rattle.rp_seats.specs.Views.{core, core_of, view, range_at}
-use Rattle.rp_seats.specs.Standing.{Bound, RangeOk, pending_in, TellsPending, HasPlace, IsToldAs, TellsOf, SeatOk, IsMadeIn, IsOwned, body_of}
+use Rattle.rp_seats.specs.Views.{core, core_of, range_at}
+use Rattle.rp_seats.specs.Standing.{Bound, RangeOk, pending_in, TellsPending, IsToldAs, TellsOf, IsMadeIn, IsOwned}
 use Rattle.rp_seats.proofs.Admits.{numbered}
 use Rattle.rp_seats.proofs.Nodes.{seat_same, live_within}
 use Rattle.rp_seats.proofs.Opens.{first_is}
 use Rattle.rp_seats.proofs.Worlds.{site_seen}
 use Rattle.rp_promise.specs.Beside.{AreAdmitted}
-use Rattle.rp_promise.proofs.First.{first_seat}
 use Rattle.rp_promise.proofs.Stands.{had_opened}
+use Rattle.rp_promise.proofs.Somes.{some_is}
 
 -- what is told of no attempt
 untold_stage : (s : Stage) → IsToldAs s None → ⊥
@@ -106,9 +101,6 @@ born_or_not (stages.Overtaken own passed) = inr tt
 born_or_not (stages.Removed own) = inr tt
 born_or_not (stages.Restarted own) = inr tt
 
-none_some : (o : Outcome) → ◌≡◌ {A = Option Outcome} None (Some o) → ⊥
-none_some o e = cc
-
 mapped_none : {A B : Type 0} (f : A → B) (o : Option A) → option_map f o ≡ None → o ≡ None
 mapped_none f None e = refl
 mapped_none {A} {B} f (Some a) e = absurd (some_none e) where
@@ -134,7 +126,7 @@ pub first_admitted : (lists : OneList AppliedState) (nodes : ℕ) → nodes ≤ 
 first_admitted lists nodes few m seen b id range born not =
     let made = made_there lists (first_world nodes) m seen b id range born in
     let t = node_tells lists (first_world nodes) m seen b id range born not in
-    absurd (none_some t.outcome (sym (ap (outcome_at id) (first_is nodes few ((m.range range).attempt id).node made.n made.has)) ∙ t.is))
+    absurd (none-some t.outcome (sym (ap (outcome_at id) (first_is nodes few ((m.range range).attempt id).node made.n made.has)) ∙ t.is))
 
 -- an admission that is not refused was granted by the replica of its range
 record GrantedNow (n : Node) (at : ℕ) (id : CmdId) (request : Request) (taken : List Item) : Type 0 where
@@ -268,7 +260,7 @@ module _ (lists : OneList AppliedState) (w : World) (m : Ranges) (seen : ℕ →
             one_node after x.node made.n (step k.n k.event (taken_in x.what)).node (ap (node_of after) (sym same) ∙ made.has)
                 (ap (λ z. node_of z x.node) k.is ∙ with_same w x.node k.n (step k.n k.event (taken_in x.what)).node k.has),
           ))
-          (λ (other : now.node ≡ x.node → ⊥). absurd (none_some tells.outcome (sym (untold now.node made.n
+          (λ (other : now.node ≡ x.node → ⊥). absurd (none-some tells.outcome (sym (untold now.node made.n
           (sym (with_other w x.node (step k.n k.event (taken_in x.what)).node now.node other) ∙ ap (λ z. node_of z now.node) (sym k.is) ∙ made.has)) ∙ tells.is)))
           (cases_eq now.node x.node)
 
@@ -290,13 +282,11 @@ module _ (lists : OneList AppliedState) (w : World) (m : Ranges) (seen : ℕ →
             ∙ find-append (is_admission_of id) k.n.journal (entry_of k.n k.event (taken_in x.what) ∷ [])
             ∙ ap (λ z. option_or z (find (is_admission_of id) (entry_of k.n k.event (taken_in x.what) ∷ []))) before
             ∙ ap (λ t. cond t (Some (entry_of k.n k.event (taken_in x.what))) None) e in
-            absurd (none_some tells.outcome (sym (ap (outcome_at id) (at_scene k).1
+            absurd (none-some tells.outcome (sym (ap (outcome_at id) (at_scene k).1
             ∙ ap (option_map (λ (y : JournalEntry). outcome_by (step k.n k.event (taken_in x.what)).node id y.answer)) none) ∙ tells.is))
 
       event_is : (k : Happened w x) → (a : Admitting id x.what) → k.event ≡ events.Admit a.range id a.request
-      event_is k a = some_event k.event (events.Admit a.range id a.request) (sym k.came ∙ ap (event_of w) a.is) where
-        some_event : (e f : Event AppliedState) → ◌≡◌ {A = Option (Event AppliedState)} (Some e) (Some f) → e ≡ f
-        some_event e f is = cc
+      event_is k a = some_is k.event (events.Admit a.range id a.request) (sym k.came ∙ ap (event_of w) a.is)
 
       -- the machine's attempt is the one that was granted
       module _ (k : Happened w x) (at : ℕ) (request : Request) (is : k.event ≡ events.Admit at id request) where
@@ -333,7 +323,7 @@ module _ (lists : OneList AppliedState) (w : World) (m : Ranges) (seen : ℕ →
             (((b.ranges at (had_opened lists w m seen b x.node at r.applied (record { n = k.n; has = k.has; history = ap history_in grant.live }))).seats x.node k.n k.has).pending.tells id)) where
               go : (q : Option Proposal) → proposal_of id r.pending ≡ q → TellsOf x.node ((m.range at).attempt id) q (outcome_at id k.n) → proposal_of id r.pending ≡ None
               go None e t = e
-              go (Some q) e t = absurd (none_some outcomes.Pending (sym (untold x.node k.n k.has) ∙ t.pending))
+              go (Some q) e t = absurd (none-some outcomes.Pending (sym (untold x.node k.n k.has) ∙ t.pending))
 
         one_proposal : proposal_of id (with_proposal r p).pending ≡ Some p
         one_proposal =
@@ -399,7 +389,7 @@ module _ (lists : OneList AppliedState) (w : World) (m : Ranges) (seen : ℕ →
 
       under_new : Goal
       under_new = ⊎_elim
-          (λ (same : after ≡ w). absurd (none_some tells.outcome (sym (untold now.node made.n (ap (λ z. node_of z now.node) (sym same) ∙ made.has)) ∙ tells.is)))
+          (λ (same : after ≡ w). absurd (none-some tells.outcome (sym (untold now.node made.n (ap (λ z. node_of z now.node) (sym same) ∙ made.has)) ∙ tells.is)))
           (λ (k : Happened w x).
           let d = admits w k.n (taken_in x.what) id x.what k.event k.came (entry_is k) in
           under_now k d.range d.request (event_is k d))

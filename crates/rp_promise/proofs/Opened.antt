@@ -1,18 +1,15 @@
 -- Behind a scene an entry that has a record opened each range that a node has, and who was told Success
 -- has a place that its node keeps; and so all records are as they should be.
-use Rattle.std.proofs.Common.{◌≡◌, ℕ, suc, ◌+◌, ◌-◌, ◌<◌, ◌≤◌, max, true, ◌⊎◌, inl, inr, ⊎_elim, Option, None, Some, List, [], ◌∷◌, length, refl, sym, ap, subst, ◌∙◌, arith}
+use Rattle.std.proofs.Common.{◌≡◌, ℕ, ◌+◌, ◌-◌, ◌<◌, max, true, ◌⊎◌, ⊎_elim, Some, List, refl, sym, ap, subst, ◌∙◌, arith}
 use Rattle.std.specs.Prelude.{Contains}
 use Rattle.rp_base.specs.declared.ids.CmdId.{CmdId}
 use Rattle.rp_request.specs.Applied.{AppliedState, command_verdict, item}
 use Rattle.rp_request.specs.History.{History}
 use Rattle.rp_request.specs.States.{right_of}
 use Rattle.rp_request.specs.declared.commands.Command.{Command}
-use Rattle.rp_request.specs.declared.commands.Payload.TheVariants as payloads
 use Rattle.rp_request.specs.declared.items.Record.TheVariants.{Took}
-use Rattle.rp_request.specs.declared.outcomes.Outcome.{Outcome}
 use Rattle.rp_request.specs.declared.outcomes.Outcome.TheVariants.{Success}
 use Rattle.rp_request.specs.declared.outcomes.Reply.{Reply}
-use Rattle.rp_request.specs.declared.verdicts.Verdict.TheVariants as verdicts
 use Rattle.rp_raftsafe.specs.World as raft
 use Rattle.rp_raftsafe.specs.Safety.{OneList}
 use Rattle.rp_rangesafe.specs.Along.{entry}
@@ -25,9 +22,9 @@ use Rattle.rp_rangesafe.proofs.Runs.{later_entry, later_state}
 use Rattle.rp_events.specs.declared.answers.Ended.{Ended}
 use Rattle.rp_events.specs.Nodes.{Node, seat, right_base}
 use Rattle.rp_events.specs.Worlds.{World, Scene, node_of, happens}
-use Rattle.rp_events.specs.Lists.{base_of, history_in, HasApplied, Keeps, KeepsPlace}
+use Rattle.rp_events.specs.Lists.{base_of, history_in, Keeps}
 use Rattle.rp_seats.specs.Standing.{Bound}
-use Rattle.rp_promise.specs.Records.{record_at, IsHad, IsOpenedBelow, KeepsReply, AllRecords}
+use Rattle.rp_promise.specs.Records.{IsHad, IsOpenedBelow, KeepsReply, AllRecords}
 use Rattle.rp_promise.proofs.Replicas.{NoSuccess}
 use Rattle.rp_promise.proofs.Turned.{SnapSent, SplitNow, Became, kept, goes, jumps, begins, PlacedNow}
 use Rattle.rp_promise.proofs.Scenes.{SceneTurned, keeps_on}

@@ -1,5 +1,6 @@
 -- What attempts are told is true.
-use Rattle.std.proofs.Common.{◌≡◌, ℕ, zero, suc, ◌+◌, ◌<◌, ◌≤◌, Bool, true, false, cond, ◌⊎◌, inl, inr, ⊎_elim, Option, None, Some, List, [], ◌∷◌, ◌++◌, length, refl, sym, ap, subst, ◌∙◌, arith}
+use Rattle.std.proofs.Common.{◌≡◌, ℕ, zero, suc, ◌+◌, ◌<◌, Bool, true, false, cond, ◌⊎◌, inl, inr, ⊎_elim, Option, None, Some, List, [], ◌∷◌, refl, sym, ap, subst, ◌∙◌, arith}
+use Rattle.std.proofs.lemmas.Option.{none-some}
 use Rattle.std.specs.Prelude.{Contains, slice_get, option_and_then}
 use Rattle.std.specs.List.{find}
 use Rattle.std.specs.Option.{option_map, option_map_or}
@@ -10,10 +11,9 @@ use Rattle.rp_base.specs.declared.ids.CmdId.{CmdId}
 use Rattle.rp_base.proofs.IdLaws.{same_is, same_itself}
 use Rattle.rp_request.specs.Applied.{AppliedState}
 use Rattle.rp_request.specs.History.{History}
-use Rattle.rp_request.specs.declared.commands.Command.{Command}
 use Rattle.rp_request.specs.declared.items.Record.TheVariants.{Took}
 use Rattle.rp_request.specs.declared.outcomes.Outcome.{Outcome}
-use Rattle.rp_request.specs.declared.outcomes.Outcome.TheVariants.{Success, Refused, Ambiguous, Pending}
+use Rattle.rp_request.specs.declared.outcomes.Outcome.TheVariants.{Success, Refused, Pending}
 use Rattle.rp_request.specs.declared.outcomes.Refusal.{Refusal}
 use Rattle.rp_request.specs.declared.outcomes.Reply.{Reply}
 use Rattle.rp_request.specs.declared.requests.Request.{Request}
@@ -25,9 +25,8 @@ use Rattle.rp_raftsafe.specs.World as raft
 use Rattle.rp_raftsafe.specs.Safety.{OneList}
 use Rattle.rp_rangesafe.specs.Attempts.{Stage, Attempt, IsUntaken}
 use Rattle.rp_rangesafe.specs.Attempts as stages
-use Rattle.rp_rangesafe.specs.World as machine
 use Rattle.rp_rangesafe.specs.Places.{IsPlace}
-use Rattle.rp_rangesafe.specs.Ranges.{Ranges, Owner, Nobody, Turned, At, IsRefused, IsRefusedAt, AreReached}
+use Rattle.rp_rangesafe.specs.Ranges.{Ranges, Owner, Nobody, Turned, At, IsRefused, IsRefusedAt}
 use Rattle.rp_rangesafe.proofs.Joint.{range_reached, one_range, refused_nowhere}
 use Rattle.rp_rangesafe.proofs.Once.{placed_born}
 use Rattle.rp_rangesafe.proofs.OneRange.{dead_by_stage, lawful_place}
@@ -38,18 +37,18 @@ use Rattle.rp_events.specs.declared.journals.JournalEntry.{JournalEntry}
 use Rattle.rp_events.specs.declared.journals.PastEvent.TheVariants as past
 use Rattle.rp_events.specs.Nodes as nodes
 use Rattle.rp_events.specs.Nodes.{Node, Status, seat}
-use Rattle.rp_events.specs.Worlds.{World, node_of, is_admission_of, asked_at, ended_of, outcome_by, outcome_at, outcome_of}
-use Rattle.rp_events.specs.Lawful.{IsLater}
+use Rattle.rp_events.specs.Worlds.{World, node_of, is_admission_of, asked_at, outcome_by, outcome_at, outcome_of}
 use Rattle.rp_events.specs.Lists.{base_of, history_in, HasApplied, Claim, KeepsPlace, IsAdmitted}
 use Rattle.rp_events.specs.Promises.{HasPlaceWith, NeverHasAPlace, OutcomesAreHonest}
 use Rattle.rp_journals.proofs.Telling.{told_once, known, ambiguous}
 use Rattle.rp_journals.proofs.Waiting.{pending_there}
-use Rattle.rp_seats.specs.Standing.{Bound, pending_in, StandsAs, HasPlace, IsToldAs, TellsOf, SeatOk, IsTurnedAway, IsMadeIn, IsOwned}
-use Rattle.rp_promise.specs.Records.{record_at, AllRecords}
+use Rattle.rp_seats.specs.Standing.{Bound, pending_in, StandsAs, HasPlace, IsToldAs, TellsOf, IsMadeIn, IsOwned}
+use Rattle.rp_promise.specs.Records.{AllRecords}
 use Rattle.rp_promise.specs.Beside.{IsPromising}
 use Rattle.rp_promise.proofs.Stands.{had_opened}
-use Rattle.rp_promise.proofs.Places.{claim_by, PlaceAt, place_at}
+use Rattle.rp_promise.proofs.Places.{PlaceAt, place_at}
 use Rattle.rp_promise.proofs.Lawful.{placed_unrefused}
+use Rattle.rp_promise.proofs.Somes.{some_is}
 
 -- what is found stands in the list, and passes the test
 record Found {X : Type 0} (test : X → Bool) (xs : List X) (x : X) : Type 0 where
@@ -60,9 +59,6 @@ record Found {X : Type 0} (test : X → Bool) (xs : List X) (x : X) : Type 0 whe
 found_is : {X : Type 0} (test : X → Bool) (xs : List X) (x : X) → find test xs ≡ Some x → Found test xs x
 found_is test [] x e = absurd cc
 found_is {X} test (z ∷ xs) x e = go (found_is test xs x) (test z) refl e where
-  some_is : (a b : X) → ◌≡◌ {A = Option X} (Some a) (Some b) → a ≡ b
-  some_is a b f = cc
-
   go : (find test xs ≡ Some x → Found test xs x) → (b : Bool) → test z ≡ b → cond b (Some z) (find test xs) ≡ Some x → Found test (z ∷ xs) x
   go more true is f = record { index = 0; here = f; holds = ap test (sym (some_is z x f)) ∙ is }
   go more false is f = let r = more f in record { index = suc r.index; here = r.here; holds = r.holds }
@@ -71,9 +67,6 @@ found_is {X} test (z ∷ xs) x e = go (found_is test xs x) (test z) refl e where
 not_missed : {X : Type 0} (test : X → Bool) (xs : List X) (i : ℕ) (x : X) → slice_get xs i ≡ Some x → test x ≡ true → find test xs ≡ None → ⊥
 not_missed test [] i x e holds none = cc
 not_missed {X} test (z ∷ xs) i x e holds none = go (λ j f g. not_missed test xs j x f holds g) (test z) refl none i e where
-  some_is : (a b : X) → ◌≡◌ {A = Option X} (Some a) (Some b) → a ≡ b
-  some_is a b f = cc
-
   go : ((j : ℕ) → slice_get xs j ≡ Some x → find test xs ≡ None → ⊥) → (b : Bool) → test z ≡ b → cond b (Some z) (find test xs) ≡ None → (i : ℕ) → slice_get (z ∷ xs) i ≡ Some x → ⊥
   go more true is f j e' = cc
   go more false is f zero e' = false_true (sym is ∙ ap test (some_is z x e') ∙ holds) where
@@ -93,9 +86,6 @@ told_at w id o e = go (find (asked_at id) w) refl e where
   go : (f : Option Node) → find (asked_at id) w ≡ f → option_and_then (outcome_at id) f ≡ Some o → ToldAt w id o
   go None is e' = absurd cc
   go (Some n) is e' = let f = found_is (asked_at id) w n is in record { node = suc f.index; n = n; has = f.here; told = e' }
-
-outcome_is : (a b : Outcome) → ◌≡◌ {A = Option Outcome} (Some a) (Some b) → a ≡ b
-outcome_is a b e = cc
 
 -- who is told Success has that end in the node's list
 abbrev HasEnd : Node → CmdId → Reply → Type 0
@@ -117,7 +107,7 @@ told_success : (n : Node) (id : CmdId) (reply : Reply) → outcome_at id n ≡ S
 told_success n id reply = by_entry (find (is_admission_of id) n.journal) where
   by_entry : (f : Option JournalEntry) → option_map (λ (e : JournalEntry). outcome_by n id e.answer) f ≡ Some (Success reply) → HasEnd n id reply
   by_entry None e = absurd cc
-  by_entry (Some x) e = answered_success n id reply x.answer (outcome_is (outcome_by n id x.answer) (Success reply) e)
+  by_entry (Some x) e = answered_success n id reply x.answer (some_is (outcome_by n id x.answer) (Success reply) e)
 
 -- a node with an admission of the attempt tells of it
 admitted_told : (n : Node) (id : CmdId) (place : ℕ) (x : JournalEntry) → slice_get n.journal place ≡ Some x → is_admission_of id x ≡ true → outcome_at id n ≡ None → ⊥
@@ -127,12 +117,6 @@ admitted_told n id place x here is none = go (find (is_admission_of id) n.journa
   go (Some y) found e = some_none e where
     some_none : ◌≡◌ {A = Option Outcome} (Some (outcome_by n id y.answer)) None → ⊥
     some_none f = cc
-
-some_node : (a b : Node) → ◌≡◌ {A = Option Node} (Some a) (Some b) → a ≡ b
-some_node a b e = cc
-
-none_some : (o : Outcome) → ◌≡◌ {A = Option Outcome} None (Some o) → ⊥
-none_some o e = cc
 
 -- what a pending attempt's stage is, and what a refused one's
 pending_stage : (s : Stage) → IsToldAs s (Some Pending) → ⊥
@@ -172,13 +156,10 @@ module _ (lists : OneList AppliedState) (w : World) (m : Ranges) (seen : ℕ →
       let ok = b.ranges range (had_opened lists w m seen b node range past a) in
       go (seat a.n range) (ok.seats node a.n a.has).stands a.history
     where
-      some_past : (p q : History) → ◌≡◌ {A = Option History} (Some p) (Some q) → p ≡ q
-      some_past p q e = cc
-
       go : (s : Status) → StandsAs (m.range range) node (base_of range) s → history_in s ≡ Some past → (m.range range).index node + base_of range ≡ past.index
       go nodes.Absent stands e = absurd cc
-      go (nodes.Live r) stands e = stands.0 ∙ ap (λ (z : History). z.index) (some_past r.applied past e)
-      go (nodes.Removed applied) stands e = stands.0 ∙ ap (λ (z : History). z.index) (some_past applied past e)
+      go (nodes.Live r) stands e = stands.0 ∙ ap (λ (z : History). z.index) (some_is r.applied past e)
+      go (nodes.Removed applied) stands e = stands.0 ∙ ap (λ (z : History). z.index) (some_is applied past e)
 
   kept_at : AllRecords w m → (node range index : ℕ) (claim : Claim) → KeepsPlace w node range index claim → KeptAt m node range claim
   kept_at a node range index claim k =
@@ -208,12 +189,12 @@ module _ (lists : OneList AppliedState) (w : World) (m : Ranges) (seen : ℕ →
   who_tells : (id : CmdId) (o : Outcome) (node : ℕ) (n : Node) → node_of w node ≡ Some n → outcome_at id n ≡ Some o → TellsMade id o node n ⊎ TellsTurned id o
   who_tells id o node n has told = go (m.owner id) refl (b.owned id) where
     go : (x : Owner) → m.owner id ≡ x → IsOwned m w id x → TellsMade id o node n ⊎ TellsTurned id o
-    go Nobody e owned = absurd (none_some o (sym (owned node n has) ∙ told))
+    go Nobody e owned = absurd (none-some o (sym (owned node n has) ∙ told))
     go Turned e owned = ⊎_elim
         (λ (same : node ≡ owned.at).
-        let one : n ≡ owned.n = some_node n owned.n (sym has ∙ ap (node_of w) same ∙ owned.has) in
-        inr (record { owner = e; why = owned.why; is = outcome_is o (Refused owned.why) (sym told ∙ ap (outcome_at id) one ∙ owned.told) }))
-        (λ (other : node ≡ owned.at → ⊥). absurd (none_some o (sym (owned.others node n has other) ∙ told)))
+        let one : n ≡ owned.n = some_is n owned.n (sym has ∙ ap (node_of w) same ∙ owned.has) in
+        inr (record { owner = e; why = owned.why; is = some_is o (Refused owned.why) (sym told ∙ ap (outcome_at id) one ∙ owned.told) }))
+        (λ (other : node ≡ owned.at → ⊥). absurd (none-some o (sym (owned.others node n has other) ∙ told)))
         (cases_eq node owned.at)
     go (At range) e owned = ⊎_elim
         (λ (same : node ≡ ((m.range range).attempt id).node). inl (record {
@@ -223,7 +204,7 @@ module _ (lists : OneList AppliedState) (w : World) (m : Ranges) (seen : ℕ →
           own = same;
           tells = subst (λ z. TellsOf node ((m.range range).attempt id) (proposal_of id (pending_in (seat n range))) z) told (((b.ranges range owned.there).seats node n has).pending.tells id);
         }))
-        (λ (other : node ≡ ((m.range range).attempt id).node → ⊥). absurd (none_some o (sym (owned.others node n has other) ∙ told)))
+        (λ (other : node ≡ ((m.range range).attempt id).node → ⊥). absurd (none-some o (sym (owned.others node n has other) ∙ told)))
         (cases_eq node ((m.range range).attempt id).node)
 
   -- who was told Refused was refused in the machine

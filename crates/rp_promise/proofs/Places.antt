@@ -1,5 +1,6 @@
 -- What an item of a range's list says, and which entry it is of.
-use Rattle.std.proofs.Common.{◌≡◌, ℕ, zero, suc, ◌+◌, ◌^◌, ◌<◌, ◌≤◌, ◌⊎◌, inl, inr, ⊎_elim, Option, None, Some, Result, Ok, Err, List, [], ◌∷◌, ◌++◌, length, refl, sym, ap, subst, ◌∙◌, arith, append-nil}
+use Rattle.std.proofs.Common.{◌≡◌, ℕ, zero, suc, ◌<◌, ◌≤◌, ◌⊎◌, inl, inr, ⊎_elim, Option, None, Some, Result, Ok, Err, [], ◌∷◌, ◌++◌, length, refl, sym, ap, ◌∙◌, arith, append-nil}
+use Rattle.std.proofs.lemmas.Option.{none-some}
 use Rattle.std.specs.Prelude.{slice_get}
 use Rattle.rp_base.specs.Splits.{split_of}
 use Rattle.rp_base.specs.Tables.{Table, below}
@@ -35,6 +36,7 @@ use Rattle.rp_rangesafe.proofs.OneRange.{effect_at_place}
 use Rattle.rp_events.specs.Lists.{Claim, claim_of}
 use Rattle.rp_promise.specs.Records.{record_at}
 use Rattle.rp_promise.proofs.Scenes.{get_push}
+use Rattle.rp_promise.proofs.Somes.{some_is}
 
 -- what a command says
 abbrev pub claim_by : Command → Claim
@@ -89,9 +91,7 @@ pub record ItemAt (h : World) (n j : ℕ) (x : Place) : Type 0 where
   pub at : j ≡ length (items_to h index)
 
 pub item_at : (h : World) (n : ℕ) → n ≤ length h.log → (j : ℕ) (x : Place) → slice_get (items_to h n) j ≡ Some x → ItemAt h n j x
-item_at h zero le j x e = absurd (none_some e) where
-  none_some : ◌≡◌ {A = Option Place} None (Some x) → ⊥
-  none_some f = cc
+item_at h zero le j x e = absurd (none-some x e)
 item_at h (suc n) le j x e = go (record_at h n) refl (λ f. wider (item_at h n (omega (arith, le)) j x f)) (sym (ap (λ xs. slice_get xs j) (one_more h.start h.log n (omega (arith, le)))) ∙ e) where
   wider : ItemAt h n j x → ItemAt h (suc n) j x
   wider i = record { index = i.index; below = let lt = i.below in omega (arith, lt); is = i.is; at = i.at }
@@ -138,9 +138,6 @@ pub record PlaceAt (h : World) (k : ℕ) (claim : Claim) : Type 0 where
   pub place : IsPlace h command.id k command
   pub says : claim_by command ≡ claim
 
-some_claim : (a b : Claim) → ◌≡◌ {A = Option Claim} (Some a) (Some b) → a ≡ b
-some_claim a b e = cc
-
 pub place_at : (h : World) → IsReached h → (k : ℕ) → k < length h.log → (x : Place) (claim : Claim) → record_at h k ≡ Took x → claim_of x ≡ Some claim → PlaceAt h k claim
 place_at h reached k lt x claim is says = ⊎_elim
     (λ (t : TakenCommand (state_at h k) (entry h.log k) x).
@@ -148,10 +145,7 @@ place_at h reached k lt x claim is says = ⊎_elim
     record {
       command = t.command;
       place = p;
-      says = some_claim (claim_by t.command) claim (sym (place_says h reached t.command.id k t.command p) ∙ ap claim_of t.is ∙ says);
+      says = some_is (claim_by t.command) claim (sym (place_says h reached t.command.id k t.command p) ∙ ap claim_of t.is ∙ says);
     })
-    (λ (t : TakenAsk (state_at h k) (entry h.log k) x). absurd (none_some (ap claim_of t.is ∙ says)))
+    (λ (t : TakenAsk (state_at h k) (entry h.log k) x). absurd (none-some claim (ap claim_of t.is ∙ says)))
     (taken_by (state_at h k) (entry h.log k) x is)
-  where
-    none_some : ◌≡◌ {A = Option Claim} None (Some claim) → ⊥
-    none_some e = cc

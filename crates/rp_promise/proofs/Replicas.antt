@@ -1,5 +1,6 @@
 -- What an event of a replica leaves of what was applied, which snapshots it sends, and whom it tells Success.
-use Rattle.std.proofs.Common.{◌≡◌, ℕ, ◌+◌, ◌≤◌, Bool, true, false, cond, ◌⊎◌, inl, inr, Option, None, Some, Result, Ok, Err, List, [], ◌∷◌, ◌++◌, refl, sym, ap, subst, ◌∙◌, arith}
+use Rattle.std.proofs.Common.{◌≡◌, ℕ, ◌+◌, ◌≤◌, true, ◌⊎◌, inl, inr, Option, None, Some, Result, Ok, Err, List, [], ◌∷◌, ◌++◌, refl, sym, ap, subst, ◌∙◌, arith}
+use Rattle.std.proofs.lemmas.Option.{none-some}
 use Rattle.std.specs.Prelude.{filter_map}
 use Rattle.std.specs.List.{AllByRecursion as Every, list_any, cons_option}
 use Rattle.std.specs.Option.{option_map, option_map_or}
@@ -9,9 +10,8 @@ use Rattle.rp_base.specs.declared.items.Item.{Item}
 use Rattle.rp_base.specs.declared.items.Item.TheVariants as items
 use Rattle.rp_base.specs.declared.leases.Lease.{Lease}
 use Rattle.rp_flush.specs.declared.assigns.Assigned.{Assigned}
-use Rattle.rp_latch.specs.declared.holds.Hold.{Hold}
 use Rattle.rp_raftstep.specs.declared.messages.Message.{Message}
-use Rattle.rp_raftstep.specs.Step.{Draft, tick, received, quiet}
+use Rattle.rp_raftstep.specs.Step.{Draft, tick, received}
 use Rattle.rp_request.specs.Applied.{AppliedState, command_verdict}
 use Rattle.rp_request.specs.History.{History, reset_to}
 use Rattle.rp_request.specs.History as history
@@ -38,7 +38,7 @@ use Rattle.rp_raftsafe.proofs.Snapped.{SentSnap, acts_snaps, gets_snaps}
 use Rattle.rp_events.specs.declared.answers.Ended.{Ended}
 use Rattle.rp_events.specs.declared.answers.EventAnswer.TheVariants as answers
 use Rattle.rp_events.specs.declared.replica_events.ReplicaEvent.{ReplicaEvent}
-use Rattle.rp_events.specs.declared.replica_events.ReplicaEvent.TheVariants.{Admit, Ask, Transfer, Collect, Flush, Tick, Deliver, Apply, Cut, Remove, Peek, Restart}
+use Rattle.rp_events.specs.declared.replica_events.ReplicaEvent.TheVariants.{Admit, Ask, Transfer, Collect, Flush, Tick, Deliver, Cut, Remove, Peek, Restart}
 use Rattle.rp_events.specs.Replicas.{Replica, Done, Told, untold, has_new_leader, lease_of, holds_lease, leaves}
 use Rattle.rp_events.specs.declared.moves.Move.{Move}
 use Rattle.rp_events.specs.declared.moves.Move.TheVariants.{HandsOut, GivesUp, TakesBack, Repeats}
@@ -46,15 +46,15 @@ use Rattle.rp_events.specs.Moves.{hands_out, gives_up, takes_back, repeats, move
 use Rattle.rp_events.specs.Admissions.{guarded, admitted_by, with_proposal, proposal}
 use Rattle.rp_events.specs.Flushes.{assigning, emptied, flush_moves}
 use Rattle.rp_events.specs.LeaseAsks.{joined, joined_all, same_ask, without_first, is_held, answers_ask, ask_for, expiry_of, lease_ticks}
-use Rattle.rp_events.specs.Refreshes.{with_taken, refreshing, refreshed_by, refresh_moves, delivered_by}
-use Rattle.rp_events.specs.Ends.{end_of, ends_all, overtaken_by, removed_with, lost_under, snapshot_taken}
-use Rattle.rp_events.specs.Applications.{is_own, settled, proposer_told, payload_of, next_entry, applied_one, applied_where}
+use Rattle.rp_events.specs.Refreshes.{with_taken, refreshing, refreshed_by, refresh_moves}
+use Rattle.rp_events.specs.Ends.{end_of, overtaken_by, removed_with, lost_under}
+use Rattle.rp_events.specs.Applications.{is_own, settled, proposer_told, applied_one}
 use Rattle.rp_events.specs.ReplicaEvents.{event}
-use Rattle.rp_events.specs.Nodes.{Status, Absent, Live, Removed}
 use Rattle.rp_events.specs.NodeEvents.{status_after}
 use Rattle.rp_events.specs.Lists.{history_in}
 use Rattle.rp_seats.specs.Views.{core, range_at}
 use Rattle.rp_seats.proofs.Turns.{moves_kept}
+use Rattle.rp_promise.proofs.Somes.{some_is}
 
 -- an end that is no Success
 abbrev pub IsNoSuccess : Outcome → Type 0
@@ -113,9 +113,6 @@ moves_end ticks round t (m ∷ ms) h = moves_end ticks round (moved ticks round 
 abbrev NoneSucceeds : (Proposal → Option Outcome) → Type 0
 NoneSucceeds ends = (p : Proposal) (o : Outcome) → ends p ≡ Some o → IsNoSuccess o
 
-some_is : (a b : Outcome) → ◌≡◌ {A = Option Outcome} (Some a) (Some b) → a ≡ b
-some_is a b e = cc
-
 all_end : (ends : Proposal → Option Outcome) → NoneSucceeds ends → (ps : List Proposal) → Every NoSuccess (filter_map (end_of ends) ps)
 all_end ends h [] = tt
 all_end ends h (p ∷ ps) = go (ends p) refl (all_end ends h ps) where
@@ -128,10 +125,7 @@ overtaken_none : (lai : ℕ) → NoneSucceeds (overtaken_by lai)
 overtaken_none lai p o =
     cond_both (goes_back lai p) (Some (Ambiguous (causes.Snapshot p.max lai))) None (λ z. z ≡ Some o → IsNoSuccess o)
     (λ _ e. subst IsNoSuccess (some_is (Ambiguous (causes.Snapshot p.max lai)) o e) tt)
-    (λ _ e. absurd (none_some e))
-  where
-    none_some : ◌≡◌ {A = Option Outcome} None (Some o) → ⊥
-    none_some e = cc
+    (λ _ e. absurd (none-some o e))
 
 removed_none : NoneSucceeds removed_with
 removed_none p o =

@@ -1,12 +1,12 @@
 -- What a scene changes of the nodes; and that what is kept as a record is kept.
-use Rattle.std.proofs.Common.{◌≡◌, ℕ, zero, suc, ◌+◌, ◌<◌, ◌≤◌, Bool, true, false, cond, ◌⊎◌, inl, inr, ⊎_elim, Option, None, Some, List, [], ◌∷◌, ◌++◌, length, set, refl, sym, ap, subst, ◌∙◌, arith}
-use Rattle.std.specs.Prelude.{Contains, slice_get, slice_index_or, slice_set, not, ◌&&◌, ◌==◌, IsTrue}
+use Rattle.std.proofs.Common.{◌≡◌, ℕ, zero, suc, ◌<◌, false, ◌⊎◌, inl, inr, ⊎_elim, Option, None, Some, List, [], ◌∷◌, ◌++◌, length, refl, sym, ap, subst, ◌∙◌, arith}
+use Rattle.std.proofs.lemmas.Option.{none-some}
+use Rattle.std.specs.Prelude.{Contains, slice_get, slice_index_or, slice_set, not, ◌&&◌, IsTrue}
 use Rattle.std.specs.Option.{option_map, option_map_or}
 use Rattle.std.proofs.lemmas.Bool.{cases_eq}
 use Rattle.std.proofs.lemmas.List.Elements.{Contains-append_cases, Contains-append_left, Contains-append_right}
 use Rattle.std.proofs.lemmas.List.{set-get_or}
 use Rattle.std.proofs.lemmas.Option.{slice_get_within, get_or_from_slice_get}
-use Rattle.rp_base.specs.declared.items.Item.{Item}
 use Rattle.rp_request.specs.Applied.{AppliedState, record_of}
 use Rattle.rp_request.specs.History.{Piece, History, with_record, none_after, reset_to}
 use Rattle.rp_request.specs.History as history
@@ -21,56 +21,18 @@ use Rattle.rp_events.specs.Worlds as worlds
 use Rattle.rp_events.specs.Worlds.{World, Scene, Happening, node_of, with_node, sent_by, delivery, event_of, taken_in, after_step, happens_at, happens}
 use Rattle.rp_events.specs.Lawful.{is_allowed, is_lawful}
 use Rattle.rp_events.specs.Lists.{history_in, HasApplied, StandsIn, Keeps}
+use Rattle.rp_journals.proofs.Growing.{with_same, with_other}
+use Rattle.rp_journals.proofs.Lists.{get_front}
 use Rattle.rp_seats.proofs.Shaped.{node_after}
-use Rattle.rp_promise.proofs.Turned.{at_seat, AppliedAt, WasSent, Jumped, Begun, Became, kept, goes, jumps, begins, TurnedTo, Brings, node_turned}
+use Rattle.rp_promise.proofs.Turned.{at_seat, WasSent, Became, kept, goes, jumps, begins, TurnedTo, Brings, node_turned}
+use Rattle.rp_promise.proofs.Somes.{some_is}
 
-some_node : (a b : Node) → ◌≡◌ {A = Option Node} (Some a) (Some b) → a ≡ b
-some_node a b e = cc
-
-pub some_past : (a b : History) → ◌≡◌ {A = Option History} (Some a) (Some b) → a ≡ b
-some_past a b e = cc
-
--- a list with a further part
-pub get_front : {A : Type 0} (xs ys : List A) (i : ℕ) (x : A) → slice_get xs i ≡ Some x → slice_get (xs ++ ys) i ≡ Some x
-get_front {A} [] ys i x e = absurd (none_some e) where
-  none_some : ◌≡◌ {A = Option A} None (Some x) → ⊥
-  none_some e' = cc
-get_front (z ∷ xs) ys zero x e = e
-get_front (z ∷ xs) ys (suc i) x e = get_front xs ys i x e
-
-pub get_last : {A : Type 0} (xs : List A) (x : A) → slice_get (xs ++ x ∷ []) (length xs) ≡ Some x
-get_last [] x = refl
-get_last (z ∷ xs) x = get_last xs x
-
+-- a list with one element more
 pub get_push : {A : Type 0} (xs : List A) (y : A) (i : ℕ) (x : A) → slice_get (xs ++ y ∷ []) i ≡ Some x → (slice_get xs i ≡ Some x) ⊎ ((i ≡ length xs) × (x ≡ y))
-get_push {A} [] y zero x e = inr (refl, some_is e) where
-  some_is : ◌≡◌ {A = Option A} (Some y) (Some x) → x ≡ y
-  some_is e' = cc
+get_push {A} [] y zero x e = inr (refl, sym (some_is y x e))
 get_push [] y (suc i) x e = inl e
 get_push (z ∷ xs) y zero x e = inl e
 get_push {A} (z ∷ xs) y (suc i) x e = ⊎_elim (λ (old : slice_get xs i ≡ Some x). inl old) (λ (new : (i ≡ length xs) × (x ≡ y)). inr (ap suc new.0, new.1)) (get_push xs y i x e)
-
--- the node that changes, and the others
-get_set_same : (w : World) (place : ℕ) (n new : Node) → slice_get w place ≡ Some n → slice_get (set w place new) place ≡ Some new
-get_set_same [] place n new e = absurd cc
-get_set_same (x ∷ w) zero n new e = refl
-get_set_same (x ∷ w) (suc place) n new e = get_set_same w place n new e
-
-get_set_other : (w : World) (i j : ℕ) (new : Node) → (j ≡ i → ⊥) → slice_get (set w i new) j ≡ slice_get w j
-get_set_other [] i j new ne = refl
-get_set_other (x ∷ w) zero zero new ne = absurd (ne refl)
-get_set_other (x ∷ w) zero (suc j) new ne = refl
-get_set_other (x ∷ w) (suc i) zero new ne = refl
-get_set_other (x ∷ w) (suc i) (suc j) new ne = get_set_other w i j new (λ e. ne (ap suc e))
-
-pub changed_node : (w : World) (node : ℕ) (n new : Node) → node_of w node ≡ Some n → node_of (with_node w node new) node ≡ Some new
-changed_node w zero n new e = absurd cc
-changed_node w (suc place) n new e = get_set_same w place n new e
-
-pub other_node : (w : World) (node other : ℕ) (new : Node) → (other ≡ node → ⊥) → node_of (with_node w node new) other ≡ node_of w other
-other_node w zero other new ne = refl
-other_node w (suc place) zero new ne = refl
-other_node w (suc place) (suc j) new ne = get_set_other w place j new (λ e. ne (ap suc e))
 
 unchanged : (w : World) (node : ℕ) (n : Node) → node_of w node ≡ Some n → with_node w node n ≡ w
 unchanged w zero n e = refl
@@ -87,9 +49,6 @@ pub record SceneTurned (w : World) (x : Scene) : Type 0 where
   pub new : Node
   pub turned : TurnedTo w n new
   pub after : happens w x ≡ with_node w x.node new
-
-some_event : (e f : Event AppliedState) → ◌≡◌ {A = Option (Event AppliedState)} (Some e) (Some f) → e ≡ f
-some_event e f is = cc
 
 -- a message of a sent list was sent
 was_sent : (w : World) (from number : ℕ) (p : Parcel AppliedState) → parcel_of (sent_by w from) number ≡ Some p → WasSent w p.range p.message
@@ -109,22 +68,22 @@ was_sent w from number p = go (node_of w from) refl number where
 
 parcel_brings : (w : World) (from number : ℕ) (o : Option (Parcel AppliedState)) → parcel_of (sent_by w from) number ≡ o → (e : Event AppliedState) → option_map (delivery from number) o ≡ Some e → Brings w e
 parcel_brings w from number None at e is = absurd cc
-parcel_brings w from number (Some p) at e is = subst (Brings w) (some_event (delivery from number p) e is) (was_sent w from number p at)
+parcel_brings w from number (Some p) at e is = subst (Brings w) (some_is (delivery from number p) e is) (was_sent w from number p at)
 
 brings : (w : World) (what : Happening) (e : Event AppliedState) → event_of w what ≡ Some e → Brings w e
-brings w (worlds.Admit at id request) e is = subst (Brings w) (some_event (events.Admit at id request) e is) tt
-brings w (worlds.Ask at) e is = subst (Brings w) (some_event (events.Ask at) e is) tt
-brings w (worlds.Transfer at to) e is = subst (Brings w) (some_event (events.Transfer at to) e is) tt
-brings w (worlds.Collect at taken) e is = subst (Brings w) (some_event (events.Collect at) e is) tt
-brings w (worlds.Flush at) e is = subst (Brings w) (some_event (events.Flush at) e is) tt
-brings w worlds.Tick e is = subst (Brings w) (some_event events.Tick e is) tt
+brings w (worlds.Admit at id request) e is = subst (Brings w) (some_is (events.Admit at id request) e is) tt
+brings w (worlds.Ask at) e is = subst (Brings w) (some_is (events.Ask at) e is) tt
+brings w (worlds.Transfer at to) e is = subst (Brings w) (some_is (events.Transfer at to) e is) tt
+brings w (worlds.Collect at taken) e is = subst (Brings w) (some_is (events.Collect at) e is) tt
+brings w (worlds.Flush at) e is = subst (Brings w) (some_is (events.Flush at) e is) tt
+brings w worlds.Tick e is = subst (Brings w) (some_is events.Tick e is) tt
 brings w (worlds.Deliver from number) e is = parcel_brings w from number (parcel_of (sent_by w from) number) refl e is
-brings w (worlds.Apply at) e is = subst (Brings w) (some_event (events.Apply at) e is) tt
-brings w (worlds.Cut at) e is = subst (Brings w) (some_event (events.Cut at) e is) tt
-brings w (worlds.Remove at) e is = subst (Brings w) (some_event (events.Remove at) e is) tt
-brings w (worlds.Peek at key) e is = subst (Brings w) (some_event (events.Peek at key) e is) tt
-brings w worlds.Restart e is = subst (Brings w) (some_event events.Restart e is) tt
-brings w worlds.Round e is = subst (Brings w) (some_event events.Round e is) tt
+brings w (worlds.Apply at) e is = subst (Brings w) (some_is (events.Apply at) e is) tt
+brings w (worlds.Cut at) e is = subst (Brings w) (some_is (events.Cut at) e is) tt
+brings w (worlds.Remove at) e is = subst (Brings w) (some_is (events.Remove at) e is) tt
+brings w (worlds.Peek at key) e is = subst (Brings w) (some_is (events.Peek at key) e is) tt
+brings w worlds.Restart e is = subst (Brings w) (some_is events.Restart e is) tt
+brings w worlds.Round e is = subst (Brings w) (some_is events.Round e is) tt
 
 same_turned : (w : World) (n : Node) → TurnedTo w n n
 same_turned w n = record { seats_are = λ range. kept refl; sent_are = λ p c. inl c; outcomes_are = λ e c. inl c }
@@ -153,8 +112,8 @@ abbrev pub KeepsAll : History → History → Type 0
 KeepsAll old new = (piece : Piece) (index : ℕ) (r : Record) → Contains (Pieces old) piece → StandsIn piece index r
     → (other : Piece) × Contains (Pieces new) other × StandsIn other index r
 
-one_is : (piece other : Piece) → Contains (piece ∷ []) other → other ≡ piece
-one_is piece other c = go c.0 c.1 c.2 where
+pub one_piece : (piece other : Piece) → Contains (piece ∷ []) other → other ≡ piece
+one_piece piece other c = go c.0 c.1 c.2 where
   go : (k : ℕ) → k < length (piece ∷ []) → slice_index_or (piece ∷ []) k other ≡ other → other ≡ piece
   go zero lt e = sym e
   go (suc k) lt e = absurd (omega (arith, lt))
@@ -167,7 +126,7 @@ applied_keeps past p piece index r among stands =
     (λ (last : Contains (past.records ∷ []) piece). (
       with_record past.records rec,
       Contains-append_right past.earlier (with_record past.records rec ∷ []) (with_record past.records rec) (0, omega arith, refl),
-      further rec (subst (λ z. StandsIn z index r) (one_is past.records piece last) stands),
+      further rec (subst (λ z. StandsIn z index r) (one_piece past.records piece last) stands),
     ))
     (Contains-append_cases past.earlier (past.records ∷ []) piece among)
   where
@@ -182,14 +141,12 @@ became_keeps : (w : World) (seats after : List Status) (range : ℕ) → Became 
     → (now : History) × (history_in (at_seat after range) ≡ Some now) × KeepsAll past now
 became_keeps w seats after range (kept e) past is = (past, e ∙ is, λ piece index r among stands. (piece, among, stands))
 became_keeps w seats after range (goes r p a) past is =
-    let same : r.applied ≡ past = some_past r.applied past (sym (ap history_in a.live) ∙ is) in
+    let same : r.applied ≡ past = some_is r.applied past (sym (ap history_in a.live) ∙ is) in
     (history.applied r.applied p, a.history, subst (λ z. KeepsAll z (history.applied r.applied p)) same (applied_keeps r.applied p))
 became_keeps w seats after range (jumps j) past is =
-    let same : j.before.applied ≡ past = some_past j.before.applied past (sym (ap history_in j.was) ∙ is) in
+    let same : j.before.applied ≡ past = some_is j.before.applied past (sym (ap history_in j.was) ∙ is) in
     (j.replica.applied, ap history_in j.is, subst (λ z. KeepsAll z j.replica.applied) same (subst (λ z. KeepsAll j.before.applied z) (sym j.history) (reset_keeps j.before.applied j.state j.index)))
-became_keeps w seats after range (begins b) past is = absurd (none_some (sym (ap history_in b.was) ∙ is)) where
-  none_some : ◌≡◌ {A = Option History} None (Some past) → ⊥
-  none_some e = cc
+became_keeps w seats after range (begins b) past is = absurd (none-some past (sym (ap history_in b.was) ∙ is))
 
 -- so it is in the world behind a scene
 pub record StillHas (w : World) (node range : ℕ) (past : History) : Type 0 where
@@ -200,16 +157,16 @@ pub record StillHas (w : World) (node range : ℕ) (past : History) : Type 0 whe
 pub still_has : (w : World) (x : Scene) → SceneTurned w x → (node range : ℕ) (past : History) → HasApplied w node range past → StillHas (happens w x) node range past
 still_has w x t node range past a = subst (λ z. StillHas z node range past) (sym t.after) (⊎_elim
     (λ (own : node ≡ x.node).
-    let same : a.n ≡ t.n = some_node a.n t.n (sym a.has ∙ ap (node_of w) own ∙ t.has) in
+    let same : a.n ≡ t.n = some_is a.n t.n (sym a.has ∙ ap (node_of w) own ∙ t.has) in
     let b = became_keeps w t.n.seats t.new.seats range (t.turned.seats_are range) past (ap (λ (z : Node). history_in (seat z range)) (sym same) ∙ a.history) in
     record {
       now = b.0;
-      applied = record { n = t.new; has = ap (node_of (with_node w x.node t.new)) own ∙ changed_node w x.node t.n t.new t.has; history = b.1 };
+      applied = record { n = t.new; has = ap (node_of (with_node w x.node t.new)) own ∙ with_same w x.node t.n t.new t.has; history = b.1 };
       keeps = b.2;
     })
     (λ (ne : node ≡ x.node → ⊥). record {
       now = past;
-      applied = record { n = a.n; has = other_node w x.node node t.new ne ∙ a.has; history = a.history };
+      applied = record { n = a.n; has = with_other w x.node t.new node ne ∙ a.has; history = a.history };
       keeps = λ piece index r among stands. (piece, among, stands);
     })
     (cases_eq node x.node))

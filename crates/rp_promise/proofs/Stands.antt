@@ -1,5 +1,6 @@
 -- What stands beside a seat: Raft's world and the machine of its range.
-use Rattle.std.proofs.Common.{◌≡◌, ℕ, zero, suc, ◌+◌, ◌<◌, ◌≤◌, Bool, true, false, cond, eqb, ◌⊎◌, inl, inr, Option, None, Some, List, [], ◌∷◌, length, refl, sym, ap, subst, ◌∙◌, arith, eq-eqb}
+use Rattle.std.proofs.Common.{◌≡◌, ℕ, zero, suc, ◌+◌, ◌<◌, Bool, true, false, cond, eqb, Some, List, [], ◌∷◌, length, refl, sym, ap, subst, ◌∙◌, arith, eq-eqb}
+use Rattle.std.proofs.lemmas.Option.{none-some}
 use Rattle.std.specs.Prelude.{Contains, slice_index_or}
 use Rattle.std.proofs.lemmas.Bool.{cond_both}
 use Rattle.rp_raftstep.specs.declared.messages.Message.{Message}
@@ -16,11 +17,11 @@ use Rattle.rp_rangesafe.proofs.Joint.{range_reached}
 use Rattle.rp_events.specs.declared.parcels.Parcel.{Parcel}
 use Rattle.rp_events.specs.Replicas.{Replica}
 use Rattle.rp_events.specs.Applications.{payload_of, next_entry}
-use Rattle.rp_events.specs.Nodes.{Node, Status, Absent, Live, seat}
+use Rattle.rp_events.specs.Nodes.{Node, Absent, Live, seat}
 use Rattle.rp_events.specs.Worlds.{World, node_of, outcome_at}
 use Rattle.rp_events.specs.Lists.{base_of, history_in, HasApplied}
-use Rattle.rp_seats.specs.Views.{core_of, sent_of, view, range_at}
-use Rattle.rp_seats.specs.Standing.{Bound, RangeOk, SeatOk, IsShut}
+use Rattle.rp_seats.specs.Views.{core_of, sent_of, range_at}
+use Rattle.rp_seats.specs.Standing.{Bound, RangeOk, SeatOk}
 use Rattle.rp_seats.specs.Turned.{IsNext}
 use Rattle.rp_seats.proofs.Opens.{nowhere_bare, absent_is}
 use Rattle.rp_seats.proofs.Shown.{state_is, next_is}
@@ -62,9 +63,7 @@ module _ (lists : OneList AppliedState) (w : World) (m : Ranges) (seen : ℕ →
   silent range off node n p has among own = of_range range n.sent p among own (ap (λ (z : raft.Site AppliedState). z.sent) (bare_site range off node n has))
 
   pub unhad : (range : ℕ) → m.opened range ≡ false → (node : ℕ) (past : History) → HasApplied w node range past → ⊥
-  unhad range off node past a = none_some (sym (ap history_in (bare range off node a.n a.has)) ∙ a.history) where
-    none_some : ◌≡◌ {A = Option History} None (Some past) → ⊥
-    none_some e = cc
+  unhad range off node past a = none-some past (sym (ap history_in (bare range off node a.n a.has)) ∙ a.history)
 
   pub had_opened : (node range : ℕ) (past : History) → HasApplied w node range past → m.opened range ≡ true
   had_opened node range past a = go (m.opened range) refl where

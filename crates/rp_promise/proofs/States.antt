@@ -1,5 +1,5 @@
 -- The states of the nodes agree.
-use Rattle.std.proofs.Common.{◌≡◌, ℕ, zero, suc, ◌+◌, ◌-◌, ◌<◌, ◌≤◌, true, Option, None, Some, List, [], ◌∷◌, ◌++◌, length, refl, sym, ap, subst, ◌∙◌, arith}
+use Rattle.std.proofs.Common.{◌≡◌, ℕ, ◌≤◌, true, List, [], ◌∷◌, ◌++◌, length, refl, sym, ap, subst, ◌∙◌, arith}
 use Rattle.rp_raftlog.specs.LogState.{entry_at}
 use Rattle.rp_request.specs.Applied.{AppliedState}
 use Rattle.rp_request.specs.History.{History}
@@ -7,17 +7,15 @@ use Rattle.rp_request.specs.Onward.{IsOnward}
 use Rattle.rp_request.specs.declared.items.Record.{Record}
 use Rattle.rp_raftsafe.specs.World as raft
 use Rattle.rp_raftsafe.specs.World.{world_after}
-use Rattle.rp_raftsafe.specs.Safety.{OneList, IsLive, Leads}
+use Rattle.rp_raftsafe.specs.Safety.{OneList, IsLive}
 use Rattle.rp_raftsafe.proofs.Agree.{one_leader_holds, commits_agree_holds}
-use Rattle.rp_rangesafe.specs.World as machine
 use Rattle.rp_rangesafe.specs.World.{state_at}
-use Rattle.rp_rangesafe.specs.Ranges.{Ranges, AreLater}
+use Rattle.rp_rangesafe.specs.Ranges.{Ranges}
 use Rattle.rp_rangesafe.proofs.Joint.{range_goes_on}
 use Rattle.rp_rangesafe.proofs.OneRange.{numbers_rise}
 use Rattle.rp_rangesafe.proofs.Runs.{later_start}
 use Rattle.rp_events.specs.Replicas.{Replica}
-use Rattle.rp_events.specs.Nodes.{Node, Live, seat}
-use Rattle.rp_events.specs.Worlds.{World, Schedule, node_of, happens, run}
+use Rattle.rp_events.specs.Worlds.{World, Schedule, happens, run}
 use Rattle.rp_events.specs.Lawful.{AllLawful, IsLater}
 use Rattle.rp_events.specs.Lists.{IsLiveAt, history_in, HasApplied, Keeps}
 use Rattle.rp_events.specs.Promises.{LeadsAt, BothShow, StatesAgree}

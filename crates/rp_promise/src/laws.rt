@@ -8,6 +8,7 @@ ghost use Rattle.rp_events.specs.Lawful.{IsReached, Lawful};
 ghost use Rattle.rp_events.specs.Promises.{Promise};
 ghost use Rattle.rp_events.specs.Worlds.{World, Scene, first_world, happens};
 ghost use Rattle.rp_seats.specs.Standing.{Bound};
+ghost use Rattle.rp_turns.specs.Fitting.{AreFit};
 ghost use Rattle.rp_promise.specs.Records.{AllRecords};
 ghost use Rattle.rp_promise.specs.Beside.{AreAdmitted, IsPromising};
 
@@ -46,4 +47,10 @@ pub fn each_scene_admits_what_it_makes()
 pub fn a_world_keeps_the_promise()
     ensures { (lists : OneList AppliedState) (nodes : ℕ) (w : World) (m : Ranges)
         → (seen : ℕ → List raft.Event) → IsPromising lists nodes w m seen → Promise w }
+{}
+
+/// Every reached world keeps the promise, where in each of them what the replicas hold has its widths.
+pub fn the_promise_is_kept_where_all_fits()
+    ensures { (nodes : ℕ) → ((w : World) → IsReached nodes w → AreFit w) → (w : World)
+        → IsReached nodes w → Promise w }
 {}

@@ -70,13 +70,13 @@ apart_back p r h key t = go (p key) refl where
   go true e = let no_key = h key e in absurd cc
 
 -- what the guards let through
-record Passed (r : Replica) (request : Request) (e : Evaluated) : Type 0 where
-  may : may_admit r ≡ true
-  bounded : in_bounds r.applied.state.desc request ≡ true
-  free : answer r.latches (spans_of request) ≡ Ok tt
-  evaluation : evaluated r.applied.state.table r.applied.state.desc request ≡ Ok e
+pub record Passed (r : Replica) (request : Request) (e : Evaluated) : Type 0 where
+  pub may : may_admit r ≡ true
+  pub bounded : in_bounds r.applied.state.desc request ≡ true
+  pub free : answer r.latches (spans_of request) ≡ Ok tt
+  pub evaluation : evaluated r.applied.state.table r.applied.state.desc request ≡ Ok e
 
-passed : (r : Replica) (request : Request) (e : Evaluated) → guarded r request ≡ Ok e → Passed r request e
+pub passed : (r : Replica) (request : Request) (e : Evaluated) → guarded r request ≡ Ok e → Passed r request e
 passed r request e h = go (may_admit r) refl (in_bounds r.applied.state.desc request) refl (answer r.latches (spans_of request)) refl h where
   go : (t : Bool) → may_admit r ≡ t → (b : Bool) → in_bounds r.applied.state.desc request ≡ b
       → (l : Result (Unit {0}) Held) → answer r.latches (spans_of request) ≡ l

@@ -41,7 +41,7 @@ module _ (lists : OneList AppliedState) (range : ℕ) (s : AppliedState) (seen :
   abbrev at : worlds.Happening → Scene
   at what = record { node = node; what = what }
 
-  stands : SeatOk h node range (Live r) told
+  pub stands : SeatOk h node range (Live r) told
   stands = subst (λ z. SeatOk h node range z told) k.live (k.ok.seats node n k.has)
 
   pub state : here h node ≡ r.applied.state

@@ -135,7 +135,7 @@ module _ (lists : OneList AppliedState) (range : ℕ) (s : AppliedState) (seen :
     sent : HasSent (raft.world_after (range_at (length w) range s) seen) from to m
     sent = parcel_sent (length w) range s (lists (range_at (length w) range s) k.ok.is) seen w h k.ok.raft from number parcel at refl
 
-    jumps : (index : ℕ) (snapshot : AppliedState) → (received r.raft from m).taken ≡ Some (index, snapshot) → (j : IsJump h (base_of range) index snapshot) × (h.index node ≤ j.to)
+    pub jumps : (index : ℕ) (snapshot : AppliedState) → (received r.raft from m).taken ≡ Some (index, snapshot) → (j : IsJump h (base_of range) index snapshot) × (h.index node ≤ j.to)
     jumps index snapshot e =
         let b : BringsAbove r.raft m index snapshot = takes_above_holds AppliedState r.raft from m index snapshot e in
         let j : IsJump h (base_of range) index snapshot = snapshot_known (length w) range s (lists (range_at (length w) range s) k.ok.is) seen w h k.ok.raft from to b.term index b.index_term snapshot

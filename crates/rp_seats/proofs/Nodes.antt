@@ -56,7 +56,7 @@ other_parcels range r (x ∷ xs) ne = ap (λ z. cond z (x ∷ sent_of range (par
 sent_own : (range : ℕ) (sent : List (Parcel AppliedState)) (sends : List (ℕ × Message AppliedState)) → sent_of range (sent ++ parcels range sends) ≡ sent_of range sent ++ sends
 sent_own range sent sends = sent_more range sent (parcels range sends) ∙ ap (λ z. sent_of range sent ++ z) (own_parcels range sends)
 
-sent_other : (range r : ℕ) (sent : List (Parcel AppliedState)) (sends : List (ℕ × Message AppliedState)) → (r ≡ range → ⊥) → sent_of range (sent ++ parcels r sends) ≡ sent_of range sent
+pub sent_other : (range r : ℕ) (sent : List (Parcel AppliedState)) (sends : List (ℕ × Message AppliedState)) → (r ≡ range → ⊥) → sent_of range (sent ++ parcels r sends) ≡ sent_of range sent
 sent_other range r sent sends ne = sent_more range sent (parcels r sends) ∙ ap (λ z. sent_of range sent ++ z) (other_parcels range r sends ne) ∙ append-nil (sent_of range sent)
 
 -- a seat after it was changed, or another
@@ -88,7 +88,7 @@ some_same : (a b : AppliedState) → ◌≡◌ {A = Option AppliedState} (Some a
 some_same a b e = cc
 
 -- a right range has a number above 0
-right_positive : (s t : AppliedState) (p : Payload) → right_of s p ≡ Some t → 0 < t.desc.id
+pub right_positive : (s t : AppliedState) (p : Payload) → right_of s p ≡ Some t → 0 < t.desc.id
 right_positive s t payloads.Nothing e = absurd cc
 right_positive s t (payloads.Lease ask) e = absurd cc
 right_positive s t (payloads.Write c) e = by_verdict (command_verdict s c) e where
@@ -119,13 +119,13 @@ right_positive s t (payloads.Write c) e = by_verdict (command_verdict s c) e whe
   by_verdict verdicts.Nothing e = absurd cc
 
 -- what an event opens has a number above 0
-abbrev OpensAbove : Option AppliedState → Type 0
+abbrev pub OpensAbove : Option AppliedState → Type 0
 OpensAbove o = (t : AppliedState) → o ≡ Some t → 0 < t.desc.id
 
-opens_none : OpensAbove None
+pub opens_none : OpensAbove None
 opens_none t e = absurd cc
 
-opens_above : (r : Replica) (e : ReplicaEvent AppliedState) (ticks round : ℕ) (taken : List Item) → OpensAbove (event r e ticks round taken).right
+pub opens_above : (r : Replica) (e : ReplicaEvent AppliedState) (ticks round : ℕ) (taken : List Item) → OpensAbove (event r e ticks round taken).right
 opens_above r (Admit id request) ticks round taken = go (guarded r request) where
   go : (g : Result Evaluated Refusal) → OpensAbove (admitted_by r id request g).right
   go (Ok e) = opens_none

@@ -16,21 +16,21 @@ use Rattle.rp_events.specs.Worlds.{is_admission_of, ended_of, outcome_by, outcom
 use Rattle.rp_seats.specs.Steps.{tell, told_after, IsEnd, EndEach, AreEnds, with_outcomes}
 
 -- what is found in a list and in more behind it
-found_before : {X : Type 0} (test : X → Bool) (xs ys : List X) (x : X) → find test xs ≡ Some x → find test (xs ++ ys) ≡ Some x
+pub found_before : {X : Type 0} (test : X → Bool) (xs ys : List X) (x : X) → find test xs ≡ Some x → find test (xs ++ ys) ≡ Some x
 found_before test [] ys x e = absurd cc
 found_before {X} test (z ∷ xs) ys x e = go (found_before test xs ys x) (test z) e where
   go : (find test xs ≡ Some x → find test (xs ++ ys) ≡ Some x) → (b : Bool) → cond b (Some z) (find test xs) ≡ Some x → cond b (Some z) (find test (xs ++ ys)) ≡ Some x
   go ih true e' = e'
   go ih false e' = ih e'
 
-found_behind : {X : Type 0} (test : X → Bool) (xs ys : List X) → find test xs ≡ None → find test (xs ++ ys) ≡ find test ys
+pub found_behind : {X : Type 0} (test : X → Bool) (xs ys : List X) → find test xs ≡ None → find test (xs ++ ys) ≡ find test ys
 found_behind test [] ys e = refl
 found_behind {X} test (z ∷ xs) ys e = go (found_behind test xs ys) (test z) e where
   go : (find test xs ≡ None → find test (xs ++ ys) ≡ find test ys) → (b : Bool) → cond b (Some z) (find test xs) ≡ None → cond b (Some z) (find test (xs ++ ys)) ≡ find test ys
   go ih true e' = absurd cc
   go ih false e' = ih e'
 
-found_end : (test : Ended → Bool) (es : List Ended) (e : Ended) → AreEnds es → find test es ≡ Some e → IsEnd e.outcome
+pub found_end : (test : Ended → Bool) (es : List Ended) (e : Ended) → AreEnds es → find test es ≡ Some e → IsEnd e.outcome
 found_end test [] e h is = absurd cc
 found_end test (x ∷ es) e h is = go (found_end test es e h.1) (test x) is where
   some_is : (a b : Ended) → ◌≡◌ {A = Option Ended} (Some a) (Some b) → a ≡ b
@@ -110,7 +110,7 @@ each_same : (t u : CmdId → Option Outcome) → ((q : CmdId) → t q ≡ u q) �
 each_same t u same [] h = tt
 each_same t u same (e ∷ es) h = (sym (same e.id) ∙ h.0, h.1, each_same (tell t e) (tell u e) (λ q. ap (λ z. cond (same_id q e.id) (Some e.outcome) z) (same q)) es h.2)
 
-ends_further : (xs : List Ended) (e : Ended) → AreEnds xs → IsEnd e.outcome → AreEnds (xs ++ e ∷ [])
+pub ends_further : (xs : List Ended) (e : Ended) → AreEnds xs → IsEnd e.outcome → AreEnds (xs ++ e ∷ [])
 ends_further [] e h is = (is, tt)
 ends_further (x ∷ xs) e h is = (h.0, ends_further xs e h.1 is)
 

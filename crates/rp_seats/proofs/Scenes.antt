@@ -41,7 +41,7 @@ use Rattle.rp_seats.proofs.Shaped.{Changed, set_get}
 use Rattle.rp_seats.proofs.Worlds.{scene_seen}
 
 -- a seat that has something keeps it where a right range starts
-opened_seat : (n : Node) (o : Option AppliedState) (at : ℕ) (status : Status) → (status ≡ Absent → ⊥) → seat n at ≡ status → seat (opened n o) at ≡ status
+pub opened_seat : (n : Node) (o : Option AppliedState) (at : ℕ) (status : Status) → (status ≡ Absent → ⊥) → seat n at ≡ status → seat (opened n o) at ≡ status
 opened_seat n None at status some is = is
 opened_seat n (Some t) at status some is = go (seat n t.desc.id) refl where
   go : (other : Status) → seat n t.desc.id ≡ other → seat (opened_by n t other) at ≡ status
@@ -52,7 +52,7 @@ opened_seat n (Some t) at status some is = go (seat n t.desc.id) refl where
   go (Live r) e = is
   go (Removed applied) e = is
 
-opened_journal : (n : Node) (o : Option AppliedState) → (opened n o).journal ≡ n.journal
+pub opened_journal : (n : Node) (o : Option AppliedState) → (opened n o).journal ≡ n.journal
 opened_journal n None = refl
 opened_journal n (Some t) = go (seat n t.desc.id) where
   go : (other : Status) → (opened_by n t other).journal ≡ n.journal
@@ -60,7 +60,7 @@ opened_journal n (Some t) = go (seat n t.desc.id) where
   go (Live r) = refl
   go (Removed applied) = refl
 
-opened_outcomes : (n : Node) (o : Option AppliedState) → (opened n o).outcomes ≡ n.outcomes
+pub opened_outcomes : (n : Node) (o : Option AppliedState) → (opened n o).outcomes ≡ n.outcomes
 opened_outcomes n None = refl
 opened_outcomes n (Some t) = go (seat n t.desc.id) where
   go : (other : Status) → (opened_by n t other).outcomes ≡ n.outcomes
@@ -68,7 +68,7 @@ opened_outcomes n (Some t) = go (seat n t.desc.id) where
   go (Live r) = refl
   go (Removed applied) = refl
 
-left_something : (e : ReplicaEvent AppliedState) (r : Replica) → status_after e r ≡ Absent → ⊥
+pub left_something : (e : ReplicaEvent AppliedState) (r : Replica) → status_after e r ≡ Absent → ⊥
 left_something (Admit id request) r k = cc
 left_something Ask r k = cc
 left_something (Transfer to) r k = cc
@@ -102,7 +102,7 @@ same_outcome n m journal outcomes id =
     go (Some x) = ap Some (by x.answer)
 
 -- one node of a world changes
-node_change : (w : World) (node : ℕ) (n new : Node) → node_of w node ≡ Some n → IsNodeChange w (with_node w node new) node n new
+pub node_change : (w : World) (node : ℕ) (n new : Node) → node_of w node ≡ Some n → IsNodeChange w (with_node w node new) node n new
 node_change w zero n new was = absurd cc
 node_change w (suc place) n new was = record { was = was; others = others } where
   others : (other : ℕ) (m : Node) → node_of (with_node w (suc place) new) other ≡ Some m
@@ -137,7 +137,7 @@ node_change w (suc place) n new was = record { was = was; others = others } wher
 pub no_bytes : (b : List ℕ) (bytes : List (List ℕ)) → Contains {X = List ℕ} [] b → Contains bytes b
 no_bytes b bytes c = absurd (omega (arith, c.1))
 
-handed_of : (range : ℕ) (w : World) (node number : ℕ) (r : Replica) (e : ReplicaEvent AppliedState) (proposed : List (List ℕ)) (b : List ℕ)
+pub handed_of : (range : ℕ) (w : World) (node number : ℕ) (r : Replica) (e : ReplicaEvent AppliedState) (proposed : List (List ℕ)) (b : List ℕ)
     → Contains (payloads_of (map (as_event range w node) (doings_of number r e proposed))) b → Contains proposed b
 handed_of range w node number r (Admit id request) proposed b c = no_bytes b proposed c
 handed_of range w node number r Ask proposed b c = no_bytes b proposed c
@@ -155,14 +155,14 @@ handed_of range w node number r Remove proposed b c = no_bytes b proposed c
 handed_of range w node number r (Peek key) proposed b c = no_bytes b proposed c
 handed_of range w node number r Restart proposed b c = no_bytes b proposed c
 
-handed_start : (range : ℕ) (w : World) (node : ℕ) (o : Option AppliedState) (proposed : List (List ℕ)) (b : List ℕ)
+pub handed_start : (range : ℕ) (w : World) (node : ℕ) (o : Option AppliedState) (proposed : List (List ℕ)) (b : List ℕ)
     → Contains (payloads_of (map (as_event range w node) (starting range o))) b → Contains proposed b
 handed_start range w node None proposed b = no_bytes b proposed
 handed_start range w node (Some t) proposed b =
     cond_both (eqb t.desc.id range) (Starts t ∷ []) [] (λ ds. Contains (payloads_of (map (as_event range w node) ds)) b → Contains proposed b)
     (λ _ c. no_bytes b proposed c) (λ _ c. no_bytes b proposed c)
 
-map_further : {X Y : Type 0} (f : X → Y) (xs ys : List X) → map f (xs ++ ys) ≡ map f xs ++ map f ys
+pub map_further : {X Y : Type 0} (f : X → Y) (xs ys : List X) → map f (xs ++ ys) ≡ map f xs ++ map f ys
 map_further f [] ys = refl
 map_further f (x ∷ xs) ys = ap (λ zs. f x ∷ zs) (map_further f xs ys)
 

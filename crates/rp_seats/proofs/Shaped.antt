@@ -23,7 +23,7 @@ module _ (nodes node : ℕ) where
   shaped_status n at e taken s (Live r) = shaped_replica nodes node n at e (event r e n.ticks n.rounds taken) s
   shaped_status n at e taken s (Removed applied) = s
 
-  shaped_live : (n : Node) (at : ℕ) (e : ReplicaEvent AppliedState) → IsShaped nodes node n → (status : Status) → IsShaped nodes node (live_turn e n at status)
+  pub shaped_live : (n : Node) (at : ℕ) (e : ReplicaEvent AppliedState) → IsShaped nodes node n → (status : Status) → IsShaped nodes node (live_turn e n at status)
   shaped_live n at e s Absent = s
   shaped_live n at e s (Live r) = shaped_replica nodes node n at e (event r e n.ticks n.rounds []) s
   shaped_live n at e s (Removed applied) = s

@@ -46,7 +46,7 @@ module _ (nodes range : ℕ) (s : AppliedState) (one : OneListOf (range_at nodes
   abbrev list : List Entry
   list = one.committed seen
 
-  is_live : IsLive (raft.world_after g seen) node (core r)
+  pub is_live : IsLive (raft.world_after g seen) node (core r)
   is_live =
       ap (λ (z : raft.World AppliedState). (raft.site z node).status) (sym ok.raft)
       ∙ ap (λ (z : raft.Site AppliedState). z.status) (site_seen range w node n has)

@@ -29,11 +29,11 @@ use Rattle.rp_seats.proofs.Shaped.{length_with}
 use Rattle.rp_seats.proofs.Worlds.{site_seen, message_seen, scene_seen}
 
 -- the seats and messages of a shut range
-shut_seat : (range : ℕ) (seen : List raft.Event) (w : World) → IsShut range seen w → (node : ℕ) (n : Node) → node_of w node ≡ Some n → seat n range ≡ Absent
+pub shut_seat : (range : ℕ) (seen : List raft.Event) (w : World) → IsShut range seen w → (node : ℕ) (n : Node) → node_of w node ≡ Some n → seat n range ≡ Absent
 shut_seat range seen w shut node n has = absent_is (seat n range) (ap (λ (z : raft.Site AppliedState). z.status)
     (sym (site_seen range w node n has) ∙ ap (λ (z : raft.World AppliedState). raft.site z node) shut.view_is ∙ nowhere_bare (range_at (length w) range first_applied) node))
 
-no_parcel : (range : ℕ) (seen : List raft.Event) (w : World) → IsShut range seen w → (from number : ℕ) (p : Parcel AppliedState) → parcel_of (sent_by w from) number ≡ Some p → p.range ≡ range → ⊥
+pub no_parcel : (range : ℕ) (seen : List raft.Event) (w : World) → IsShut range seen w → (from number : ℕ) (p : Parcel AppliedState) → parcel_of (sent_by w from) number ≡ Some p → p.range ≡ range → ⊥
 no_parcel range seen w shut from number p at own =
     none_at (number_in range (sent_by w from) number)
     (ap (λ (z : raft.Site AppliedState). raft.message_of z (number_in range (sent_by w from) number))
@@ -45,13 +45,13 @@ no_parcel range seen w shut from number p at own =
     none_at (suc k) e = cc
 
 -- starts alone
-starts_further : (ds es : List Doing) → OnlyStarts ds → OnlyStarts es → OnlyStarts (ds ++ es)
+pub starts_further : (ds es : List Doing) → OnlyStarts ds → OnlyStarts es → OnlyStarts (ds ++ es)
 starts_further [] es a b = b
 starts_further (Acts action ∷ ds) es a b = absurd a
 starts_further (Gets from number m again ∷ ds) es a b = absurd a
 starts_further (Starts s ∷ ds) es a b = starts_further ds es a b
 
-only_starting : (range : ℕ) (o : Option AppliedState) → OnlyStarts (starting range o)
+pub only_starting : (range : ℕ) (o : Option AppliedState) → OnlyStarts (starting range o)
 only_starting range None = tt
 only_starting range (Some s) = cond_both (eqb s.desc.id range) (Starts s ∷ []) [] OnlyStarts (λ _. tt) (λ _. tt)
 

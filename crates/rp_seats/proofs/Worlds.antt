@@ -90,7 +90,7 @@ message_seen range w from (suc i) p at own =
     ap (raft.message_of (raft.site (view range w) from)) is.1 ∙ ap (λ z. slice_get z is.0) (sent_seen range w from) ∙ is.2
 
 -- a node of the world is a site of the view
-view_with : (range : ℕ) (w : World) (node : ℕ) (n : Node) → view range (with_node w node n) ≡ raft.with_site (view range w) node (site_of range n)
+pub view_with : (range : ℕ) (w : World) (node : ℕ) (n : Node) → view range (with_node w node n) ≡ raft.with_site (view range w) node (site_of range n)
 view_with range w zero n = refl
 view_with range w (suc place) n = map-set (site_of range) w place n
 
@@ -107,7 +107,7 @@ site_seen range w (suc place) n e = at w place e where
     some_same a b e = cc
   at (m ∷ w) (suc place) e = at w place e
 
-same_site : (w : raft.World AppliedState) (node : ℕ) → raft.with_site w node (raft.site w node) ≡ w
+pub same_site : (w : raft.World AppliedState) (node : ℕ) → raft.with_site w node (raft.site w node) ≡ w
 same_site w zero = refl
 same_site w (suc place) = set-get_or w place (record { status = raft.Absent; sent = [] })
 
@@ -175,7 +175,7 @@ module _ (range : ℕ) (start : AppliedState) (w : World) (node : ℕ) where
   after ds site = site_after (length w) range start node ds site
 
   -- the message stands among what its sender has sent, and is for the node
-  abbrev IsSent : (from number : ℕ) → Message AppliedState → Type 0
+  abbrev pub IsSent : (from number : ℕ) → Message AppliedState → Type 0
   IsSent from number m = raft.message_of (raft.site seen from) (number_in range (sent_by w from) number) ≡ Some (node, m)
 
   -- a message comes first, if at all
@@ -286,13 +286,13 @@ module _ (range : ℕ) (start : AppliedState) (w : World) (node : ℕ) where
   brings worlds.Restart e is k = subst Brings (some_event _ e is) tt
   brings worlds.Round e is k = subst Brings (some_event _ e is) tt
 
-  placed : (n : Node) → node_of w node ≡ Some n → (place : ℕ) × (node ≡ suc place) × (place < length seen)
+  pub placed : (n : Node) → node_of w node ≡ Some n → (place : ℕ) × (node ≡ suc place) × (place < length seen)
   placed n has = at node refl has where
     at : (k : ℕ) → node ≡ k → node_of w k ≡ Some n → (place : ℕ) × (node ≡ suc place) × (place < length seen)
     at zero is has' = absurd cc
     at (suc place) is has' = (place, is, omega (arith, slice_get_within w place n has', length-map w (site_of range)))
 
-and_right : (b c : Bool) → IsTrue (b && c) → IsTrue c
+pub and_right : (b c : Bool) → IsTrue (b && c) → IsTrue c
 and_right true c h = h
 and_right false c h = absurd cc
 

@@ -1,0 +1,16 @@
+pub mod Tells
+pub mod Widths
+pub mod Replicas
+pub mod Doings
+pub mod Seated
+pub mod All
+pub mod Scenes
+pub mod Happenings
+pub mod Admissions
+pub mod Far
+pub mod Whole
+pub mod Rows
+pub mod States
+pub mod Wide
+pub mod Handed
+pub mod Kept
