@@ -5,7 +5,7 @@ use rp_base::{CmdId, Key, NoMemory, Seq, Value};
 use rp_request::{Outcome, Refusal, Request};
 
 /// What happens at one replica (this project's events, after CockroachDB's way of a write).
-#[derive(Clone, Copy, Debug, PartialEq, Eq)]
+#[derive(Clone, Copy, PartialEq, Eq)]
 pub enum ReplicaEvent {
     /// A client's attempt asks to be admitted.
     Admit { id: CmdId, request: Request },
@@ -20,7 +20,7 @@ pub enum ReplicaEvent {
 }
 
 /// What an event answers.
-#[derive(Clone, Copy, Debug, PartialEq, Eq)]
+#[derive(Clone, Copy, PartialEq, Eq)]
 pub enum EventAnswer {
     /// It was done.
     Done,
@@ -35,7 +35,7 @@ pub enum EventAnswer {
 }
 
 /// How an attempt ended that had been admitted.
-#[derive(Clone, Copy, Debug, PartialEq, Eq)]
+#[derive(Clone, Copy, PartialEq, Eq)]
 pub struct Ended {
     pub id: CmdId,
     pub outcome: Outcome,

@@ -13,7 +13,7 @@ use rp_raftlog::Entries;
 use rp_request::Payload;
 
 /// What an applied entry makes of the proposal that it came of (CockroachDB's proposer).
-#[derive(Clone, Copy, Debug, PartialEq, Eq)]
+#[derive(Clone, Copy, PartialEq, Eq)]
 pub enum Turn {
     /// The entry is of no proposal here.
     Stays,

@@ -1,6 +1,6 @@
 use Rattle.std.proofs.Common.{◌≡◌}
 use Rattle.rp_quota.specs.Shares.{known_by, IsShareOf}
-use Rattle.rp_quota.proofs.tests.use_often.Given as goal
+use Rattle.rp_calls.proofs.quota.use_often.Given as goal
 
 abbrev pub invariant-loop : goal.invariant-loop
 invariant-loop l = record {

@@ -1,5 +1,5 @@
 //! Words that ask for something, and words that do not.
-use crate::{Asked, Form, RacePlan, WordsFault, read_words};
+use rp_words::{Asked, Form, RacePlan, WordsFault, read_words};
 use std::alloc::Global;
 use std::test::Fail;
 

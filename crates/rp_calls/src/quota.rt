@@ -2,7 +2,7 @@
 ghost use Rattle.std.specs.Prelude.{◌≡◌, ◌≤◌};
 ghost use Rattle.rp_quota.specs.Shares.{capacity_of, known_by, IsShareOf, IsSame};
 
-use crate::{Quota, QuotaFault, Share};
+use rp_quota::{Quota, QuotaFault, Share};
 use std::test::Fail;
 use std::thread::join;
 
