@@ -1,11 +1,11 @@
 -- The first of equal asks.
-use Rattle.std.proofs.Common.{◌≡◌, ℕ, suc, ◌+◌, Bool, true, false, cond, not, nat_lt, ◌||◌, List, [], ◌∷◌, ◌++◌, length, take, drop, arith, Option, None, Some, refl, sym, ap, ◌∙◌, append-nil}
+use Rattle.std.proofs.Common.{◌≡◌, ℕ, suc, ◌+◌, Bool, true, false, cond, not, nat_lt, ◌||◌, List, [], ◌∷◌, ◌++◌, length, arith, Option, None, Some, refl, sym, ap, ◌∙◌}
 use Rattle.std.proofs.lemmas.Bool.Decides.{nat_tests}
 use Rattle.std.specs.List.{list_any, position, position_or_len, remove}
 use Rattle.rp_base.specs.declared.leases.LeaseAsk.{LeaseAsk}
 use Rattle.rp_base.specs.declared.items.Item.{Item}
 use Rattle.rp_base.specs.declared.items.Item.TheVariants.{Lease}
-use Rattle.rp_events.specs.LeaseAsks.{same_ask, without_first, joined, joined_all}
+use Rattle.rp_events.specs.LeaseAsks.{same_ask, without_first, joined}
 use Rattle.rp_events.specs.Replicas.{Replica}
 
 one_more : (n : ℕ) → 1 + n ≡ suc n

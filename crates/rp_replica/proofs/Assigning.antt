@@ -1,26 +1,24 @@
 -- What a flush assigns: no attempt stands twice, each waits, and there are no more than the inbox holds.
-use Rattle.std.proofs.Common.{◌≡◌, ◌≤◌, ◌<◌, ◌+◌, ◌^◌, ◌==◌, ℕ, suc, max, Bool, true, false, cond, not, List, [], ◌∷◌, ◌++◌, length, map, Option, None, Some, refl, sym, ap, subst, ◌∙◌, arith, length-append}
-use Rattle.std.specs.Prelude.{filter_map, option_and_then}
-use Rattle.std.specs.List.{filter, cons_option, IsDistinct}
+use Rattle.std.proofs.Common.{◌≡◌, ◌≤◌, ◌+◌, ◌==◌, ℕ, suc, max, Bool, true, false, cond, not, List, [], ◌∷◌, ◌++◌, length, map, Option, None, Some, refl, sym, ap, ◌∙◌, arith, length-append}
+use Rattle.std.specs.Prelude.{filter_map}
+use Rattle.std.specs.List.{filter, IsDistinct}
 use Rattle.std.specs.Option.{option_map, option_map_or}
 use Rattle.std.proofs.lemmas.Bool.{cond_both}
 use Rattle.std.proofs.lemmas.List.{length-map}
 use Rattle.rp_base.specs.declared.ids.CmdId.{CmdId}
 use Rattle.rp_base.specs.declared.items.Item.{Item}
 use Rattle.rp_base.specs.declared.items.Item.TheVariants.{Write, Lease}
-use Rattle.rp_base.specs.declared.leases.LeaseAsk.{LeaseAsk}
 use Rattle.rp_base.specs.Ids.{same_id}
 use Rattle.rp_base.proofs.Elements.{fewer_filtered, fewer_mapped}
 use Rattle.rp_base.proofs.IdLaws.{not_same_apart}
 use Rattle.rp_codec.specs.Spelling.{spelling}
-use Rattle.rp_request.specs.declared.commands.Payload.{Payload}
 use Rattle.rp_request.specs.declared.commands.Payload.TheVariants as payloads
 use Rattle.rp_request.specs.declared.commands.Waiting.{Waiting}
 use Rattle.rp_flush.specs.declared.assigns.Assigned.{Assigned}
 use Rattle.rp_flush.specs.Assigns.{asks_of, ids_of, once, seq_of, waits_under, waits_under_another, numbered, assigned_of}
 use Rattle.rp_pending.specs.declared.proposals.Proposal.{Proposal}
 use Rattle.rp_pending.specs.Proposals.{is_proposed, proposal_of}
-use Rattle.rp_pending.specs.Refreshes.{waits, waiting_of}
+use Rattle.rp_pending.specs.Refreshes.{waiting_of}
 use Rattle.rp_events.specs.declared.moves.Move.{Move}
 use Rattle.rp_events.specs.declared.moves.Move.TheVariants.{HandsOut, GivesUp}
 use Rattle.rp_events.specs.Flushes.{flush_moves}

@@ -1,12 +1,9 @@
 -- Proposals that end all at once, and the latches that they free.
-use Rattle.std.proofs.Common.{◌≡◌, ℕ, ◌+◌, ◌<◌, Bool, true, false, cond, not, nat_le, ◌&&◌, ◌||◌, List, [], ◌∷◌, length, drop, get_or, map, Option, None, Some, is_none, refl, sym, ap, subst, ◌∙◌}
+use Rattle.std.proofs.Common.{◌≡◌, ℕ, ◌+◌, ◌<◌, Bool, true, false, cond, not, ◌||◌, List, [], ◌∷◌, length, drop, get_or, map, None, Some, is_none, refl, sym, ap, ◌∙◌}
 use Rattle.std.specs.Prelude.{filter_map}
-use Rattle.std.specs.List.{filter, list_any, cons_option}
-use Rattle.std.specs.Option.{option_map}
+use Rattle.std.specs.List.{filter, cons_option}
 use Rattle.std.proofs.lemmas.List.{drop_more}
 use Rattle.rp_base.specs.Ids.{same_id}
-use Rattle.rp_base.specs.declared.ids.CmdId.{CmdId}
-use Rattle.rp_base.specs.declared.leases.Lease.{Lease}
 use Rattle.rp_latch.specs.Holds.{is_of_other}
 use Rattle.rp_latch.specs.declared.holds.Hold.{Hold}
 use Rattle.rp_pending.specs.Dues.{standing}
@@ -26,7 +23,7 @@ use Rattle.rp_events.specs.Ends.{removed}
 use Rattle.rp_events.specs.Replicas.{Replica}
 use Rattle.rp_events.specs.declared.answers.EventAnswer.TheVariants as answers
 use Rattle.rp_replica.specs.Ends.{end_by, ends_by}
-use Rattle.rp_replica.specs.Plans.{IsPlan, Left, left_of, planned}
+use Rattle.rp_replica.specs.Plans.{IsPlan, Left}
 use Rattle.rp_replica.specs.declared.plans.ReplicaPlan.TheVariants.{Removes}
 
 -- nobody's latches are freed

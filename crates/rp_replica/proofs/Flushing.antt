@@ -1,5 +1,5 @@
 -- An event of Raft with payloads behind it, as it is planned.
-use Rattle.std.proofs.Common.{◌≡◌, ◌≤◌, ◌<◌, ◌+◌, ◌^◌, length, ℕ, Bool, true, false, cond, List, [], ◌∷◌, ◌++◌, map, Option, None, Some, refl, sym, ap, subst, ◌∙◌, arith}
+use Rattle.std.proofs.Common.{◌≡◌, ◌≤◌, ◌<◌, ◌+◌, ◌^◌, length, ℕ, List, [], ◌∷◌, ◌++◌, map, Option, None, Some, refl, sym, ap, subst, ◌∙◌, arith}
 use Rattle.std.proofs.lemmas.List.{map-append}
 use Rattle.std.specs.Prelude.{filter_map}
 use Rattle.std.specs.List.{IsDistinct}
@@ -9,7 +9,6 @@ use Rattle.rp_base.specs.declared.leases.LeaseAsk.{LeaseAsk}
 use Rattle.rp_codec.specs.Spelling.{spelling}
 use Rattle.rp_raft.specs.Plans.{IsMadeIn, done_by, taken_in, sends_of}
 use Rattle.rp_raft.specs.Plans as rafts
-use Rattle.rp_raft.specs.declared.plans.RaftPlan.{RaftPlan}
 use Rattle.rp_raftlog.specs.LogState.{last_index}
 use Rattle.rp_raftstep.specs.Conditions.{CanRise}
 use Rattle.rp_raftstep.specs.RaftState.{RaftState}
@@ -20,7 +19,6 @@ use Rattle.rp_raftstep.specs.declared.messages.Message.{Message}
 use Rattle.rp_flush.specs.declared.assigns.Assigned.{Assigned}
 use Rattle.rp_events.specs.Flushes.{assigning, emptied, flush_moves, flushed}
 use Rattle.rp_request.specs.Applied.{AppliedState}
-use Rattle.rp_request.specs.declared.commands.Payload.{Payload}
 use Rattle.rp_request.specs.declared.commands.Payload.TheVariants as payloads
 use Rattle.rp_pending.specs.declared.proposals.Proposal.{Proposal}
 use Rattle.rp_events.specs.declared.answers.Ended.{Ended}
@@ -31,7 +29,7 @@ use Rattle.rp_events.specs.Refreshes.{with_taken}
 use Rattle.rp_events.specs.Replicas.{Replica, Told, lease_of, untold}
 use Rattle.rp_events.specs.Allows.{MayFlush}
 use Rattle.rp_replica.specs.Handing.{asks_spelled, handed_by, moves_spelled, payloads_by, items_of, told_by}
-use Rattle.rp_replica.specs.Plans.{Left, EndsOvertaken, IsPlan, begun, left_of, opened, planned, with_raft}
+use Rattle.rp_replica.specs.Plans.{Left, EndsOvertaken, IsPlan, left_of, opened, planned}
 use Rattle.rp_replica.specs.declared.plans.HandOver.{HandOver}
 use Rattle.rp_replica.specs.declared.plans.ReplicaPlan.TheVariants.{HandsOver}
 use Rattle.rp_replica.proofs.Assigning.{few_payloads, flush_apart, flush_ids, flush_none, flush_stand}
@@ -158,3 +156,20 @@ may_propose r bytes moves may m b =
     let e = ap length (b ∙ ap (λ ms. asks_spelled (assigning r).leases ++ moves_spelled r.pending ms) m) in
     let last = may.last in
     (may.rise, omega (arith, few, e, last))
+
+-- what it hands to Raft
+pub flush_spelled : (r : Replica) (ticks round : ℕ) (moves : List Move) (bytes : List (List ℕ))
+    → IsDistinct same_id (map (λ (p : Proposal). p.id) r.pending)
+    → moves ≡ flush_moves (assigning r)
+    → bytes ≡ asks_spelled (assigning r).leases ++ moves_spelled r.pending moves
+    → bytes ≡ (flushed r ticks round).proposed
+flush_spelled r ticks round moves bytes distinct same spelled =
+    let a : Assigned = assigning r in
+    let t : Told = untold (emptied r a) in
+    let ms : List Move = flush_moves a in
+    let handed : filter_map (write_at (moved_all ticks round t ms).replica.pending) (map (λ write. write.0) a.writes) ≡ payloads_by r.pending ms =
+    ap (filter_map (write_at (moved_all ticks round t ms).replica.pending)) (sym (flush_ids a))
+    ∙ moves_hand ticks round ms t (flush_apart r.inbox r.pending (lease_of r).seq r.applied.state.lai r.assigned)
+    (flush_stand r.inbox r.pending (lease_of r).seq r.applied.state.lai r.assigned r.applied.state.lai distinct) in
+    spelled ∙ ap (λ l. asks_spelled a.leases ++ moves_spelled r.pending l) same
+    ∙ bytes_are a.leases r.pending (moved_all ticks round t ms).replica.pending ms (map (λ write. write.0) a.writes) handed

@@ -1,25 +1,22 @@
 -- What a list of moves hands to Raft and tells, where each finds its proposal as it wants it and no
 -- attempt stands twice.
-use Rattle.std.proofs.Common.{◌≡◌, ℕ, Bool, true, false, cond, not, List, [], ◌∷◌, ◌++◌, map, Option, None, Some, refl, sym, ap, subst, ◌∙◌, append-nil}
+use Rattle.std.proofs.Common.{◌≡◌, ℕ, Bool, true, false, cond, not, List, [], ◌∷◌, ◌++◌, Option, None, Some, refl, sym, ap, subst, ◌∙◌, append-nil}
 use Rattle.std.specs.Prelude.{filter_map, option_and_then}
 use Rattle.std.specs.List.{cons_option}
 use Rattle.std.specs.Option.{option_map, option_map_or}
 use Rattle.std.proofs.lemmas.List.{append_assoc}
-use Rattle.std.proofs.lemmas.Bool.{cond_both}
 use Rattle.rp_base.specs.declared.ids.CmdId.{CmdId}
 use Rattle.rp_base.specs.declared.leases.Lease.{Lease}
 use Rattle.rp_request.specs.declared.commands.Payload.{Payload}
 use Rattle.rp_request.specs.History.{History}
-use Rattle.rp_request.specs.declared.outcomes.Outcome.TheVariants as outcomes
-use Rattle.rp_request.specs.declared.outcomes.Refusal.TheVariants.{NotLeaseHolder}
-use Rattle.rp_pending.specs.Proposals.{proposal_of, is_proposed, with_changed, without, proposed, waiting_again}
+use Rattle.rp_pending.specs.Proposals.{proposal_of, is_proposed, proposed, waiting_again}
 use Rattle.rp_pending.specs.Refreshes.{goes_back}
 use Rattle.rp_pending.specs.declared.proposals.Proposal.{Proposal}
 use Rattle.rp_events.specs.declared.answers.Ended.{Ended}
 use Rattle.rp_events.specs.declared.moves.Move.{Move}
 use Rattle.rp_events.specs.declared.moves.Move.TheVariants.{HandsOut, GivesUp, TakesBack, Repeats}
-use Rattle.rp_events.specs.Moves.{hands_out, gives_up, takes_back, repeats, moved, moved_all, then_is, then_told, ended, proposed_under, waits_again, write_of}
-use Rattle.rp_events.specs.Replicas.{Replica, Told, untold, lease_of}
+use Rattle.rp_events.specs.Moves.{hands_out, gives_up, takes_back, repeats, moved, moved_all, write_of}
+use Rattle.rp_events.specs.Replicas.{Told, lease_of}
 use Rattle.rp_replica.specs.Handing.{handed_by, id_by, payload_by, payloads_by, told_by, write_under, write_again}
 use Rattle.rp_replica.proofs.Lookups.{other_without, same_turned, other_turned}
 use Rattle.rp_replica.proofs.Moving.{handed, back, refused}

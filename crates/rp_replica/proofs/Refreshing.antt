@@ -1,6 +1,6 @@
 -- A refresh behind an event of Raft, as it is planned.
-use Rattle.std.proofs.Common.{◌≡◌, ◌≤◌, ◌<◌, ◌+◌, ◌^◌, ◌⊎◌, ⊎_elim, ℕ, suc, Bool, true, false, cond, not, nat_le, nat_lt, ◌&&◌, ◌||◌, List, [], ◌∷◌, ◌++◌, length, map, Option, None, Some, refl, sym, ap, subst, ◌∙◌, arith, append-nil}
-use Rattle.std.specs.Prelude.{filter_map, option_and_then, ◌-◌}
+use Rattle.std.proofs.Common.{◌≡◌, ◌≤◌, ◌<◌, ◌+◌, ◌^◌, ⊎_elim, ℕ, suc, Bool, true, false, cond, not, nat_le, nat_lt, ◌&&◌, ◌||◌, List, [], ◌∷◌, ◌++◌, length, map, Option, None, Some, refl, sym, ap, subst, ◌∙◌, arith, append-nil}
+use Rattle.std.specs.Prelude.{filter_map, ◌-◌}
 use Rattle.std.specs.List.{filter, cons_option, AllByRecursion, IsDistinct}
 use Rattle.std.specs.Option.{option_map}
 use Rattle.std.proofs.lemmas.Bool.{cond_both}
@@ -18,7 +18,7 @@ use Rattle.rp_raft.specs.Plans as rafts
 use Rattle.rp_raft.specs.declared.plans.RaftPlan.{RaftPlan}
 use Rattle.rp_raftstep.specs.Step.{Draft, then_proposed, step_then}
 use Rattle.rp_request.specs.Applied.{AppliedState}
-use Rattle.rp_pending.specs.Proposals.{has_id, is_proposed, proposal_of}
+use Rattle.rp_pending.specs.Proposals.{is_proposed, proposal_of}
 use Rattle.rp_pending.specs.Refreshes.{by_key, goes_again, goes_back, ids_by_max, put_by, to_refresh}
 use Rattle.rp_pending.specs.Turns.{dropped_back}
 use Rattle.rp_pending.specs.declared.proposals.Proposal.{Proposal}
@@ -26,10 +26,9 @@ use Rattle.rp_pending.specs.declared.refreshes.Refresh.{Refresh}
 use Rattle.rp_events.specs.declared.answers.Ended.{Ended}
 use Rattle.rp_events.specs.declared.moves.Move.{Move}
 use Rattle.rp_events.specs.declared.moves.Move.TheVariants.{TakesBack, Repeats}
-use Rattle.rp_events.specs.Ends.{end_of, overtaken_by, snapshot_taken}
 use Rattle.rp_events.specs.Moves.{hands_to_raft, moved_all}
 use Rattle.rp_events.specs.Refreshes.{refresh_moves, refreshed_by, refreshing, with_taken}
-use Rattle.rp_events.specs.Replicas.{Replica, Told, lease_of, untold}
+use Rattle.rp_events.specs.Replicas.{Replica, Told, lease_of}
 use Rattle.rp_replica.specs.Handing.{handed_by, items_of, moves_spelled, payload_by, payloads_by, told_by, write_again}
 use Rattle.rp_replica.specs.Plans.{EndsOvertaken, IsPlan, opened}
 use Rattle.rp_replica.specs.Refreshing.{IsRefresh, after_taken, draft_in, no_refresh}
@@ -37,7 +36,7 @@ use Rattle.rp_replica.specs.declared.plans.HandOver.{HandOver}
 use Rattle.rp_replica.specs.declared.plans.ReplicaPlan.TheVariants.{HandsOver}
 use Rattle.rp_replica.proofs.Ending.{stays_same}
 use Rattle.rp_replica.proofs.Flushing.{bytes_are, hands_plan}
-use Rattle.rp_replica.proofs.Handing.{AllStand, AreApart, IsApart, IsFound, moves_hand, moves_tell, write_at}
+use Rattle.rp_replica.proofs.Handing.{AllStand, AreApart, IsApart, moves_hand, moves_tell, write_at}
 
 -- each proposal of a list
 abbrev pub Each : (Proposal → Type 0) → List Proposal → Type 0
@@ -402,3 +401,19 @@ refreshed_where r (Some taken) ticks s f is e =
     refreshed_taken r (Some taken) ticks taken.0 s f.again f (ap (λ x. Some (taken.0, x)) (same taken.1 is)) e refl where
       same : (x : AppliedState) → Some x ≡ Some s → x ≡ s
       same x h = cc
+
+-- what it hands to Raft
+pub refresh_spelled : (r : Replica) (before : RaftPlan AppliedState) (f : Refresh) (ticks round : ℕ) (moves : List Move) (bytes : List (List ℕ))
+    → IsDistinct same_id (map (λ (p : Proposal). p.id) r.pending)
+    → IsRefresh (after_taken r before).replica f
+    → moves ≡ refresh_moves f
+    → bytes ≡ moves_spelled r.pending moves
+    → bytes ≡ (refreshed_by r (draft_in r before) ticks round (after_taken r before) f).proposed
+refresh_spelled r before f ticks round moves bytes distinct is same spelled =
+    let t : Told = after_taken r before in
+    let ms : List Move = refresh_moves f in
+    let ok : RefreshOk t.replica.applied.state.lai r.pending t.replica.pending f = is_ok r (taken_in before) f (distinct_from r.pending distinct) is in
+    let handed : filter_map (write_at (moved_all ticks round t ms).replica.pending) f.again ≡ payloads_by r.pending ms =
+    ap (filter_map (write_at (moved_all ticks round t ms).replica.pending)) (sym (backs_ids f.back f.again))
+    ∙ moves_hand ticks round ms t ok.apart ok.stand ∙ sym ok.same in
+    spelled ∙ ap (moves_spelled r.pending) same ∙ bytes_are [] r.pending (moved_all ticks round t ms).replica.pending ms f.again handed

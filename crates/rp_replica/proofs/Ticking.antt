@@ -1,8 +1,6 @@
 -- Ticks and messages, as they are planned.
-use Rattle.std.proofs.Common.{◌≡◌, ◌⊎◌, inl, inr, ℕ, Bool, true, false, cond, List, [], ◌∷◌, map, Option, None, Some, refl, sym, ap, subst, ◌∙◌}
-use Rattle.std.specs.Prelude.{IfOk, Result}
-use Rattle.std.specs.Option.{option_map}
-use Rattle.rp_base.specs.declared.ids.CmdId.{CmdId}
+use Rattle.std.proofs.Common.{◌≡◌, inl, inr, ℕ, Bool, true, false, cond, None, Some, refl, sym, ap, subst, ◌∙◌}
+use Rattle.std.specs.Prelude.{IfOk, OnOk, Result}
 use Rattle.rp_raft.specs.Plans.{done_by, drafted_by, head_after, taken_in}
 use Rattle.rp_raft.specs.declared.plans.RaftPlan.{RaftPlan}
 use Rattle.rp_raftstep.specs.RaftState.{RaftState, is_leader}
@@ -15,7 +13,8 @@ use Rattle.rp_request.specs.Applied.{AppliedState}
 use Rattle.rp_pending.specs.Refreshes.{to_refresh}
 use Rattle.rp_pending.specs.declared.refreshes.Refresh.{Refresh}
 use Rattle.rp_events.specs.Refreshes.{delivered_by, refreshed_by, refreshing, with_taken}
-use Rattle.rp_events.specs.Replicas.{Replica, Told, has_new_leader, untold}
+use Rattle.rp_events.specs.Replicas.{Done, Replica, Told, has_new_leader}
+use Rattle.rp_replica.specs.Handing.{EachReads}
 use Rattle.rp_replica.specs.Plans.{IsPlan}
 use Rattle.rp_replica.specs.Refreshing.{IsRefresh, after_taken, draft_in, no_refresh, refresh_behind}
 use Rattle.rp_replica.specs.declared.plans.ReplicaPlan.{ReplicaPlan}
@@ -87,6 +86,43 @@ pub delivered_as : {E : Type 0} (result : Result ReplicaPlan E) (ticks round : �
 delivered_as result ticks round s r p d f applied state same drafts does e h =
     by_leader result ticks round r d (with_taken r d.taken) (has_new_leader r.raft.head d.state.head)
     (planned_as result ticks round s r p d (with_taken r d.taken) f
+    (cond (has_new_leader r.raft.head d.state.head) (refreshing (with_taken r d.taken).replica ticks true) no_refresh)
+    same drafts (ap (λ (x : Draft AppliedState). with_taken r x.taken) drafts)
+    (e ∙ ap (λ x. refresh_behind x p ticks) same
+    ∙ ap (λ b. cond b (refreshing (after_taken r p).replica ticks true) no_refresh) (leader_after r.raft.head r.raft p applied state d does)
+    ∙ ap (λ (x : Draft AppliedState). cond (has_new_leader r.raft.head d.state.head) (refreshing (with_taken r x.taken).replica ticks true) no_refresh) drafts)
+    h)
+
+-- what is handed to Raft, said likewise
+same_done : (ticks round : ℕ) (s r : Replica) (p : RaftPlan AppliedState) (d : Draft AppliedState) (t : Told) (f g : Refresh)
+    → s ≡ r → drafted_by r.raft p ≡ d → with_taken r (taken_in p) ≡ t → f ≡ g
+    → refreshed_by s (draft_in s p) ticks round (after_taken s p) f ≡ refreshed_by r d ticks round t g
+same_done ticks round s r p d t f g same drafts taken refresh =
+    ap (λ x. refreshed_by x (draft_in x p) ticks round (after_taken x p) f) same
+    ∙ ap (λ x. refreshed_by r x ticks round (with_taken r (taken_in p)) f) drafts
+    ∙ ap (λ x. refreshed_by r d ticks round x f) taken
+    ∙ ap (refreshed_by r d ticks round t) refresh
+
+pub reads_as : {E : Type 0} (result : Result ReplicaPlan E) (ticks round : ℕ) (s r : Replica) (p : RaftPlan AppliedState) (d : Draft AppliedState) (t : Told) (f g : Refresh)
+    → s ≡ r → drafted_by r.raft p ≡ d → with_taken r (taken_in p) ≡ t → f ≡ g
+    → OnOk result (EachReads (refreshed_by s (draft_in s p) ticks round (after_taken s p) f).proposed)
+    → OnOk result (EachReads (refreshed_by r d ticks round t g).proposed)
+reads_as result ticks round s r p d t f g same drafts taken refresh h =
+    subst (λ (x : Done). OnOk result (EachReads x.proposed)) (same_done ticks round s r p d t f g same drafts taken refresh) h
+
+done_by_leader : (ticks round : ℕ) (r : Replica) (d : Draft AppliedState) (t : Told) (b : Bool)
+    → refreshed_by r d ticks round t (cond b (refreshing t.replica ticks true) no_refresh)
+    ≡ cond b (refreshed_by r d ticks round t (refreshing t.replica ticks true)) (refreshed_by r d ticks round t no_refresh)
+done_by_leader ticks round r d t true = refl
+done_by_leader ticks round r d t false = refl
+
+pub delivered_reads : {E : Type 0} (result : Result ReplicaPlan E) (ticks round : ℕ) (s r : Replica) (p : RaftPlan AppliedState) (d : Draft AppliedState) (f : Refresh) (applied : ℕ) (state : AppliedState)
+    → s ≡ r → drafted_by r.raft p ≡ d → done_by r.raft p ≡ sent applied state d → f ≡ refresh_behind s p ticks
+    → OnOk result (EachReads (refreshed_by s (draft_in s p) ticks round (after_taken s p) f).proposed)
+    → OnOk result (EachReads (delivered_by r d ticks round (with_taken r d.taken)).proposed)
+delivered_reads result ticks round s r p d f applied state same drafts does e h =
+    subst (λ (x : Done). OnOk result (EachReads x.proposed)) (done_by_leader ticks round r d (with_taken r d.taken) (has_new_leader r.raft.head d.state.head))
+    (reads_as result ticks round s r p d (with_taken r d.taken) f
     (cond (has_new_leader r.raft.head d.state.head) (refreshing (with_taken r d.taken).replica ticks true) no_refresh)
     same drafts (ap (λ (x : Draft AppliedState). with_taken r x.taken) drafts)
     (e ∙ ap (λ x. refresh_behind x p ticks) same

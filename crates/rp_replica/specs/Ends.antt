@@ -1,5 +1,5 @@
 -- Why proposals end all at once, and how each ends by where it stands.
-use Rattle.std.specs.Prelude.{Bool, ◌&&◌, nat_le, if◌then◌else◌, Option, None, Some, map}
+use Rattle.std.specs.Prelude.{◌&&◌, nat_le, if◌then◌else◌, Option, None, Some}
 use Rattle.std.specs.Option.{option_map}
 use Rattle.rp_request.specs.declared.outcomes.Ambiguity.TheVariants as causes
 use Rattle.rp_request.specs.declared.outcomes.Outcome.{Outcome}

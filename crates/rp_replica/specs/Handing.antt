@@ -1,9 +1,11 @@
 -- What a list of moves hands to Raft and tells, said of the proposals as they stand before it.
-use Rattle.std.specs.Prelude.{ℕ, zero, suc, ◌+◌, List, [], ◌∷◌, map, filter_map, Option, None, Some}
+use Rattle.std.specs.Prelude.{◌≡◌, ℕ, ◌+◌, List, [], ◌∷◌, map, filter_map, Option, None, Some, Ok}
+use Rattle.std.specs.List.{AllByRecursion}
 use Rattle.std.specs.Option.{option_map}
 use Rattle.rp_base.specs.declared.ids.CmdId.{CmdId}
 use Rattle.rp_base.specs.declared.leases.Lease.{Lease}
 use Rattle.rp_base.specs.declared.leases.LeaseAsk.{LeaseAsk}
+use Rattle.rp_codec.specs.Reading.{payload_in}
 use Rattle.rp_codec.specs.Spelling.{spelling}
 use Rattle.rp_request.specs.declared.commands.Payload.{Payload}
 use Rattle.rp_request.specs.declared.commands.Payload.TheVariants as payloads
@@ -77,3 +79,11 @@ asks_spelled asks = map (λ ask. spelling (payloads.Lease ask)) asks
 -- the bytes of what moves hand to Raft
 abbrev pub moves_spelled : List Proposal → List Move → List (List ℕ)
 moves_spelled ps moves = map spelling (payloads_by ps moves)
+
+-- these bytes are spelled as a payload, and read as it
+abbrev pub ReadsBack : List ℕ → Type 0
+ReadsBack bytes = (p : Payload) × (bytes ≡ spelling p) × (payload_in bytes ≡ Ok p)
+
+-- each of these does
+abbrev pub EachReads : List (List ℕ) → Type 0
+EachReads bytes = AllByRecursion ReadsBack bytes

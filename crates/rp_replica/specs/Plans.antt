@@ -1,7 +1,6 @@
 -- What a plan does to a replica, and where it may be committed.
-use Rattle.std.specs.Prelude.{◌≡◌, ℕ, ◌+◌, ◌-◌, ◌≤◌, ◌<◌, ◌^◌, List, [], length, filter_map, Option, None, Some, Ok, IsSome}
+use Rattle.std.specs.Prelude.{◌≡◌, ℕ, ◌-◌, ◌≤◌, ◌<◌, ◌^◌, List, [], length, filter_map, Option, None, Some, Ok, IsSome}
 use Rattle.std.specs.List.{filter}
-use Rattle.rp_base.specs.declared.ids.CmdId.{CmdId}
 use Rattle.rp_latch.specs.Holds.{answer, is_of_other}
 use Rattle.rp_raft.specs.Plans.{IsMadeIn, done_by, taken_in, room_of, sends_of}
 use Rattle.rp_raft.specs.Plans as rafts
@@ -13,14 +12,12 @@ use Rattle.rp_request.specs.Applicable.{Fits}
 use Rattle.rp_request.specs.Covers.{spans_of}
 use Rattle.rp_request.specs.History as history
 use Rattle.rp_apply.specs.Rooms.{IsWithin, needed}
-use Rattle.rp_apply.specs.Rooms as applies
 use Rattle.rp_pending.specs.Proposals.{proposal_of, without}
 use Rattle.rp_pending.specs.declared.proposals.Proposal.{Proposal}
 use Rattle.rp_events.specs.declared.answers.Ended.{Ended}
 use Rattle.rp_events.specs.declared.answers.Effects.{Effects}
 use Rattle.rp_events.specs.declared.answers.EventAnswer.{EventAnswer}
 use Rattle.rp_events.specs.declared.answers.EventAnswer.TheVariants as answers
-use Rattle.rp_events.specs.declared.moves.Move.{Move}
 use Rattle.rp_events.specs.Replicas.{Replica, Done, Told, leaves}
 use Rattle.rp_events.specs.Admissions.{with_proposal}
 use Rattle.rp_events.specs.LeaseAsks.{answers_ask, collected}

@@ -5,7 +5,7 @@ ghost use Rattle.rp_base.specs.declared.ids.CmdId.{CmdId};
 ghost use Rattle.rp_events.specs.Flushes.{assigning, flush_moves, flushed};
 ghost use Rattle.rp_events.specs.declared.moves.Move.TheVariants.{HandsOut, GivesUp};
 ghost use Rattle.rp_events.specs.Allows.{MayFlush};
-ghost use Rattle.rp_replica.specs.Handing.{asks_spelled, moves_spelled, told_by};
+ghost use Rattle.rp_replica.specs.Handing.{EachReads, asks_spelled, moves_spelled, told_by};
 ghost use Rattle.rp_replica.specs.Plans.{IsPlan};
 ghost use Rattle.rp_replica.specs.Rooms.{IsRoomWithin};
 
@@ -72,6 +72,7 @@ impl Replica {
         ensures bytes { IfOk result (λ d. d.bytes
             ≡ asks_spelled (assigning self.now.replica).leases
             ++ moves_spelled self.now.replica.pending d.moves) }
+        ensures read { IfOk result (λ d. EachReads d.bytes) }
         ensures outcomes { IfOk result (λ d. d.outcomes
             ≡ filter_map (told_by self.now.replica.applied.state.lease) d.moves) }
         ensures last { IfOk result (λ d. d.last ≡ (assigning self.now.replica).last) }
@@ -107,6 +108,7 @@ impl Replica {
         ensures room { IsRoomWithin self.old.room self.new.room }
         ensures plan { IfOk result (λ p. IsPlan self.old.replica
             (Some (quiet self.old.replica.raft)) p (flushed self.old.replica ticks round)) }
+        ensures read { OnOk result (EachReads (flushed self.old.replica ticks round).proposed) }
     {
         // An id is looked up, so none may stand twice.
         self.pending.ids_are_distinct();

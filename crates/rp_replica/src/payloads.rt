@@ -1,7 +1,7 @@
 //! The payloads of lease asks and of proposals, and what attempts are told that are given up.
 ghost use Rattle.std.specs.Prelude.{◌≡◌, ◌++◌, ◌∷◌, [], filter_map, option_map, IfOk, OnOk};
 ghost use Rattle.rp_codec.specs.Spelling.{spelling};
-ghost use Rattle.rp_replica.specs.Handing.{asks_spelled, moves_spelled, payload_by, told_by, write_again, write_under};
+ghost use Rattle.rp_replica.specs.Handing.{EachReads, asks_spelled, moves_spelled, payload_by, told_by, write_again, write_under};
 ghost use Rattle.rp_pending.specs.Proposals.{proposal_of};
 
 use rp_base::{CmdId, Lease, LeaseAsk, LeaseIndex, NoMemory};
@@ -28,8 +28,11 @@ fn write_under(proposal: &Proposal, max: LeaseIndex) -> Result<Payload, NoMemory
 }
 
 /// Puts the bytes of a payload at the end.
+#[tactic(auto, using(crate::proofs::Reading::reads_more))]
 fn push_payload(alloc: Global, bytes: &mut Payloads, payload: &Payload) -> Result<(), NoMemory>
-    ensures { OnOk result (bytes.new ≡ bytes.old ++ spelling payload.now ∷ []) }
+    requires { EachReads bytes.old }
+    ensures bytes { OnOk result (bytes.new ≡ bytes.old ++ spelling payload.now ∷ []) }
+    ensures read { OnOk result (EachReads bytes.new) }
 {
     let spelled = encode(alloc, payload)?;
     bytes.push(spelled)
@@ -41,7 +44,9 @@ pub(crate) fn push_asks(
     bytes: &mut Payloads,
     asks: &[LeaseAsk],
 ) -> Result<(), NoMemory>
-    ensures { OnOk result (bytes.new ≡ bytes.old ++ asks_spelled asks.now) }
+    requires { EachReads bytes.old }
+    ensures bytes { OnOk result (bytes.new ≡ bytes.old ++ asks_spelled asks.now) }
+    ensures read { OnOk result (EachReads bytes.new) }
 {
     for ask in asks {
         push_payload(alloc, bytes, &Payload::Lease(*ask))?;
@@ -73,7 +78,10 @@ fn push_move(
     pending: &Pending,
     one: Move,
 ) -> Result<(), NoMemory>
-    ensures { OnOk result (bytes.new ≡ bytes.old ++ moves_spelled pending.now.list (one ∷ [])) }
+    requires { EachReads bytes.old }
+    ensures bytes { OnOk result
+        (bytes.new ≡ bytes.old ++ moves_spelled pending.now.list (one ∷ [])) }
+    ensures read { OnOk result (EachReads bytes.new) }
 {
     match payload_by(pending, one)? {
         None => Ok(()),
@@ -88,7 +96,10 @@ pub(crate) fn push_moves(
     pending: &Pending,
     moves: &[Move],
 ) -> Result<(), NoMemory>
-    ensures { OnOk result (bytes.new ≡ bytes.old ++ moves_spelled pending.now.list moves.now) }
+    requires { EachReads bytes.old }
+    ensures bytes { OnOk result
+        (bytes.new ≡ bytes.old ++ moves_spelled pending.now.list moves.now) }
+    ensures read { OnOk result (EachReads bytes.new) }
 {
     for one in moves {
         push_move(alloc, bytes, pending, *one)?;

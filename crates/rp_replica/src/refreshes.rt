@@ -8,6 +8,7 @@ ghost use Rattle.rp_events.specs.Refreshes.{delivered, refresh_moves, refreshed_
 ghost use Rattle.rp_events.specs.Replicas.{has_new_leader};
 ghost use Rattle.rp_events.specs.declared.moves.Move.TheVariants.{Repeats, TakesBack};
 ghost use Rattle.rp_events.specs.Allows.{MayDeliver, MayRefresh};
+ghost use Rattle.rp_replica.specs.Handing.{EachReads};
 ghost use Rattle.rp_replica.specs.Plans.{IsPlan};
 ghost use Rattle.rp_replica.specs.Refreshing.{IsRefresh, after_taken, draft_in, refresh_behind};
 ghost use Rattle.rp_replica.specs.Rooms.{IsRoomWithin};
@@ -157,6 +158,9 @@ impl Replica {
             (Some (draft_in self.old.replica raft)) p
             (refreshed_by self.old.replica (draft_in self.old.replica raft) ticks round
             (after_taken self.old.replica raft) refresh)) }
+        ensures read { OnOk result (EachReads (refreshed_by self.old.replica
+            (draft_in self.old.replica raft) ticks round (after_taken self.old.replica raft)
+            refresh).proposed) }
     {
         // An id is looked up, so none may stand twice.
         self.pending.ids_are_distinct();
@@ -187,6 +191,7 @@ impl Replica {
         ensures room { IsRoomWithin self.old.room self.new.room }
         ensures plan { IfOk result (λ p. IsPlan self.old.replica
             (Some (tick self.old.replica.raft)) p (ticked self.old.replica ticks round)) }
+        ensures read { OnOk result (EachReads (ticked self.old.replica ticks round).proposed) }
     {
         let raft = self.raft.plan(RaftEvent::Tick, &self.source)?;
         let all = self.has_new_leader(&raft);
@@ -209,6 +214,8 @@ impl Replica {
         ensures plan { IfOk result (λ p. IsPlan self.old.replica
             (Some (received self.old.replica.raft from message)) p
             (delivered self.old.replica from message ticks round)) }
+        ensures read { OnOk result
+            (EachReads (delivered self.old.replica from message ticks round).proposed) }
     {
         let receive = RaftEvent::Receive { from, message };
         let raft = self.raft.plan(receive, &self.source)?;

@@ -5,7 +5,7 @@ ghost use Rattle.rp_events.specs.Replicas.{fresh, made_by_snap, started};
 
 use crate::sources::Source;
 use rp_apply::ApplyState;
-use rp_base::{Items, LeaseAsk, LeaseIndex, LeaseSeq, NodeId};
+use rp_base::{Item, Items, LeaseAsk, LeaseIndex, LeaseSeq, NodeId};
 use rp_latch::Latches;
 use rp_pending::Pending;
 use rp_raft::Raft;
@@ -186,6 +186,20 @@ impl Replica {
         ensures { result ≡ self.now.replica.barrier }
     {
         self.barrier
+    }
+
+    /// The last lease index that it gave, 0 before the first.
+    pub fn assigned(&self) -> LeaseIndex
+        ensures { result ≡ self.now.replica.assigned }
+    {
+        self.assigned
+    }
+
+    /// What its buffer gave and no flush has taken, in order.
+    pub fn inbox(&self) -> &[Item]
+        ensures { result.now ≡ self.now.replica.inbox }
+    {
+        self.inbox.as_slice()
     }
 
     /// The attempts that have not ended, in order of admission.

@@ -6,6 +6,7 @@ ghost use Rattle.rp_events.specs.ReplicaEvents.{event};
 ghost use Rattle.rp_events.specs.Replicas.{Done};
 ghost use Rattle.rp_events.specs.declared.replica_events.ReplicaEvent.TheVariants.{Collect};
 ghost use Rattle.rp_events.specs.Allows.{Allows, MayCut, draft_at};
+ghost use Rattle.rp_replica.specs.Handing.{EachReads};
 ghost use Rattle.rp_replica.specs.Plans.{HandOverFits, HandOverRoom, HasRoom, IsCollect, IsPlan, Makes, PlanFits, entries_of, left_by, left_of, opened, planned};
 ghost use Rattle.rp_raft.specs.Plans.{IsMadeIn};
 ghost use Rattle.rp_replica.specs.declared.plans.ReplicaPlan.TheVariants.{Cuts, HandsOver};
@@ -61,6 +62,8 @@ impl Replica {
         ensures plan { IfOk result (λ p. IsPlan self.old.replica
             (draft_at self.old.replica happens) p
             (event self.old.replica happens ticks round [])) }
+        ensures read { OnOk result
+            (EachReads (event self.old.replica happens ticks round []).proposed) }
         ensures collect { happens ≡ Collect → IfOk result (λ p. IsCollect p) }
     {
         match happens {

@@ -1,4 +1,4 @@
-use Rattle.std.proofs.Common.{◌≡◌, ◌++◌, ℕ, drop, map}
+use Rattle.std.proofs.Common.{◌≡◌, ◌++◌, drop, map}
 use Rattle.rp_events.specs.declared.moves.Move.TheVariants.{GivesUp}
 use Rattle.rp_replica.proofs.flushes.push_refused.Given as goal
 

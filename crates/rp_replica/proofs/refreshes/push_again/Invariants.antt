@@ -1,4 +1,4 @@
-use Rattle.std.proofs.Common.{◌≡◌, ◌++◌, ℕ, drop, map}
+use Rattle.std.proofs.Common.{◌≡◌, ◌++◌, drop, map}
 use Rattle.rp_events.specs.declared.moves.Move.TheVariants.{Repeats}
 use Rattle.rp_replica.proofs.refreshes.push_again.Given as goal
 

@@ -1,4 +1,4 @@
-use Rattle.std.proofs.Common.{◌≡◌, ◌++◌, ℕ, drop, map}
+use Rattle.std.proofs.Common.{◌≡◌, ◌++◌, drop, map}
 use Rattle.rp_events.specs.declared.moves.Move.TheVariants.{TakesBack}
 use Rattle.rp_replica.proofs.refreshes.push_back.Given as goal
 

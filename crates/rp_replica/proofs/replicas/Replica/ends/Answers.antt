@@ -1,4 +1,4 @@
-use Rattle.std.proofs.Common.{◌≡◌, ap, subst, map, ◌∙◌}
+use Rattle.std.proofs.Common.{◌≡◌, ap, subst, ◌∙◌}
 use Rattle.std.specs.Prelude.{IfOk, filter_map}
 use Rattle.rp_events.specs.Ends.{end_of}
 use Rattle.rp_replica.specs.Ends.{ends_by, end_by}

@@ -1,4 +1,4 @@
-use Rattle.std.proofs.Common.{◌≡◌, sym, subst}
+use Rattle.std.proofs.Common.{◌≡◌, subst}
 use Rattle.rp_events.specs.declared.answers.EventAnswer.TheVariants as answers
 use Rattle.rp_replica.specs.Plans.{Left, planned}
 use Rattle.rp_replica.specs.declared.plans.ReplicaPlan.TheVariants.{HandsOver}

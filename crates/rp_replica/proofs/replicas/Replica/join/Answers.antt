@@ -1,7 +1,6 @@
-use Rattle.std.proofs.Common.{◌≡◌, ◌∷◌, ◌++◌, sym, ap, subst, ◌∙◌}
+use Rattle.std.proofs.Common.{sym, ap, ◌∙◌}
 use Rattle.rp_base.specs.declared.items.Item.TheVariants.{Lease}
 use Rattle.rp_events.specs.LeaseAsks.{joined}
-use Rattle.rp_events.specs.Replicas.{Replica}
 use Rattle.rp_replica.proofs.Asking.{joins, joins_not}
 use Rattle.rp_replica.proofs.replicas.Replica.join.Goals as goal
 

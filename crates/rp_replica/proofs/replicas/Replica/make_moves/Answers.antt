@@ -1,4 +1,4 @@
-use Rattle.std.proofs.Common.{◌≤◌, arith, sym, subst}
+use Rattle.std.proofs.Common.{arith}
 use Rattle.rp_replica.proofs.Moving.{moves_on, items_more}
 use Rattle.rp_replica.proofs.replicas.Replica.make_moves.Goals as goal
 

@@ -6,7 +6,8 @@ use Rattle.rp_raftstep.specs.Conditions.{CanRise}
 use Rattle.rp_raftstep.specs.Step.{propose, step}
 use Rattle.rp_raftstep.specs.declared.events.RaftEvent.TheVariants.{Propose}
 use Rattle.rp_raft.specs.Plans.{IsMadeIn, Makes}
-use Rattle.rp_replica.proofs.Flushing.{flush_plan, may_propose}
+use Rattle.rp_replica.specs.Handing.{EachReads}
+use Rattle.rp_replica.proofs.Flushing.{flush_plan, flush_spelled, may_propose}
 use Rattle.rp_replica.proofs.replicas.Replica.plan_flush.Goals as goal
 
 pub plan-requires : goal.plan-requires
@@ -31,3 +32,11 @@ returns-clause-plan c =
     (subst (λ h. Makes h.replica.raft c.in_ok-raft.raft (propose h.replica.raft c.in_ok-draft.draft.bytes)
     (step h.replica.applied.index h.replica.applied.state h.replica.raft (Propose c.in_ok-draft.draft.bytes))) c.self.view_is c.in_ok-raft.ensures.plan)
     c.in_ok-draft.ensures.moves c.in_ok-draft.ensures.bytes c.in_ok-draft.ensures.outcomes (ap Some c.in_ok-draft.ensures.last)
+
+pub returns-clause-read : goal.returns-clause-read
+returns-clause-read c =
+    subst EachReads
+    (flush_spelled c.args.self.now.replica c.args.ticks c.args.round c.in_ok-draft.draft.moves c.in_ok-draft.draft.bytes
+    (subst (λ h. IsDistinct same_id (map (λ p. p.id) h.replica.pending)) c.self.view_is c.ids_are_distinct.ensures)
+    c.in_ok-draft.ensures.moves c.in_ok-draft.ensures.bytes)
+    c.in_ok-draft.ensures.read

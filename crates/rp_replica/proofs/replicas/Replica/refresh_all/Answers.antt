@@ -1,6 +1,5 @@
-use Rattle.std.proofs.Common.{◌≡◌, true, option_copied, ap, sym, ◌∙◌}
+use Rattle.std.proofs.Common.{true, option_copied, ap, sym, ◌∙◌}
 use Rattle.rp_pending.specs.Refreshes.{to_refresh}
-use Rattle.rp_pending.specs.declared.refreshes.Refresh.{Refresh}
 use Rattle.rp_raft.specs.Plans.{taken_in}
 use Rattle.rp_replica.proofs.Refreshing.{refreshed_where}
 use Rattle.rp_replica.proofs.replicas.Replica.refresh_all.Goals as goal
