@@ -99,7 +99,7 @@ module _ (range : ℕ) (below : range < 8) where
       omega (arith, k)
 
 -- nothing waits at the start
-first_waits : (node nodes range : ℕ) → waiting_at (seat (first_node node nodes) range) ≡ 0
+pub first_waits : (node nodes range : ℕ) → waiting_at (seat (first_node node nodes) range) ≡ 0
 first_waits node nodes zero = refl
 first_waits node nodes (suc zero) = refl
 first_waits node nodes (suc (suc zero)) = refl
