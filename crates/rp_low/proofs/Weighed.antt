@@ -74,15 +74,15 @@ weighed_scene nodes range below w reached x l seen h =
     let pending = inside.pending in
     let le : pending_long (seat n range) ≤ all_pending n = seat_le pending_long n.seats range refl in
     let admitted : admissions new ≡ admissions n + one_if b =
-        ap (count_by (λ (z : JournalEntry). is_admission z.event)) (step_journal n e.0 taken) ∙ count_push (λ (z : JournalEntry). is_admission z.event) n.journal (entry_of n e.0 taken) in
+    ap (count_by (λ (z : JournalEntry). is_admission z.event)) (step_journal n e.0 taken) ∙ count_push (λ (z : JournalEntry). is_admission z.event) n.journal (entry_of n e.0 taken) in
     let others : other_events new ≡ other_events n + one_if (not b) =
-        ap (count_by (λ (z : JournalEntry). not (is_admission z.event))) (step_journal n e.0 taken) ∙ count_push (λ (z : JournalEntry). not (is_admission z.event)) n.journal (entry_of n e.0 taken) in
+    ap (count_by (λ (z : JournalEntry). not (is_admission z.event))) (step_journal n e.0 taken) ∙ count_push (λ (z : JournalEntry). not (is_admission z.event)) n.journal (entry_of n e.0 taken) in
     let room : room_at new ≡ (other_events n + one_if (not b)) * (admissions n + one_if b + 18) = ap (λ z. z * (admissions new + 18)) others ∙ ap (λ z. (other_events n + one_if (not b)) * (z + 18)) admitted in
     let grown = room_grows b (other_events n) (admissions n) (pending_long (seat n range)) (waiting_at (seat n range)) (waiting_at (seat new range)) (weigh (node_doings range n e.0 taken)) (length (handed range n e.0 taken)) short weighs (omega (arith, le, pending)) in
     let waits = sum_with (λ (z : Node). waiting_at (seat z range)) w x.node n new f.1 in
     let rooms = sum_with room_at w x.node n new f.1 in
     let seen_weighs : weight_of (seen ++ raft_events range w x) ≡ weight_of seen + weigh (node_doings range n e.0 taken) =
-        sum_by-append event_weight seen (raft_events range w x) ∙ ap (λ z. weight_of seen + z) (scene_weight range w x n e.0 f.1 e.1) in
+    sum_by-append event_weight seen (raft_events range w x) ∙ ap (λ z. weight_of seen + z) (scene_weight range w x n e.0 f.1 e.1) in
     let was = h.weighs in
     record {
       weighs = subst (λ z. weight_of (seen ++ raft_events range w x) + all_waiting range z ≤ room_of z) (sym (happens_is w x n e.0 f.1 e.1))

@@ -139,9 +139,9 @@ module _ (range : ℕ) (e : ReplicaEvent AppliedState) (none : (r : Replica) (ti
   mine m ticks rounds same =
       let k = seat_weighs range m range 0 e [] (seat m range) refl in
       let own : length (option_map_or (handed_by (seat m range) m.ticks m.rounds []) (cond (eqb range range) (Some e) None) []) ≡ length (handed_by (seat m range) m.ticks m.rounds [] e) =
-          ap (λ b. length (option_map_or (handed_by (seat m range) m.ticks m.rounds []) (cond b (Some e) None) [])) (eq-eqb range range refl) in
+      ap (λ b. length (option_map_or (handed_by (seat m range) m.ticks m.rounds []) (cond b (Some e) None) [])) (eq-eqb range range refl) in
       let clock : length (handed_by (seat m range) m.ticks m.rounds [] e) ≡ length (handed_by (seat n range) n.ticks n.rounds [] e) =
-          ap (λ s. length (handed_by s m.ticks m.rounds [] e)) same ∙ ap (λ t. length (handed_by (seat n range) t m.rounds [] e)) ticks ∙ ap (λ t. length (handed_by (seat n range) n.ticks t [] e)) rounds in
+      ap (λ s. length (handed_by s m.ticks m.rounds [] e)) same ∙ ap (λ t. length (handed_by (seat n range) t m.rounds [] e)) ticks ∙ ap (λ t. length (handed_by (seat n range) n.ticks t [] e)) rounds in
       omega (arith, k, own, clock)
 
   all_weigh : (ranges : List ℕ) → IsAscending ranges → (m : Node) → SoFar e none n range m ranges → weigh (all_doings range e m ranges) ≤ allowance

@@ -8,8 +8,8 @@ ghost use Rattle.rp_lone.specs.declared.events.ReplicaEvent.TheVariants.{Flush};
 
 use crate::events::{collect, end_all, end_one, happen};
 use rp_base::{ClientCounts, CmdId, Items, NoMemory, NodeId, RangeId, Text};
-use rp_range::{first_desc, first_lease};
 use rp_lone::{Effects, Replica, ReplicaEvent};
+use rp_range::{first_desc, first_lease};
 use rp_request::{Note, Outcome};
 use rp_table::Table;
 use std::alloc::Global;
