@@ -11,8 +11,8 @@ use Rattle.rp_seats.specs.Turned.{begins_at_all}
 use Rattle.rp_turns.specs.Keeping.{AreWide}
 use Rattle.rp_bound.specs.Numbers.{AreSmall}
 
--- the nodes stand beside the ranges of the machine and beside what Raft has seen of each; all that they
--- hold has its widths, and the numbers that grow are small
+-- the nodes stand beside the ranges of the machine and beside what Raft has seen of each; all that
+-- they hold has its widths, and the numbers that grow are small
 pub record Stands (lists : OneList AppliedState) (w : World) (m : Ranges)
     (seen : ℕ → List raft.Event) : Type 0 where
   pub bound : Bound lists w m seen
@@ -25,8 +25,8 @@ pub record IsStanding (lists : OneList AppliedState) (w : World) : Type 0 where
   pub seen : ℕ → List raft.Event
   pub stands : Stands lists w ranges seen
 
--- after a scene the ranges have gone on lawfully, and stand beside the nodes with what the scene was to
--- Raft in each range
+-- after a scene the ranges have gone on lawfully, and stand beside the nodes with what the scene
+-- was to Raft in each range
 pub record BoundNext (lists : OneList AppliedState) (w : World) (m : Ranges)
     (seen : ℕ → List raft.Event) (x : Scene) : Type 0 where
   pub ranges : Ranges

@@ -54,8 +54,8 @@ items_in (nodes.Removed applied) = 0
 abbrev pub waiting_in : (range : ℕ) → World → ℕ
 waiting_in range w = sum_by (λ n. items_in (seat n range)) w
 
--- how many items can have come to a node's inboxes: in each event but an admission at most what a buffer
--- holds, and each of the proposals that the node admitted once again
+-- how many items can have come to a node's inboxes: in each event but an admission at most what a
+-- buffer holds, and each of the proposals that the node admitted once again
 abbrev pub work_of : Node → ℕ
 work_of n = (length n.journal - length n.requests) * (length n.requests + 16)
 

@@ -1,5 +1,5 @@
-//! The nodes of every world that lawful scenes lead to stand beside the range machine and beside Raft in
-//! each range.
+//! The nodes of every world that lawful scenes lead to stand beside the range machine and beside
+//! Raft in each range.
 #![tactic(auto)]
 
 pub mod laws;

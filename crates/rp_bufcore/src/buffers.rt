@@ -42,7 +42,7 @@ impl fmt::Display for NotDrawn {
 impl Error for NotDrawn {}
 
 /// One of the places of a buffer.
-#[derive(Clone, Copy, Debug, PartialEq, Eq)]
+#[derive(Clone, Copy, PartialEq, Eq)]
 pub enum Slot {
     Free,
     Drawn,

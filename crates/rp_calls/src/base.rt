@@ -1,11 +1,11 @@
 //! One call of each kind, and worked texts.
-use crate::samples::key;
+use crate::samples::{key, passed};
 use rp_base::{
-    BadKey, BadText, Bytes, Calls, ClientCounts, Grown, Key, KeySpan, NumberFault, Seq, ShortText,
-    Text, Value, push_bound, push_key, push_number, push_text, push_value, push_word, read_u64,
+    BadKey, BadText, Bytes, Calls, ClientCounts, Grown, Key, KeySpan, NoMemory, NumberFault, Seq,
+    ShortText, Text, Value, push_bound, push_key, push_number, push_text, push_value, push_word,
+    read_u64,
 };
 use std::test::Fail;
-use std::thread::join;
 
 #[test]
 fn reads_keys(rt: HostRuntime) {
@@ -66,15 +66,28 @@ fn joins_texts(rt: HostRuntime) -> Result<(), Fail> {
     Ok(())
 }
 
-#[test]
-fn joins_lists(rt: HostRuntime) -> Result<(), Fail> {
-    let mut calls: Calls = Seq::from_vec(vec![in rt.alloc(); 3, 1]?);
-    calls.push(4)?;
+/// A list with the first item of its copy behind it.
+fn joined(calls: &mut Calls) -> Result<(), NoMemory> {
     let mut more = calls.copy()?;
     more.truncate(1);
-    calls.append(more)?;
-    assert!(rt; calls.into_vec().as_slice() == [3, 1, 4, 3].as_slice());
+    calls.append(more)
+}
+
+#[test]
+fn joins_lists(rt: HostRuntime) -> Result<(), Fail> {
+    let mut calls: Calls = Seq::new(rt.alloc());
+    calls.push(3)?;
+    calls.push(1)?;
+    joined(&mut calls)?;
+    assert!(rt; is_3_1_3(calls.as_slice()));
+    let items = calls.into_vec();
+    assert!(rt; is_3_1_3(items.as_slice()));
+    assert!(rt; Seq::from_vec(items).len() == 3);
     Ok(())
+}
+
+fn is_3_1_3(items: &[u64]) -> bool {
+    matches!(items, [3, 1, 3])
 }
 
 #[test]
@@ -83,7 +96,7 @@ fn passes_through_threads(rt: HostRuntime) -> Result<(), Fail> {
     push_word(&mut text, "put")?;
     let mut bytes: Bytes = Seq::new(rt.alloc());
     bytes.push(7)?;
-    let (text, bytes) = join(&rt, move || text, move || bytes);
+    let (text, bytes) = (passed(&rt, text), passed(&rt, bytes));
     assert!(rt; text.as_str() == "put" && bytes.as_slice() == [7].as_slice());
     Ok(())
 }
@@ -136,10 +149,13 @@ fn shows_bounds(rt: HostRuntime) -> Result<(), Fail> {
 
 #[test]
 fn keeps_room(rt: HostRuntime) -> Result<(), Fail> {
-    let mut ticks = Grown::from_vec(vec![in rt.alloc(); 40, 56]?);
+    let mut ticks = Grown::from_vec(Vec::new(rt.alloc()));
     ticks.make_room(2)?;
-    ticks.push(72);
-    assert!(rt; ticks.into_vec().as_slice() == [40, 56, 72].as_slice());
+    ticks.push(40);
+    ticks.push(56);
+    assert!(rt; ticks.len() == 2);
+    let ticks = ticks.into_vec();
+    assert!(rt; matches!(ticks.as_slice(), [40, 56]));
     Ok(())
 }
 
@@ -148,9 +164,14 @@ fn keeps_room(rt: HostRuntime) -> Result<(), Fail> {
 fn finds_numbers(rt: HostRuntime) -> Result<(), Fail> {
     let key = key("b")?;
     let span = KeySpan::new(key, None).ok_or("no span")?.span();
-    let mut counts = ClientCounts::new();
     assert!(rt; span.start == 0x62 << 120 && span.end == u128::MAX);
     assert!(rt; Key::of_bound(span.start) == Some(key) && Key::of_bound(span.end).is_none());
-    assert!(rt; counts.add_one(64) == 1 && counts.add_one(64) == 2 && counts.get(1) == 0);
     Ok(())
+}
+
+#[test]
+fn counts_of_clients(rt: HostRuntime) {
+    let mut counts = ClientCounts::new();
+    assert!(rt; counts.add_one(64) == 1);
+    assert!(rt; counts.add_one(64) == 2 && counts.get(1) == 0);
 }

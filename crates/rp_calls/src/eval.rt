@@ -68,70 +68,124 @@ fn moved(from: Key, to: Key, by: u64) -> Request {
     Request::Move { from, to, by }
 }
 
+/// Whether the request is in the bounds of the first range, writes this and replies this.
+fn writes(alloc: Global, table: &Table, request: Request, op: Option<Op>, reply: Reply) -> bool {
+    in_bounds(first_desc(), &request) && gives(alloc, table, request, (op, None), reply)
+}
+
+/// Puts and expected values: `b` is absent, and `t` has a text.
+fn puts(alloc: Global, table: &Table, b: Key, t: Key) -> bool {
+    writes(alloc, table, put(b, 1), set(b, 1), Reply::Old(None))
+        && writes(alloc, table, put(t, 1), set(t, 1), Reply::Old(table.get(t)))
+        && writes(alloc, table, cput(b, None), set(b, 4), Reply::Set)
+        && writes(alloc, table, cput(t, table.get(t)), set(t, 4), Reply::Set)
+}
+
+/// Sums: `a` has 5, and `b` is absent.
+fn sums(alloc: Global, table: &Table, a: Key, b: Key) -> bool {
+    let most = u64::MAX;
+    writes(alloc, table, add(a, 3), set(a, 8), Reply::Now(8))
+        && writes(alloc, table, add(b, most), set(b, most), Reply::Now(most))
+        && writes(alloc, table, moved(a, a, 2), set(a, 5), Reply::Now(5))
+        && writes(alloc, table, moved(b, b, 0), set(b, 0), Reply::Now(0))
+}
+
+/// What removes rows, and what moves from `c` to `a`.
+fn removals(alloc: Global, table: &Table, keys: (Key, Key, Key), span: KeySpan) -> bool {
+    let (a, b, c) = keys;
+    let both = (remove(a), remove(c));
+    let two = (set(c, 5), set(a, 7));
+    writes(
+        alloc,
+        table,
+        Request::Del { key: b },
+        remove(b),
+        Reply::Old(None),
+    ) && gives(alloc, table, Request::Wipe { span }, both, Reply::Count(3))
+        && gives(alloc, table, moved(c, a, 2), two, Reply::Now(5))
+}
+
 #[test]
 fn writes_and_replies(rt: HostRuntime) -> Result<(), Fail> {
-    let table = four_rows(rt.alloc())?;
     let (a, b, c, t) = (key("a")?, key("b")?, key("c")?, key("t")?);
     let span = KeySpan::new(a, Some(t)).ok_or("a span")?;
     let right = RangeId::new(1).ok_or("a range")?;
-    let text = table.get(t);
-    let most = u64::MAX;
-    for (request, first, second, reply) in [
-        (put(b, 1), set(b, 1), None, Reply::Old(None)),
-        (put(t, 1), set(t, 1), None, Reply::Old(text)),
-        (add(a, 3), set(a, 8), None, Reply::Now(8)),
-        (add(b, most), set(b, most), None, Reply::Now(most)),
-        (cput(b, None), set(b, 4), None, Reply::Set),
-        (cput(t, text), set(t, 4), None, Reply::Set),
-        (Request::Del { key: b }, remove(b), None, Reply::Old(None)),
-        (
-            Request::Wipe { span },
-            remove(a),
-            remove(c),
-            Reply::Count(3),
-        ),
-        (moved(c, a, 2), set(c, 5), set(a, 7), Reply::Now(5)),
-        (moved(a, a, 2), set(a, 5), None, Reply::Now(5)),
-        (moved(b, b, 0), set(b, 0), None, Reply::Now(0)),
-        (Request::Split { key: c }, None, None, Reply::Range(right)),
-    ] {
-        assert!(rt; in_bounds(first_desc(), &request));
-        assert!(rt; gives(rt.alloc(), &table, request, (first, second), reply));
-    }
+    let split = Request::Split { key: c };
+    let table = four_rows(rt.alloc())?;
+    assert!(rt; puts(rt.alloc(), &table, b, t) && sums(rt.alloc(), &table, a, b));
+    assert!(rt; removals(rt.alloc(), &table, (a, b, c), span));
+    assert!(rt; writes(rt.alloc(), &table, split, None, Reply::Range(right)));
     Ok(())
 }
 
-/// A text is never counted with; the text 5 is not the number 5; an absent key is not 0.
+/// Whether the request is refused so in the first range.
+fn refuses(alloc: Global, table: &Table, request: Request, fault: EvalFault) -> bool {
+    fault_of(alloc, table, first_desc(), request) == Some(fault)
+}
+
+/// Sums that are too large: `a` has 5, and `m` the greatest number.
+fn overflows(alloc: Global, table: &Table, a: Key, m: Key) -> bool {
+    let most = u64::MAX;
+    refuses(
+        alloc,
+        table,
+        add(a, most),
+        EvalFault::Overflow { actual: 5 },
+    ) && refuses(
+        alloc,
+        table,
+        moved(a, m, 1),
+        EvalFault::Overflow { actual: most },
+    )
+}
+
+fn failed(actual: Option<Value>) -> EvalFault {
+    EvalFault::ConditionFailed { actual }
+}
+
+/// Expected values: an absent key is not 0, and the text 5 is not the number 5.
+fn conditions(alloc: Global, table: &Table, a: Key, b: Key, t: Key) -> bool {
+    refuses(alloc, table, cput(a, None), failed(Some(Value::Number(5))))
+        && refuses(alloc, table, cput(b, Some(Value::Number(0))), failed(None))
+        && refuses(
+            alloc,
+            table,
+            cput(t, Some(Value::Number(5))),
+            failed(table.get(t)),
+        )
+}
+
+/// Where there is less than is taken: `a` has 5, and `b` is absent.
+fn shortages(alloc: Global, table: &Table, a: Key, b: Key, m: Key) -> bool {
+    refuses(alloc, table, moved(a, m, 6), EvalFault::Short { actual: 5 })
+        && refuses(alloc, table, moved(a, a, 6), EvalFault::Short { actual: 5 })
+        && refuses(alloc, table, moved(b, a, 1), EvalFault::Short { actual: 0 })
+}
+
+/// A text is never counted with.
+fn texts(alloc: Global, table: &Table, a: Key, t: Key) -> bool {
+    let most = u64::MAX;
+    refuses(alloc, table, add(t, most), EvalFault::IsText { key: t })
+        && refuses(
+            alloc,
+            table,
+            moved(t, a, most),
+            EvalFault::IsText { key: t },
+        )
+        && refuses(
+            alloc,
+            table,
+            moved(a, t, most),
+            EvalFault::IsText { key: t },
+        )
+}
+
 #[test]
 fn refusals(rt: HostRuntime) -> Result<(), Fail> {
-    let table = four_rows(rt.alloc())?;
     let (a, b, m, t) = (key("a")?, key("b")?, key("m")?, key("t")?);
-    let (zero, five, text) = (Value::Number(0), Value::Number(5), table.get(t));
-    let most = u64::MAX;
-    for (request, fault) in [
-        (add(a, most), EvalFault::Overflow { actual: 5 }),
-        (moved(a, m, 1), EvalFault::Overflow { actual: most }),
-        (
-            cput(a, None),
-            EvalFault::ConditionFailed { actual: Some(five) },
-        ),
-        (
-            cput(b, Some(zero)),
-            EvalFault::ConditionFailed { actual: None },
-        ),
-        (
-            cput(t, Some(five)),
-            EvalFault::ConditionFailed { actual: text },
-        ),
-        (moved(a, m, 6), EvalFault::Short { actual: 5 }),
-        (moved(a, a, 6), EvalFault::Short { actual: 5 }),
-        (moved(b, a, 1), EvalFault::Short { actual: 0 }),
-        (add(t, most), EvalFault::IsText { key: t }),
-        (moved(t, a, most), EvalFault::IsText { key: t }),
-        (moved(a, t, most), EvalFault::IsText { key: t }),
-    ] {
-        assert!(rt; fault_of(rt.alloc(), &table, first_desc(), request) == Some(fault));
-    }
+    let table = four_rows(rt.alloc())?;
+    assert!(rt; overflows(rt.alloc(), &table, a, m) && conditions(rt.alloc(), &table, a, b, t));
+    assert!(rt; shortages(rt.alloc(), &table, a, b, m) && texts(rt.alloc(), &table, a, t));
     Ok(())
 }
 

@@ -1,9 +1,8 @@
 //! Spans that are held and freed.
-use crate::samples::key;
+use crate::samples::{key, passed};
 use rp_base::{CmdId, Span, Spans};
 use rp_latch::{Held, Latches};
 use std::test::Fail;
-use std::thread::join;
 
 fn attempt(client: u16) -> CmdId {
     CmdId {
@@ -29,6 +28,15 @@ fn is_oldest(latches: &Latches, by: CmdId, held: Span) -> bool {
     latches.conflict(whole) == Some(Held { by, held })
 }
 
+/// The older hold is found as long as it is held, then the other one.
+fn frees_both(latches: &mut Latches, a: Spans, b: Spans) -> bool {
+    let older = is_oldest(latches, attempt(1), a.first);
+    latches.free(attempt(1));
+    let other = is_oldest(latches, attempt(2), b.first);
+    latches.clear();
+    older && other && latches.conflict(b).is_none()
+}
+
 #[test]
 fn holds_and_frees(rt: HostRuntime) -> Result<(), Fail> {
     let (a, b) = (one("a")?, one("b")?);
@@ -36,13 +44,22 @@ fn holds_and_frees(rt: HostRuntime) -> Result<(), Fail> {
     latches.make_room(2)?;
     assert!(rt; latches.hold(attempt(1), a).is_ok());
     assert!(rt; latches.hold(attempt(2), b).is_ok());
-    let (mut latches, ()) = join(&rt, move || latches, || ());
-    assert!(rt; is_oldest(&latches, attempt(1), a.first));
-    latches.free(attempt(1));
-    assert!(rt; is_oldest(&latches, attempt(2), b.first));
-    latches.clear();
-    assert!(rt; latches.conflict(b).is_none());
+    assert!(rt; frees_both(&mut latches, a, b));
     Ok(())
+}
+
+#[test]
+fn passes_through_a_thread(rt: HostRuntime) {
+    let latches = Latches::new(rt.alloc());
+    let latches = passed(&rt, latches);
+    assert!(rt;
+        latches
+            .conflict(Spans {
+                first: Span::whole(),
+                second: None
+            })
+            .is_none()
+    );
 }
 
 /// The span of one number, and the attempt that holds it.

@@ -22,6 +22,8 @@ mod outside;
 #[cfg(test)]
 mod pending;
 #[cfg(test)]
+mod quota;
+#[cfg(test)]
 mod raft;
 #[cfg(test)]
 mod raftlog;

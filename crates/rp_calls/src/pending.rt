@@ -1,11 +1,10 @@
 //! Proposals that are added, flushed, refreshed and finished.
-use crate::samples::{attempt, key};
+use crate::samples::{attempt, key, passed};
 use rp_base::{CmdId, LeaseIndex, LeaseSeq, Tick, Value};
 use rp_pending::{Pending, Proposal, Refresh, Stage};
 use rp_request::{Batch, Reply, Request};
 use std::alloc::Global;
 use std::test::Fail;
-use std::thread::join;
 
 fn proposal(alloc: Global, number: u32) -> Result<Proposal, Fail> {
     let key = key("a")?;
@@ -110,7 +109,7 @@ fn hold(pending: &Pending, numbers: &[u32]) -> bool {
 #[test]
 fn a_proposal_is_added_found_and_finished(rt: HostRuntime) -> Result<(), Fail> {
     let pending = filled(rt.alloc(), 3)?;
-    let (mut pending, ()) = join(&rt, move || pending, || ());
+    let mut pending = passed(&rt, pending);
     assert!(rt; has(&pending, 2) && !has(&pending, 4));
     assert!(rt; finishes(&mut pending, 1) && !finishes(&mut pending, 1));
     assert!(rt; hold(&pending, &[2, 3]));

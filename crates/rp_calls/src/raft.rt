@@ -2,13 +2,13 @@
 ghost use Rattle.std.specs.Prelude.{◌≡◌, true};
 ghost use Rattle.rp_raftstep.specs.Conditions.{CanRise, MessageFits};
 
+use crate::samples::passed;
 use rp_base::{Bytes, NoMemory, NodeId, Seq};
 use rp_raft::Raft;
 use rp_raftlog::{Entry, Log};
 use rp_raftstep::{MakeSnap, Message, Payloads, RaftEvent, RaftOut};
 use std::alloc::Global;
 use std::test::Fail;
-use std::thread::join;
 
 /// What a replica has applied: up to which index, and a state.
 #[derive(Clone, Copy)]
@@ -138,7 +138,7 @@ fn is_known(raft: &Raft<u64>, index: u64, term: u64, byte: u8) -> bool {
 #[test]
 fn one_node_commits_alone(rt: HostRuntime) -> Result<(), Fail> {
     let raft = started(rt.alloc(), 1, 1)?;
-    let (mut raft, ()) = join(&rt, move || raft, || ());
+    let mut raft = passed(&rt, raft);
     let out = tick(&mut raft, payloads(rt.alloc(), 7)?)?;
     assert!(rt; out.messages.len() == 0 && out.taken.is_none());
     assert!(rt; raft.commit_index() == 1 && raft.last() == (1, 1));

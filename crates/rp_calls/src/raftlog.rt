@@ -1,11 +1,11 @@
 //! Calls of a log, each compared with what it must give.
 ghost use Rattle.std.specs.Prelude.{◌≡◌, IfOk};
 
+use crate::samples::passed;
 use rp_base::Seq;
 use rp_raftlog::{Entries, Entry, Log, Mismatch, copies};
 use std::alloc::Global;
 use std::test::Fail;
-use std::thread::join;
 
 /// An entry of a term, with a payload of one byte.
 fn entry(alloc: Global, term: u64, byte: u8) -> Result<Entry, Fail> {
@@ -88,7 +88,7 @@ fn appends_and_reads(rt: HostRuntime) -> Result<(), Fail> {
     log.make_room(2)?;
     log.append(entry(rt.alloc(), 1, 7)?);
     log.append(entry(rt.alloc(), 3, 8)?);
-    let (log, ()) = join(&rt, move || log, || ());
+    let log = passed(&rt, log);
     assert!(rt; log.last() == (12, 3) && log.term_at(11) == Some(1));
     assert!(rt; log.entry_at(12).is_some_and(|last| is(last, (3, 8))));
     assert!(rt; holds(&log, &[(1, 7), (3, 8)]));

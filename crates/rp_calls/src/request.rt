@@ -1,8 +1,7 @@
 //! Batches.
-use crate::samples::{key, text};
+use crate::samples::{key, passed, text};
 use rp_request::{Batch, Op};
 use std::test::Fail;
-use std::thread::join;
 
 #[test]
 fn batches(rt: HostRuntime) -> Result<(), Fail> {
@@ -16,7 +15,7 @@ fn batches(rt: HostRuntime) -> Result<(), Fail> {
     batch.push(set)?;
     batch.push(remove)?;
     let copy = batch.copy()?;
-    let (batch, copy) = join(&rt, move || batch, move || copy);
+    let batch = passed(&rt, batch);
     let again = Batch::from_vec(batch.into_vec());
     assert!(rt; copy.as_slice() == [set, remove].as_slice());
     assert!(rt; again.as_slice() == [set, remove].as_slice());

@@ -1,6 +1,7 @@
 //! Values that several tests use.
 use rp_base::{CmdId, Key, ShortText, Value};
 use std::test::Fail;
+use std::thread::{Threads, join};
 
 pub fn key(text: &str) -> Result<Key, Fail> {
     Ok(Key::read(text.as_bytes()).ok().ok_or("a key")?)
@@ -19,4 +20,10 @@ pub fn attempt(number: u32) -> CmdId {
         seq: number,
         attempt: 1,
     }
+}
+
+/// A value that went to a thread and came back.
+pub fn passed<T: Send + Drop>(rt: &impl Threads, value: T) -> T {
+    let (value, ()) = join(rt, move || value, || ());
+    value
 }

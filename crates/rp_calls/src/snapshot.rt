@@ -1,12 +1,11 @@
 //! A snapshot is made, copied, handed to a thread and taken apart.
-use crate::samples::key;
+use crate::samples::{key, passed};
 use rp_base::{LeaseIndex, Value};
 use rp_range::{first_desc, first_lease};
 use rp_snapshot::{Snapshot, make};
 use rp_table::Table;
 use std::alloc::Global;
 use std::test::Fail;
-use std::thread::join;
 
 /// The first range under the first lease after one command, a put of a.
 fn one_put(alloc: Global) -> Result<Snapshot, Fail> {
@@ -25,7 +24,7 @@ fn one_put(alloc: Global) -> Result<Snapshot, Fail> {
 #[test]
 fn a_snapshot_is_a_copy(rt: HostRuntime) -> Result<(), Fail> {
     let snapshot = one_put(rt.alloc())?.copy()?;
-    let (snapshot, ()) = join(&rt, move || snapshot, || ());
+    let snapshot = passed(&rt, snapshot);
     assert!(rt; snapshot.rows() == 1 && snapshot.table().len() == 1);
     assert!(rt; snapshot.desc() == first_desc() && snapshot.lease() == first_lease());
     let (_desc, _lease, lai, table) = snapshot.into_parts();

@@ -2,14 +2,13 @@
 ghost use Rattle.std.specs.Prelude.{IsTrue, IsOk};
 ghost use Rattle.rp_base.specs.Splits.{split_of};
 
-use crate::samples::key;
+use crate::samples::{key, passed};
 use rp_base::{Desc, Key, Value};
 use rp_range::{first_desc, first_lease, split_at};
 use rp_split::{RightStart, first, trigger};
 use rp_table::Table;
 use std::alloc::Global;
 use std::test::Fail;
-use std::thread::join;
 
 /// Whether the range may be split at the key.
 fn may_split(desc: Desc, key: Key) -> bool
@@ -42,7 +41,7 @@ fn range_0_starts_empty(rt: HostRuntime) {
 #[test]
 fn range_1_starts_at_m(rt: HostRuntime) -> Result<(), Fail> {
     let start = right_of_m(rt.alloc())?;
-    let (start, ()) = join(&rt, move || start, || ());
+    let start = passed(&rt, start);
     let (desc, lease, table) = start.into_parts();
     assert!(rt; desc.id.get() == 1 && desc.level == 1 && desc.start == key("m")?.bound());
     assert!(rt; desc.end == u128::MAX && lease == first_lease());

@@ -1,10 +1,9 @@
 //! Tables that are written, cut and copied.
-use crate::samples::{key, text};
+use crate::samples::{key, passed, text};
 use rp_base::{Key, Span, Value};
 use rp_table::Table;
 use std::alloc::Global;
 use std::test::Fail;
-use std::thread::join;
 
 /// The keys a, c and e with the values 1, the text 5, and 5.
 fn three(alloc: Global) -> Result<Table, Fail> {
@@ -32,7 +31,7 @@ fn parts(rt: HostRuntime) -> Result<(), Fail> {
     let right = table.split_off(c)?;
     table.cut_at(c);
     whole.remove_one(c);
-    let (whole, right) = join(&rt, move || whole, move || right);
+    let whole = passed(&rt, whole);
     assert!(rt; has(&table, &[a]) && has(&right, &[c, e]) && has(&whole, &[a, e]));
     assert!(rt; right.get(e) == Some(Value::Number(5)));
     Ok(())

@@ -5,7 +5,7 @@ use rp_raftstep::Message;
 use rp_request::{Outcome, Refusal};
 
 /// What an event answers.
-#[derive(Clone, Copy, Debug, PartialEq, Eq)]
+#[derive(Clone, Copy, PartialEq, Eq)]
 pub enum EventAnswer {
     /// It was done.
     Done,
@@ -24,7 +24,7 @@ pub enum EventAnswer {
 }
 
 /// How an attempt ended that had been admitted.
-#[derive(Clone, Copy, Debug, PartialEq, Eq)]
+#[derive(Clone, Copy, PartialEq, Eq)]
 pub struct Ended {
     pub id: CmdId,
     pub outcome: Outcome,

@@ -5,7 +5,7 @@ use rp_request::Request;
 
 /// What happens in a world: an event of a node, or of one of its proposal buffers (this project).
 /// A message is named by its sender and its number there.
-#[derive(Clone, Copy, Debug, PartialEq, Eq)]
+#[derive(Clone, Copy, PartialEq, Eq)]
 pub enum WorldEvent {
     Admit {
         node: NodeId,

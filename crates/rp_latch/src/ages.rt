@@ -8,7 +8,7 @@ use std::alloc::Global;
 use std::collections::VecDeque;
 
 /// A hold with its number. The numbers rise with each hold, so the oldest hold has the least.
-#[derive(Clone, Copy, Debug, PartialEq, Eq)]
+#[derive(Clone, Copy, PartialEq, Eq)]
 pub struct Numbered {
     pub number: u64,
     pub hold: Hold,

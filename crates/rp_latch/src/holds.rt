@@ -8,7 +8,7 @@ use std::error::Error;
 use std::fmt;
 
 /// The spans that one attempt of a command holds.
-#[derive(Clone, Copy, Debug, PartialEq, Eq)]
+#[derive(Clone, Copy, PartialEq, Eq)]
 pub struct Hold {
     pub id: CmdId,
     pub spans: Spans,

@@ -5,7 +5,7 @@ use rp_base::{CmdId, LeaseIndex, LeaseSeq, Tick};
 use rp_request::{Batch, Reply, Request};
 
 /// Where a pending proposal stands.
-#[derive(Clone, Copy, Debug, PartialEq, Eq)]
+#[derive(Clone, Copy, PartialEq, Eq)]
 pub enum Stage {
     /// It is to get a lease index.
     Waiting,

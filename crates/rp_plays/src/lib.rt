@@ -11,3 +11,5 @@ mod script;
 mod scripts;
 #[cfg(test)]
 mod top;
+#[cfg(test)]
+mod words;

@@ -3,8 +3,8 @@ ghost use Rattle.std.specs.Prelude.{IfOk};
 ghost use Rattle.rp_report.specs.Shown.{IsShownDesc, IsShownOutcome, IsShownView};
 
 use rp_base::{
-    CmdId, Desc, Key, Lease, LeaseIndex, LeaseSeq, NodeId, RangeId, Seq, ShortText, Text, Tick,
-    Value,
+    CmdId, Desc, Key, Lease, LeaseIndex, LeaseSeq, NoMemory, NodeId, RangeId, Seq, ShortText, Text,
+    Tick, Value,
 };
 use rp_report::{
     RangeView, ReplicaView, Row, View, push_outcome, push_range_line, push_refusal,
@@ -73,6 +73,19 @@ fn put_hi() -> Result<Record, Fail> {
     }))
 }
 
+/// A view of one node without ranges.
+fn empty(alloc: Global) -> View
+    ensures { IsShownView result }
+{
+    View {
+        nodes: 1,
+        notes: Seq::new(alloc),
+        replies: Seq::new(alloc),
+        ranges: Seq::new(alloc),
+        messages: 0,
+    }
+}
+
 /// One more attempt, and how it ended.
 fn answered(mut view: View, seq: u32, outcome: Outcome) -> Result<View, Fail>
     requires shown { IsShownView view }
@@ -87,6 +100,15 @@ fn answered(mut view: View, seq: u32, outcome: Outcome) -> Result<View, Fail>
     };
     view.replies.push(reply)?;
     Ok(view)
+}
+
+/// A command that took effect, and one that is refused since the key has a text.
+fn both_answered(view: View, key: Key) -> Result<View, Fail>
+    requires { IsShownView view }
+    ensures { IfOk result (λ v. IsShownView v) }
+{
+    let view = answered(view, 1, Outcome::Success(Reply::Old(None)))?;
+    answered(view, 2, Outcome::Refused(Refusal::IsText { key }))
 }
 
 /// One more range.
@@ -112,25 +134,32 @@ fn first_range(records: Vec<Record>, replicas: Vec<ReplicaView>) -> RangeView
     }
 }
 
+/// The range with an entry that carries nothing and the put of a text, and its one replica.
+fn one_range(alloc: Global) -> Result<RangeView, Fail>
+    ensures { IfOk result (λ range. IsShownDesc range.desc) }
+{
+    let put = put_hi()?;
+    let records = vec![in alloc; Record::Passed(Why::Nothing), put]?;
+    let replicas = vec![in alloc; with_row(alloc)?]?;
+    Ok(first_range(records, replicas))
+}
+
 /// A put of a text, an add that is refused, and an entry that carries nothing, on one node.
 fn one_text(alloc: Global) -> Result<View, Fail>
     ensures { IfOk result (λ v. IsShownView v) }
 {
-    let empty = View {
-        nodes: 1,
-        notes: Seq::new(alloc),
-        replies: Seq::new(alloc),
-        ranges: Seq::new(alloc),
-        messages: 0,
-    };
-    let view = answered(empty, 1, Outcome::Success(Reply::Old(None)))?;
-    let refusal = Refusal::IsText {
-        key: Key::read(b"a")?,
-    };
-    let view = answered(view, 2, Outcome::Refused(refusal))?;
-    let records = vec![in alloc; Record::Passed(Why::Nothing), put_hi()?]?;
-    let replicas = vec![in alloc; with_row(alloc)?]?;
-    ranged(view, first_range(records, replicas))
+    let key = Key::read(b"a")?;
+    let range = one_range(alloc)?;
+    let view = ranged(empty(alloc), range)?;
+    both_answered(view, key)
+}
+
+/// The text of a view and its summary behind it.
+fn write_both(view: &View, out: &mut Text) -> Result<(), NoMemory>
+    requires { IsShownView view.now }
+{
+    write_text(view, out)?;
+    write_summary(view, out)
 }
 
 const ONE_TEXT: &str = "\
@@ -145,9 +174,8 @@ passed 1\nmessages 0\n";
 fn a_text_is_reported_and_summed_up(rt: HostRuntime) -> Result<(), Fail> {
     let view = one_text(rt.alloc())?;
     let mut out = Text::new(rt.alloc());
-    write_text(&view, &mut out)?;
-    write_summary(&view, &mut out)?;
-    assert!(rt; out.as_str() == ONE_TEXT);
+    let written = write_both(&view, &mut out);
+    assert!(rt; written.is_ok() && out.as_str() == ONE_TEXT);
     Ok(())
 }
 
@@ -180,15 +208,22 @@ fn ends_are_spelled(rt: HostRuntime) -> Result<(), Fail> {
     Ok(())
 }
 
+/// The line of the range and those of its replicas.
+fn write_range(replicas: &[ReplicaView], out: &mut Text) -> Result<(), NoMemory> {
+    push_range_line(out, &whole(), &first_lease())?;
+    push_replica_lines(out, replicas)
+}
+
+const RANGE_LINES: &str = "range 0 ^ ~ level 0 lease 1 1 40\nnode 1 live term 1 applied 2 lai 1\n\
+row a 'hi\nnode 2 removed applied 3\n";
+
 #[test]
 fn lines_of_a_range_are_written(rt: HostRuntime) -> Result<(), Fail> {
+    let live = with_row(rt.alloc())?;
+    let replicas = vec![in rt.alloc(); live, ReplicaView::Removed { applied: 3 }]?;
     let mut out = Text::new(rt.alloc());
-    let replicas = vec![in rt.alloc(); with_row(rt.alloc())?, ReplicaView::Removed { applied: 3 }]?;
-    push_range_line(&mut out, &whole(), &first_lease())?;
-    push_replica_lines(&mut out, &replicas)?;
-    let text = "range 0 ^ ~ level 0 lease 1 1 40\nnode 1 live term 1 applied 2 lai 1\nrow a 'hi\n\
-node 2 removed applied 3\n";
-    assert!(rt; out.as_str() == text);
+    let written = write_range(&replicas, &mut out);
+    assert!(rt; written.is_ok() && out.as_str() == RANGE_LINES);
     Ok(())
 }
 

@@ -155,26 +155,39 @@ fn scripts_past_a_limit(rt: HostRuntime) -> Result<(), Fail> {
     Ok(())
 }
 
+/// A source whose third call fails leaves the sink as it was.
+fn reading_fails(alloc: Global, source: &mut MemorySource, sink: &mut SoundSink) -> bool {
+    let status = run_call(alloc, source, sink, Form::Text);
+    status == Status::ReadFault && status.code() == 5 && is_held(sink, b"".as_slice())
+}
+
 #[test]
 fn a_source_whose_third_call_fails(rt: HostRuntime) -> Result<(), Fail> {
     let fails = Seq::from_vec([3].to_vec(rt.alloc())?);
-    let mut source = MemorySource::new(bytes(rt.alloc(), ONE_PUT.as_bytes())?, 4, fails);
+    let script = bytes(rt.alloc(), ONE_PUT.as_bytes())?;
     let mut sink = SoundSink::new(rt.alloc(), 64);
     sink.make_room(4096)?;
-    let status = run_call(rt.alloc(), &mut source, &mut sink, Form::Text);
-    assert!(rt; status == Status::ReadFault && status.code() == 5);
-    assert!(rt; is_held(&sink, b"".as_slice()));
+    let mut source = MemorySource::new(script, 4, fails);
+    assert!(rt; reading_fails(rt.alloc(), &mut source, &mut sink));
     Ok(())
+}
+
+/// What a sink of pieces of 40 bytes holds when its second call fails.
+const FORTY: &str = "nodes 1\nreply 1.1 1 ok none\nrange 0 ^ ~ ";
+
+/// A sink whose second call fails holds what the first one wrote.
+fn writing_fails(alloc: Global, source: &mut SoundSource, sink: &mut MemorySink) -> bool {
+    let status = run_call(alloc, source, sink, Form::Text);
+    status == Status::WriteFault && status.code() == 6 && sink.bytes() == FORTY.as_bytes()
 }
 
 #[test]
 fn a_sink_whose_second_call_fails(rt: HostRuntime) -> Result<(), Fail> {
     let fails = Seq::from_vec([2].to_vec(rt.alloc())?);
-    let mut source = SoundSource::new(bytes(rt.alloc(), ONE_PUT.as_bytes())?, 4096);
+    let script = bytes(rt.alloc(), ONE_PUT.as_bytes())?;
     let mut sink = MemorySink::new(rt.alloc(), 40, fails);
     sink.make_room(4096)?;
-    let status = run_call(rt.alloc(), &mut source, &mut sink, Form::Text);
-    assert!(rt; status == Status::WriteFault && status.code() == 6);
-    assert!(rt; sink.bytes() == b"nodes 1\nreply 1.1 1 ok none\nrange 0 ^ ~ ".as_slice());
+    let mut source = SoundSource::new(script, 4096);
+    assert!(rt; writing_fails(rt.alloc(), &mut source, &mut sink));
     Ok(())
 }

@@ -14,4 +14,3 @@ pub mod Outcomes
 pub mod Made
 pub mod Promised
 pub mod Along
-pub mod Fitting

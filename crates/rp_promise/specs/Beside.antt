@@ -13,8 +13,8 @@ use Rattle.rp_events.specs.Worlds.{World}
 use Rattle.rp_seats.specs.Standing.{Bound}
 use Rattle.rp_promise.specs.Records.{AllRecords}
 
--- an attempt that the machine has in a range, and that was not refused: one journal has its admission
--- there, at its node, for its request and under its sequence
+-- an attempt that the machine has in a range, and that was not refused: one journal has its
+-- admission there, at its node, for its request and under its sequence
 abbrev pub AreAdmitted : World → Ranges → Type 0
 AreAdmitted w m = (id : CmdId) (range : ℕ) → IsBorn ((m.range range).attempt id).stage
     → (((m.range range).attempt id).stage ≡ stages.Refused → ⊥)
@@ -22,8 +22,8 @@ AreAdmitted w m = (id : CmdId) (range : ℕ) → IsBorn ((m.range range).attempt
     ((m.range range).attempt id).seq)
     × (under.node ≡ ((m.range range).attempt id).node)
 
--- the machine and Raft's events beside the nodes of a world, with the records that the nodes keep and
--- the admissions that their journals have
+-- the machine and Raft's events beside the nodes of a world, with the records that the nodes keep
+-- and the admissions that their journals have
 pub record StandsWith (lists : OneList AppliedState) (w : World) (m : Ranges)
     (seen : ℕ → List raft.Event) : Type 0 where
   pub bound : Bound lists w m seen

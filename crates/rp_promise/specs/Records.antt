@@ -1,5 +1,5 @@
--- The records that the nodes keep, beside the range machine: what each kept record is, and which entries
--- have one.
+-- The records that the nodes keep, beside the range machine: what each kept record is, and which
+-- entries have one.
 use Rattle.std.specs.Prelude.{◌≡◌, ℕ, ◌+◌, ◌<◌, ◌≤◌, [], ◌∷◌, ◌++◌, length, Contains, Some}
 use Rattle.rp_base.specs.declared.ids.CmdId.{CmdId}
 use Rattle.rp_raftstep.specs.declared.messages.Message.{Message}
@@ -32,8 +32,8 @@ pub record IsRecordAt (h : machine.World) (base to index : ℕ) (kept : Record) 
   pub applied : place < to
   pub is : kept ≡ record_at h place
 
--- what was applied in a seat is the machine's: so many entries, at most those that have a record at some
--- node; the state behind them; and each record that is kept is that of its entry
+-- what was applied in a seat is the machine's: so many entries, at most those that have a record at
+-- some node; the state behind them; and each record that is kept is that of its entry
 pub record HistoryOk (h : machine.World) (base reach : ℕ) (past : History) : Type 0 where
   pub to : ℕ
   pub at : base + to ≡ past.index
@@ -60,8 +60,8 @@ SnapUpTo bound (AppendReply term ok index) = Unit {0}
 SnapUpTo bound (Forward payload) = Unit {0}
 SnapUpTo bound (Snap term index index_term snapshot) = index ≤ bound
 
--- one range: the first `reach` entries of its list have a record at some node, and nothing that a node
--- has applied or that a snapshot shows goes beyond
+-- one range: the first `reach` entries of its list have a record at some node, and nothing that a
+-- node has applied or that a snapshot shows goes beyond
 pub record RecordsOk (w : World) (range : ℕ) (h : machine.World) (reach : ℕ) : Type 0 where
   pub within : reach ≤ length h.log
   pub histories : (node : ℕ) (past : History) → HasApplied w node range past
@@ -90,7 +90,8 @@ pub record KeepsReply (w : World) (node : ℕ) (id : CmdId) (reply : Reply) : Ty
   pub kept : KeepsPlace w node range index
       (record { id = id; request = request; seq = seq; reply = reply })
 
--- all ranges: their records, the entries that opened them, and the places of those that were told Success
+-- all ranges: their records, the entries that opened them, and the places of those that were told
+-- Success
 pub record AllRecords (w : World) (m : Ranges) : Type 0 where
   -- of each range so many entries have a record
   pub reach : ℕ → ℕ

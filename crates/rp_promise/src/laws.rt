@@ -1,14 +1,16 @@
-//! Laws of what stands beside the nodes of a world, and of the promise. No program calls these functions.
+//! Laws of what stands beside the nodes of a world, and of the promise. No program calls these
+//! functions.
 ghost use Rattle.std.specs.Prelude.{◌≡◌, ℕ, ◌≤◌, List};
 ghost use Rattle.rp_request.specs.Applied.{AppliedState};
 ghost use Rattle.rp_raftsafe.specs.World as raft;
 ghost use Rattle.rp_raftsafe.specs.Safety.{OneList};
 ghost use Rattle.rp_rangesafe.specs.Ranges.{Ranges, AreLater};
+ghost use Rattle.rp_events.specs.Journals.{Replays};
 ghost use Rattle.rp_events.specs.Lawful.{IsReached, Lawful};
 ghost use Rattle.rp_events.specs.Promises.{Promise};
 ghost use Rattle.rp_events.specs.Worlds.{World, Scene, first_world, happens};
 ghost use Rattle.rp_seats.specs.Standing.{Bound};
-ghost use Rattle.rp_turns.specs.Fitting.{AreFit};
+ghost use Rattle.rp_journals.specs.Alike.{AllKeepSame};
 ghost use Rattle.rp_promise.specs.Records.{AllRecords};
 ghost use Rattle.rp_promise.specs.Beside.{AreAdmitted, IsPromising};
 
@@ -23,9 +25,9 @@ pub fn the_first_world_keeps_no_record()
 {}
 
 /// A lawful scene keeps the records: each that a node keeps is that of the machine's entry with its
-/// index; each entry that a node has applied, or that a snapshot shows, has a record at some node; an
-/// entry that has one opened each range that a node has; and who was told Success has a place that its
-/// node keeps.
+/// index; each entry that a node has applied, or that a snapshot shows, has a record at some node;
+/// an entry that has one opened each range that a node has; and who was told Success has a place
+/// that its node keeps.
 pub fn each_scene_keeps_the_records()
     ensures { (lists : OneList AppliedState) (w : World) (m : Ranges) (seen : ℕ → List raft.Event)
         → Bound lists w m seen → (x : Scene) → Lawful w x
@@ -33,8 +35,9 @@ pub fn each_scene_keeps_the_records()
         → AreLater m n → AllRecords w m → AllRecords (happens w x) n }
 {}
 
-/// Behind a lawful scene too each attempt that the machine has in a range, and that was not refused, is
-/// one that a journal admitted there: at its node, for its request and under its sequence.
+/// Behind a lawful scene too each attempt that the machine has in a range, and that was not
+/// refused, is one that a journal admitted there: at its node, for its request and under its
+/// sequence.
 pub fn each_scene_admits_what_it_makes()
     ensures { (lists : OneList AppliedState) (w : World) (m : Ranges) (seen : ℕ → List raft.Event)
         → Bound lists w m seen → (x : Scene) → Lawful w x
@@ -43,14 +46,22 @@ pub fn each_scene_admits_what_it_makes()
         → AreAdmitted (happens w x) n }
 {}
 
-/// A reached world keeps the promise where the machine and Raft's events stand beside it, now and later.
+/// A reached world keeps the promise where the machine and Raft's events stand beside it, now and
+/// later.
 pub fn a_world_keeps_the_promise()
     ensures { (lists : OneList AppliedState) (nodes : ℕ) (w : World) (m : Ranges)
         → (seen : ℕ → List raft.Event) → IsPromising lists nodes w m seen → Promise w }
 {}
 
-/// Every reached world keeps the promise, where in each of them what the replicas hold has its widths.
-pub fn the_promise_is_kept_where_all_fits()
-    ensures { (nodes : ℕ) → ((w : World) → IsReached nodes w → AreFit w) → (w : World)
-        → IsReached nodes w → Promise w }
+/// The promise is kept. For every lawful list of events of one to five nodes with up to eight
+/// ranges, whatever is lost, repeated, reordered, split, moved or restarted: each client command
+/// takes effect at most once, under the lease it was proposed with and inside its range; every
+/// replica's table is the fold of a prefix of its range's one applied list; Success is the reply at
+/// that place, Refused means never, Ambiguous comes only where a snapshot passed its lease index,
+/// its replica was removed or its node restarted while pending. So it is for nodes that are what
+/// their journals say, and have kept what those of such a world have kept.
+pub fn the_promise_is_kept()
+    ensures reached { (nodes : ℕ) (w : World) → IsReached nodes w → Promise w }
+    ensures told { (nodes : ℕ) (w : World) (v : World) → IsReached nodes w → Replays v
+        → AllKeepSame w v → Promise v }
 {}

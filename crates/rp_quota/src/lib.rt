@@ -7,8 +7,6 @@ mod faults;
 mod plays;
 mod quota;
 mod rule;
-#[cfg(test)]
-mod tests;
 
 pub use faults::QuotaFault;
 pub use quota::{Closed, Quota, Share};

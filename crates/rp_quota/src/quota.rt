@@ -24,7 +24,7 @@ pub struct Share {
 }
 
 /// What a quota had when it was closed.
-#[derive(Clone, Copy, Debug, PartialEq, Eq)]
+#[derive(Clone, Copy, PartialEq, Eq)]
 pub struct Closed {
     /// The units that were free.
     pub free: u64,

@@ -3,7 +3,7 @@
 use rp_base::NodeId;
 
 /// What a replica is in its term (Raft 2014, section 5.1).
-#[derive(Clone, Copy, Debug, PartialEq, Eq)]
+#[derive(Clone, Copy, PartialEq, Eq)]
 pub enum Role {
     Follower,
     Candidate,
@@ -12,7 +12,7 @@ pub enum Role {
 
 /// The Raft state of a replica but for its log. The tables have a place for each node, that of node
 /// n at n - 1.
-#[derive(Clone, Copy, Debug, PartialEq, Eq)]
+#[derive(Clone, Copy, PartialEq, Eq)]
 pub struct Head {
     /// The node of this replica.
     pub node: NodeId,
@@ -39,7 +39,7 @@ pub struct Head {
 }
 
 /// Which peers an event sends an `Append` or a `Snap` to.
-#[derive(Clone, Copy, Debug, PartialEq, Eq)]
+#[derive(Clone, Copy, PartialEq, Eq)]
 pub enum Due {
     Nobody,
     One(NodeId),

@@ -21,9 +21,9 @@ use Rattle.rp_request.specs.declared.evaluations.Evaluated.{Evaluated}
 use Rattle.rp_pending.specs.declared.proposals.Proposal.{Proposal}
 use Rattle.rp_pending.specs.Proposals.{proposal_of}
 use Rattle.rp_request.specs.Applied.{AppliedState}
-use Rattle.rp_replica.specs.declared.events.ReplicaEvent.TheVariants.{Admit}
-use Rattle.rp_replica.specs.Replicas.{Replica}
-use Rattle.rp_replica.specs.Admissions.{unlatched, guarded, proposal, admitted_by, admitted}
+use Rattle.rp_lone.specs.declared.events.ReplicaEvent.TheVariants.{Admit}
+use Rattle.rp_lone.specs.Replicas.{Replica}
+use Rattle.rp_lone.specs.Admissions.{unlatched, guarded, proposal, admitted_by, admitted}
 use Rattle.rp_rangesafe.specs.Attempts.{Body, Attempt, IsBorn, IsPending, with_attempt}
 use Rattle.rp_rangesafe.specs.Along.{entry}
 use Rattle.rp_rangesafe.specs.World.{World, here, IsEvaluated, MayAdmit, happens}

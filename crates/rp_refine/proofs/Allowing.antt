@@ -4,9 +4,9 @@ use Rattle.rp_base.specs.declared.ids.CmdId.{CmdId}
 use Rattle.rp_request.specs.declared.outcomes.Outcome.TheVariants as outcomes
 use Rattle.rp_pending.specs.declared.proposals.Proposal.{Proposal}
 use Rattle.rp_pending.specs.Proposals.{proposal_of}
-use Rattle.rp_replica.specs.declared.events.ReplicaEvent.{ReplicaEvent}
-use Rattle.rp_replica.specs.declared.events.ReplicaEvent.TheVariants.{Admit, Collect, Flush, Apply, Peek}
-use Rattle.rp_replica.specs.Allows.{Allows, MayFlush}
+use Rattle.rp_lone.specs.declared.events.ReplicaEvent.{ReplicaEvent}
+use Rattle.rp_lone.specs.declared.events.ReplicaEvent.TheVariants.{Admit, Collect, Flush, Apply, Peek}
+use Rattle.rp_lone.specs.Allows.{Allows, MayFlush}
 use Rattle.rp_base.specs.declared.items.Item.{Item}
 use Rattle.rp_refine.specs.Runs.{Run, LawfulEvent}
 use Rattle.rp_refine.specs.Laws.{IsReached}

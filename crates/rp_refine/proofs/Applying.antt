@@ -25,11 +25,11 @@ use Rattle.rp_request.specs.declared.verdicts.Verdict.TheVariants as verdicts
 use Rattle.rp_request.specs.History.{History}
 use Rattle.rp_request.specs.History as history
 use Rattle.rp_request.proofs.Numbers.{records_further}
-use Rattle.rp_replica.specs.declared.events.ReplicaEvent.TheVariants.{Apply}
-use Rattle.rp_replica.specs.declared.plans.Turn.{Turn}
-use Rattle.rp_replica.specs.declared.plans.Turn.TheVariants as turns
-use Rattle.rp_replica.specs.Replicas.{Replica}
-use Rattle.rp_replica.specs.Applications.{is_proposed_under, is_own, is_own_command, turn, told, turned, turn_of, recorded, applied_one, payload_of, next_payload, applied_where, applied}
+use Rattle.rp_lone.specs.declared.events.ReplicaEvent.TheVariants.{Apply}
+use Rattle.rp_lone.specs.declared.plans.Turn.{Turn}
+use Rattle.rp_lone.specs.declared.plans.Turn.TheVariants as turns
+use Rattle.rp_lone.specs.Replicas.{Replica}
+use Rattle.rp_lone.specs.Applications.{is_proposed_under, is_own, is_own_command, turn, told, turned, turn_of, recorded, applied_one, payload_of, next_payload, applied_where, applied}
 use Rattle.rp_rangesafe.specs.Attempts.{Stage, Unborn, Waiting, Proposed, Success, Refused, Overtaken, Removed, Restarted, Attempt, Attempts, IsPending, staged, with_attempt, at_node}
 use Rattle.rp_rangesafe.specs.Along.{entry, state}
 use Rattle.rp_rangesafe.specs.World.{World, here, happens, by_verdict, after_entry, with_node}

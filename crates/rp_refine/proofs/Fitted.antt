@@ -30,17 +30,17 @@ use Rattle.rp_request.specs.Applied.{AppliedState, command_verdict, written, lea
 use Rattle.rp_request.specs.declared.verdicts.Verdict.{Verdict}
 use Rattle.rp_request.specs.declared.verdicts.Verdict.TheVariants.{Took, OldLease, OldIndex, LeaseMoved}
 use Rattle.rp_request.specs.declared.verdicts.Verdict.TheVariants as verdicts
-use Rattle.rp_replica.proofs.Carrying.{read_back}
-use Rattle.rp_replica.specs.declared.events.ReplicaEvent.{ReplicaEvent}
-use Rattle.rp_replica.specs.declared.events.ReplicaEvent.TheVariants.{Admit, Collect, Flush, Apply, Peek}
-use Rattle.rp_replica.specs.declared.plans.Turn.{Turn}
-use Rattle.rp_replica.specs.declared.plans.Turn.TheVariants.{Stays, Ends, WaitsAgain}
-use Rattle.rp_replica.specs.Allows.{MayFlush}
-use Rattle.rp_replica.specs.Replicas.{Replica}
-use Rattle.rp_replica.specs.Admissions.{guarded, admitted_by}
-use Rattle.rp_replica.specs.Applications.{payload_of, next_payload, recorded, turn_of, turned, applied_where}
-use Rattle.rp_replica.specs.Flushes.{assigning, command_of, write_of, payloads_of, entry_of, without_all, proposed_all, flushed}
-use Rattle.rp_replica.specs.Events.{event}
+use Rattle.rp_lone.proofs.Carrying.{read_back}
+use Rattle.rp_lone.specs.declared.events.ReplicaEvent.{ReplicaEvent}
+use Rattle.rp_lone.specs.declared.events.ReplicaEvent.TheVariants.{Admit, Collect, Flush, Apply, Peek}
+use Rattle.rp_lone.specs.declared.plans.Turn.{Turn}
+use Rattle.rp_lone.specs.declared.plans.Turn.TheVariants.{Stays, Ends, WaitsAgain}
+use Rattle.rp_lone.specs.Allows.{MayFlush}
+use Rattle.rp_lone.specs.Replicas.{Replica}
+use Rattle.rp_lone.specs.Admissions.{guarded, admitted_by}
+use Rattle.rp_lone.specs.Applications.{payload_of, next_payload, recorded, turn_of, turned, applied_where}
+use Rattle.rp_lone.specs.Flushes.{assigning, command_of, write_of, payloads_of, entry_of, without_all, proposed_all, flushed}
+use Rattle.rp_lone.specs.Events.{event}
 use Rattle.rp_refine.specs.Runs.{Input, Run, begun, FitsItem, LawfulEvent, AllLawful, next, play}
 use Rattle.rp_refine.proofs.Admitting.{passed}
 use Rattle.rp_refine.proofs.Fitting.{FitsTable, fits_after, fits_evaluated}

@@ -21,10 +21,10 @@ use Rattle.rp_pending.specs.Refreshes.{waiting_of}
 use Rattle.rp_request.specs.Applied.{records_of}
 use Rattle.rp_request.specs.History.{History}
 use Rattle.rp_base.proofs.IdLaws.{same_is, id_cases}
-use Rattle.rp_replica.specs.declared.events.ReplicaEvent.TheVariants as events
-use Rattle.rp_replica.specs.Replicas.{Replica}
-use Rattle.rp_replica.specs.Applications.{payload_of}
-use Rattle.rp_replica.specs.Flushes.{assigning, command_of, write_of, payloads_of, entry_of, freed_all, without_all, proposed_all, refused_with, flushed}
+use Rattle.rp_lone.specs.declared.events.ReplicaEvent.TheVariants as events
+use Rattle.rp_lone.specs.Replicas.{Replica}
+use Rattle.rp_lone.specs.Applications.{payload_of}
+use Rattle.rp_lone.specs.Flushes.{assigning, command_of, write_of, payloads_of, entry_of, freed_all, without_all, proposed_all, refused_with, flushed}
 use Rattle.rp_rangesafe.specs.Attempts.{Body, Stage, Waiting, Proposed, Refused, Attempt, Attempts, IsPending, IsOf, staged, handed_out, with_attempt}
 use Rattle.rp_rangesafe.specs.World.{World, here, Event, Refuse, Commit, Lawful, AllLawful, happens, run}
 use Rattle.rp_rangesafe.specs.World as machine

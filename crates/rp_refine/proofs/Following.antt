@@ -1,9 +1,9 @@
 -- Each run of one replica is shown by ranges that are reached.
 use Rattle.std.proofs.Common.{◌≡◌, ℕ, List, [], ◌∷◌, ◌++◌, refl, sym, ap, subst, ◌∙◌, arith}
 use Rattle.rp_base.specs.declared.items.Item.{Item}
-use Rattle.rp_replica.specs.declared.events.ReplicaEvent.{ReplicaEvent}
-use Rattle.rp_replica.specs.declared.events.ReplicaEvent.TheVariants.{Admit, Collect, Flush, Apply, Peek}
-use Rattle.rp_replica.specs.Events.{event}
+use Rattle.rp_lone.specs.declared.events.ReplicaEvent.{ReplicaEvent}
+use Rattle.rp_lone.specs.declared.events.ReplicaEvent.TheVariants.{Admit, Collect, Flush, Apply, Peek}
+use Rattle.rp_lone.specs.Events.{event}
 use Rattle.rp_rangesafe.specs.Ranges.{Ranges, at_first, AreReached}
 use Rattle.rp_refine.specs.Runs.{Input, Run, begun, left_by, next, LawfulEvent, Lawful, AllLawful, play}
 use Rattle.rp_refine.specs.Laws.{IsReached, IsLater}

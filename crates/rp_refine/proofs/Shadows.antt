@@ -11,7 +11,7 @@ use Rattle.rp_latch.specs.declared.holds.Hold.{Hold}
 use Rattle.rp_pending.specs.declared.proposals.Proposal.{Proposal}
 use Rattle.rp_request.specs.Applied.{records_of}
 use Rattle.rp_request.specs.History.{History}
-use Rattle.rp_replica.specs.Applications.{payload_of}
+use Rattle.rp_lone.specs.Applications.{payload_of}
 use Rattle.rp_base.specs.Ids.{same_id}
 use Rattle.rp_rangesafe.specs.Attempts.{Stage, Unborn, Success, Refused, Attempt, Attempts, IsBorn, IsPending, with_attempt}
 use Rattle.rp_rangesafe.specs.World.{World, here, Event, AllLawful, happens, run}

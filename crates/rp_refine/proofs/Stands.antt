@@ -13,7 +13,7 @@ use Rattle.rp_pending.specs.declared.proposals.Stage as places
 use Rattle.rp_pending.specs.declared.proposals.Stage.TheVariants as stages
 use Rattle.rp_pending.specs.Proposals.{has_id, proposal_of, without, with_changed}
 use Rattle.rp_base.proofs.IdLaws.{same_is, not_same_apart, same_back, same_itself, apart_not_same}
-use Rattle.rp_replica.proofs.Known.{known_without}
+use Rattle.rp_lone.proofs.Known.{known_without}
 use Rattle.rp_rangesafe.specs.Attempts.{Body, Stage, Waiting, Proposed, Attempt, Attempts, IsPending, with_attempt}
 use Rattle.rp_refine.specs.Laws.{hold_of, HaveDistinctIds}
 use Rattle.rp_rangesafe.proofs.Tables.{at_attempt, at_same, at_other}

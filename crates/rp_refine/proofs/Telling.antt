@@ -34,9 +34,9 @@ use Rattle.rp_pending.specs.declared.proposals.Proposal.{Proposal}
 use Rattle.rp_pending.specs.Proposals.{proposal_of}
 use Rattle.rp_request.specs.Applied.{AppliedState, command_verdict, item, after_all, records_of}
 use Rattle.rp_request.specs.Applicable.{Fits, MaySplit}
-use Rattle.rp_replica.specs.Applications.{payload_of}
-use Rattle.rp_replica.specs.Carried.{Carries, AllCarry}
-use Rattle.rp_replica.specs.Allows.{MayApplyNext}
+use Rattle.rp_lone.specs.Applications.{payload_of}
+use Rattle.rp_lone.specs.Carried.{Carries, AllCarry}
+use Rattle.rp_lone.specs.Allows.{MayApplyNext}
 use Rattle.rp_rangesafe.specs.Attempts.{Stage, Unborn, Waiting, Proposed, Success, Refused, Overtaken, Removed, Restarted, Attempt, IsBorn, IsPending, IsEnded, IsUntaken}
 use Rattle.rp_rangesafe.specs.Along.{entry, state, Takes}
 use Rattle.rp_rangesafe.specs.World.{World, IsEvaluated, state_at}

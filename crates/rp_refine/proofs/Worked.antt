@@ -15,9 +15,9 @@ use Rattle.rp_request.specs.declared.requests.Request.TheVariants.{Put}
 use Rattle.rp_request.specs.Fits.{FitsOption, FitsPayload}
 use Rattle.rp_codec.specs.Worked.{key_a}
 use Rattle.rp_request.specs.Applied.{command_verdict}
-use Rattle.rp_replica.proofs.Carrying.{read_back}
-use Rattle.rp_replica.specs.declared.events.ReplicaEvent.TheVariants.{Admit, Collect, Flush, Apply}
-use Rattle.rp_replica.specs.Applications.{next_payload, applied_where}
+use Rattle.rp_lone.proofs.Carrying.{read_back}
+use Rattle.rp_lone.specs.declared.events.ReplicaEvent.TheVariants.{Admit, Collect, Flush, Apply}
+use Rattle.rp_lone.specs.Applications.{next_payload, applied_where}
 use Rattle.rp_request.specs.States.{first_applied}
 use Rattle.rp_refine.specs.Runs.{Input, Run, begun, with_outcome, left_by, AllLawful, next, play}
 

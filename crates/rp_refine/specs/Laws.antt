@@ -16,7 +16,7 @@ use Rattle.rp_request.specs.Evaluations.{Does}
 use Rattle.rp_base.specs.Ids.{same_id}
 use Rattle.rp_pending.specs.declared.proposals.Proposal.{Proposal}
 use Rattle.rp_request.specs.Applied.{AppliedState}
-use Rattle.rp_replica.specs.Applications.{payload_of}
+use Rattle.rp_lone.specs.Applications.{payload_of}
 use Rattle.rp_rangesafe.specs.Along.{entry, state, Takes}
 use Rattle.rp_rangesafe.specs.World.{IsEvaluated}
 use Rattle.rp_rangesafe.specs.Places.{body_of}

@@ -10,14 +10,14 @@ use Rattle.rp_request.specs.declared.outcomes.Outcome.{Outcome}
 use Rattle.rp_request.specs.declared.outcomes.Outcome.TheVariants.{Success, Refused, Ambiguous, Pending}
 use Rattle.rp_request.specs.declared.requests.Request.{Request}
 use Rattle.rp_request.specs.Fits.{FitsId, FitsRequest, FitsAsk}
-use Rattle.rp_replica.specs.declared.events.Ended.{Ended}
-use Rattle.rp_replica.specs.declared.events.EventAnswer.{EventAnswer}
-use Rattle.rp_replica.specs.declared.events.EventAnswer.TheVariants as answers
-use Rattle.rp_replica.specs.declared.events.ReplicaEvent.{ReplicaEvent}
-use Rattle.rp_replica.specs.declared.events.ReplicaEvent.TheVariants.{Admit, Collect, Flush, Apply, Peek}
-use Rattle.rp_replica.specs.Replicas.{Replica, Done, started}
-use Rattle.rp_replica.specs.Allows.{MayFlush}
-use Rattle.rp_replica.specs.Events.{event}
+use Rattle.rp_lone.specs.declared.events.Ended.{Ended}
+use Rattle.rp_lone.specs.declared.events.EventAnswer.{EventAnswer}
+use Rattle.rp_lone.specs.declared.events.EventAnswer.TheVariants as answers
+use Rattle.rp_lone.specs.declared.events.ReplicaEvent.{ReplicaEvent}
+use Rattle.rp_lone.specs.declared.events.ReplicaEvent.TheVariants.{Admit, Collect, Flush, Apply, Peek}
+use Rattle.rp_lone.specs.Replicas.{Replica, Done, started}
+use Rattle.rp_lone.specs.Allows.{MayFlush}
+use Rattle.rp_lone.specs.Events.{event}
 use Rattle.rp_base.specs.Ids.{same_id}
 use Rattle.rp_request.specs.Attempts.{previous}
 use Rattle.rp_request.specs.States.{first_applied}

@@ -20,7 +20,7 @@ use Rattle.rp_replica.specs.Waits.{waiting_in}
 use Rattle.rp_base.proofs.IdLaws.{same_is, same_back, same_itself}
 
 -- the sequence under which a proposal waits, where it does
-abbrev seq_when : Option Proposal → Option ℕ
+abbrev pub seq_when : Option Proposal → Option ℕ
 seq_when o = option_map (λ (w : Waiting). w.seq) (option_and_then waits o)
 
 abbrev waiting : Proposal → Waiting
@@ -54,7 +54,7 @@ when_cond : (c : Bool) (p : Proposal) (o : Option Proposal) → cond c (seq_when
 when_cond true p o = refl
 when_cond false p o = refl
 
-all_waits : (id : CmdId) (ps : List Proposal) → IsDistinct same_id (map (λ (p : Proposal). p.id) ps) → seq_of (waiting_of ps) id ≡ seq_when (proposal_of id ps)
+pub all_waits : (id : CmdId) (ps : List Proposal) → IsDistinct same_id (map (λ (p : Proposal). p.id) ps) → seq_of (waiting_of ps) id ≡ seq_when (proposal_of id ps)
 all_waits id [] d = refl
 all_waits id (p ∷ ps) d =
     wait_more id p (is_proposed p.stage) (same_id id p.id) (waiting_of ps) (seq_when (proposal_of id ps)) (same_back p.id id)

@@ -1,6 +1,12 @@
-pub mod Known
-pub mod Assigning
-pub mod Flushing
-pub mod Carrying
-pub mod Writing
 pub mod Awaiting
+pub mod Handing
+pub mod Lookups
+pub mod Moving
+pub mod Asking
+pub mod Ending
+pub mod Flushing
+pub mod Applying
+pub mod Assigning
+pub mod Refreshing
+pub mod Ticking
+pub mod Reading

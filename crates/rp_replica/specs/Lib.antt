@@ -1,11 +1,7 @@
-pub mod Replicas
-pub mod Admissions
-pub mod Flushes
-pub mod Applications
-pub mod Events
-pub mod Carried
-pub mod Writes
-pub mod Waits
+pub mod Handing
 pub mod Plans
-pub mod Held
-pub mod Allows
+pub mod Rooms
+pub mod Waits
+pub mod Turns
+pub mod Ends
+pub mod Refreshing

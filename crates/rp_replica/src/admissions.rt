@@ -1,22 +1,19 @@
 //! The admission of an attempt: guards, evaluation, latches.
-ghost use Rattle.std.specs.Prelude.{◌≡◌, ◌≤◌, ◌==◌, IfOk, Result};
-ghost use Rattle.rp_request.specs.declared.outcomes.Refusal.{Refusal};
-ghost use Rattle.rp_request.specs.Evaluations.{evaluated};
-ghost use Rattle.rp_eval.specs.Faults.{Gives};
+ghost use Rattle.std.specs.Prelude.{◌≡◌, ◌≤◌, None, IfOk, Result};
 ghost use Rattle.rp_request.specs.declared.evaluations.Evaluated.{Evaluated};
-ghost use Rattle.rp_replica.specs.Replicas.{Replica};
-ghost use Rattle.rp_replica.specs.Admissions.{guarded, admitted, with_proposal, proposal};
-ghost use Rattle.rp_replica.specs.Plans.{Makes, AdmitFits};
+ghost use Rattle.rp_request.specs.declared.outcomes.Refusal.{Refusal};
+ghost use Rattle.rp_eval.specs.Faults.{Gives};
 ghost use Rattle.rp_pending.specs.Proposals.{proposal_of};
+ghost use Rattle.rp_events.specs.Admissions.{admitted, guarded, may_admit, proposal, with_proposal};
+ghost use Rattle.rp_replica.specs.Plans.{AdmitFits, IsPlan};
 
-use crate::events::EventAnswer;
 use crate::plans::ReplicaPlan;
 use crate::replicas::Replica;
 use rp_base::{CmdId, LeaseIndex, LeaseSeq, NoMemory, Tick};
 use rp_eval::{EvalFault, Evaluated, evaluate, in_bounds};
+use rp_events::EventAnswer;
 use rp_pending::{Proposal, Stage};
 use rp_request::{Refusal, Request};
-use std::alloc::Global;
 
 /// An evaluation's answer as what a client is told of it, apart from want of memory.
 fn refusal_apart(
@@ -34,6 +31,7 @@ fn refusal_apart(
     }
 }
 
+/// A proposal as it is admitted.
 fn proposal(id: CmdId, request: Request, evaluated: Evaluated, seq: LeaseSeq) -> Proposal
     ensures { result ≡ proposal id request evaluated seq }
 {
@@ -51,27 +49,24 @@ fn proposal(id: CmdId, request: Request, evaluated: Evaluated, seq: LeaseSeq) ->
 }
 
 impl Replica {
-    /// Whether the node holds the applied lease.
-    fn holds_lease(&self) -> bool
-        ensures { result ≡ (self.now.replica.applied.state.lease.holder == self.now.replica.node) }
+    /// Whether the node holds the applied lease, under a sequence past its last restart.
+    fn may_admit(&self) -> bool
+        ensures { result ≡ may_admit self.now.replica }
     {
-        self.applied.lease().holder == self.node
+        self.holds_lease() && self.barrier < self.source.state.lease().seq
     }
 
     /// What the guards let through: the lease, the bounds, the latches, and then the evaluation.
-    fn guarded(
-        &self,
-        alloc: Global,
-        request: &Request,
-    ) -> Result<Result<Evaluated, Refusal>, NoMemory>
+    fn guarded(&self, request: &Request) -> Result<Result<Evaluated, Refusal>, NoMemory>
         ensures { IfOk result (λ g. g ≡ guarded self.now.replica request.now) }
     {
-        if !self.holds_lease() {
-            let lease = self.applied.lease();
+        let state = &self.source.state;
+        if !self.may_admit() {
+            let lease = state.lease();
             return Ok(Err(Refusal::NotLeaseHolder { lease }));
         }
-        if !in_bounds(self.applied.desc(), request) {
-            let desc = self.applied.desc();
+        if !in_bounds(state.desc(), request) {
+            let desc = state.desc();
             return Ok(Err(Refusal::RangeMismatch { desc }));
         }
         if let Some(held) = self.latches.conflict(request.spans()) {
@@ -80,32 +75,33 @@ impl Replica {
                 held: held.held,
             }));
         }
-        let desc = self.applied.desc();
-        refusal_apart(evaluate(alloc, self.applied.table(), desc, *request))
+        let desc = state.desc();
+        refusal_apart(evaluate(self.source.alloc, state.table(), desc, *request))
     }
 
+    /// An attempt asks to be admitted.
     pub(crate) fn plan_admission(
         &self,
-        alloc: Global,
         id: CmdId,
         request: Request,
     ) -> Result<ReplicaPlan, NoMemory>
         requires { proposal_of id self.now.replica.pending ≡ None }
         ensures { IfOk result
-            (λ p. Makes self.now.replica p (admitted self.now.replica id request)) }
+            (λ p. IsPlan self.now.replica None p (admitted self.now.replica id request)) }
     {
-        let evaluated = match self.guarded(alloc, &request)? {
+        let evaluated = match self.guarded(&request)? {
             Ok(evaluated) => evaluated,
             Err(refusal) => {
                 let answer = EventAnswer::Refused(refusal);
                 return Ok(ReplicaPlan::Answers { answer });
             }
         };
-        let seq = self.applied.lease().seq;
+        let seq = self.source.state.lease().seq;
         let proposal = proposal(id, request, evaluated, seq);
         Ok(ReplicaPlan::Admits { proposal })
     }
 
+    /// The attempt takes its latches and waits. It takes no memory.
     pub(crate) fn admit(&mut self, proposal: Proposal)
         requires fits { AdmitFits self.old.replica proposal }
         requires latches { 1 ≤ self.old.room.latches }
@@ -113,7 +109,7 @@ impl Replica {
         ensures { self.new.replica ≡ with_proposal self.old.replica proposal }
     {
         let spans = proposal.request.spans();
-        self.latches.hold(proposal.id, spans).unwrap();
+        self.latches.hold_clear(proposal.id, spans);
         self.pending.add(proposal);
     }
 }

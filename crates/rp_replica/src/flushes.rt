@@ -1,265 +1,136 @@
-//! The flush: the inbox becomes entries of the log, each command under a lease index.
-ghost use Rattle.std.specs.Prelude.{◌≡◌, ◌≤◌, ◌+◌, ◌<◌, ◌^◌, [], ◌∷◌, ◌++◌, map, filter_map, length, OnOk, IfOk};
-ghost use Rattle.rp_request.specs.declared.commands.Payload.TheVariants as payloads;
-ghost use Rattle.rp_raftlog.specs.LogState.{appended, last_index};
-ghost use Rattle.rp_replica.specs.declared.events.EventAnswer.TheVariants as answers;
-ghost use Rattle.rp_replica.specs.Replicas.{leaves};
-ghost use Rattle.rp_replica.specs.Flushes.{command_of, entry_of, flushed, freed_all, listed, proposed_all, refused_with, without_all, write_of};
-ghost use Rattle.rp_replica.specs.Allows.{MayFlush};
-ghost use Rattle.rp_replica.specs.Plans.{Makes, FlushFits, ArePending, after_flush};
-ghost use Rattle.rp_replica.specs.Carried.{Carries, EachCarries};
-ghost use Rattle.rp_replica.specs.Writes.{WritesFit};
-ghost use Rattle.rp_request.specs.Fits.{FitsPayload};
-ghost use Rattle.std.specs.List.{AllByRecursion};
+//! The flush: the inbox becomes payloads for Raft, each command under a lease index.
+ghost use Rattle.std.specs.Prelude.{◌≡◌, ◌≤◌, ◌+◌, ◌++◌, map, filter_map, IfOk, OnOk, Some};
+ghost use Rattle.rp_raftstep.specs.Step.{quiet};
+ghost use Rattle.rp_base.specs.declared.ids.CmdId.{CmdId};
+ghost use Rattle.rp_events.specs.Flushes.{assigning, flush_moves, flushed};
+ghost use Rattle.rp_events.specs.declared.moves.Move.TheVariants.{HandsOut, GivesUp};
+ghost use Rattle.rp_events.specs.Allows.{MayFlush};
+ghost use Rattle.rp_replica.specs.Handing.{EachReads, asks_spelled, moves_spelled, told_by};
+ghost use Rattle.rp_replica.specs.Plans.{IsPlan};
+ghost use Rattle.rp_replica.specs.Rooms.{IsRoomWithin};
 
-use crate::events::{Effects, Ended, EventAnswer, Outcomes, push_end};
-use crate::plans::{FlushPlan, ReplicaPlan};
+use crate::payloads::{push_asks, push_moves, told};
+use crate::plans::{HandOver, ReplicaPlan};
 use crate::replicas::Replica;
 use crate::waits::assign_inbox;
-use rp_base::{CmdId, FIRST_TERM, Lease, LeaseAsk, LeaseIndex, NoMemory, Tick};
-use rp_codec::encode;
+use rp_base::{CmdId, LeaseAsk, LeaseIndex, NoMemory, Seq, Tick};
+use rp_events::{Move, Outcomes};
 use rp_flush::Assigned;
-use rp_latch::Latches;
-use rp_pending::{Pending, Proposal};
-use rp_raftlog::{Entries, Entry, Log};
-use rp_request::{Command, Outcome, Payload, Refusal};
+use rp_raftstep::{Payloads, RaftEvent};
 use std::alloc::Global;
 
-/// A payload as an entry of the log.
-fn entry(alloc: Global, payload: &Payload) -> Result<Entry, NoMemory>
-    ensures entry { IfOk result (λ e. e ≡ entry_of payload.now) }
-    ensures carries { IfOk result (λ e. Carries e) }
-    ensures fits { OnOk result (FitsPayload payload.now) }
+/// Puts the moves of refused attempts at the end.
+fn push_refused(moves: &mut Vec<Move>, refused: &[CmdId]) -> Result<(), NoMemory>
+    ensures { OnOk result (moves.new.items ≡ moves.old.items ++ map GivesUp refused.now) }
 {
-    let payload = encode(alloc, payload)?;
-    Ok(Entry {
-        term: FIRST_TERM,
-        payload,
-    })
-}
-
-/// A proposal as a command under a lease index. The proposal stays, so its writes are copied.
-fn command(proposal: &Proposal, max: LeaseIndex) -> Result<Command, NoMemory>
-    ensures { IfOk result (λ c. c ≡ command_of proposal.now max) }
-{
-    let batch = proposal.batch.copy()?;
-    Ok(Command {
-        id: proposal.id,
-        request: proposal.request,
-        batch,
-        reply: proposal.reply,
-        seq: proposal.seq,
-        max,
-    })
-}
-
-/// Puts lease asks at the end of the entries.
-fn push_asks(alloc: Global, entries: &mut Entries, asks: &[LeaseAsk]) -> Result<(), NoMemory>
-    requires { EachCarries entries.old }
-    ensures carry { OnOk result (EachCarries entries.new) }
-    ensures entries { OnOk result (entries.new
-        ≡ entries.old ++ map (λ ask. entry_of (payloads.Lease ask)) asks.now) }
-    ensures fits { OnOk result (AllByRecursion FitsPayload (map payloads.Lease asks.now)) }
-{
-    for ask in asks {
-        let entry = entry(alloc, &Payload::Lease(*ask))?;
-        entries.push(entry)?;
-    }
-    Ok(())
-}
-
-/// Puts the command of a proposal at the end of the entries, where it is pending.
-fn push_write(
-    alloc: Global,
-    entries: &mut Entries,
-    pending: &Pending,
-    id: CmdId,
-    max: LeaseIndex,
-) -> Result<(), NoMemory>
-    requires { EachCarries entries.old }
-    ensures carry { OnOk result (EachCarries entries.new) }
-    ensures entries { OnOk result (entries.new
-        ≡ entries.old ++ map entry_of (listed (write_of pending.now.list (id, max)))) }
-    ensures fits { OnOk result
-        (AllByRecursion FitsPayload (listed (write_of pending.now.list (id, max)))) }
-{
-    match pending.find(id) {
-        None => Ok(()),
-        Some(proposal) => {
-            let command = command(proposal, max)?;
-            let entry = entry(alloc, &Payload::Write(command))?;
-            entries.push(entry)
-        }
-    }
-}
-
-/// Puts commands at the end of the entries, each under its lease index.
-fn push_writes(
-    alloc: Global,
-    entries: &mut Entries,
-    pending: &Pending,
-    writes: &[(CmdId, LeaseIndex)],
-) -> Result<(), NoMemory>
-    requires { EachCarries entries.old }
-    ensures carry { OnOk result (EachCarries entries.new) }
-    ensures entries { OnOk result (entries.new
-        ≡ entries.old ++ map entry_of (filter_map (write_of pending.now.list) writes.now)) }
-    ensures fits { OnOk result
-        (AllByRecursion FitsPayload (filter_map (write_of pending.now.list) writes.now)) }
-{
-    for write in writes {
-        push_write(alloc, entries, pending, write.0, write.1)?;
-    }
-    Ok(())
-}
-
-/// The end of a refused attempt: the present lease.
-fn refused_with(lease: &Lease, id: CmdId) -> Ended
-    ensures { result ≡ refused_with lease.now id }
-{
-    let outcome = Outcome::Refused(Refusal::NotLeaseHolder { lease: *lease });
-    Ended { id, outcome }
-}
-
-/// What the refused attempts are told: the present lease.
-fn refusals(alloc: Global, refused: &[CmdId], lease: &Lease) -> Result<Outcomes, NoMemory>
-    ensures { IfOk result (λ o. o ≡ map (refused_with lease.now) refused.now) }
-{
-    let mut ends = Vec::new(alloc);
     for id in refused {
-        let end = refused_with(lease, *id);
-        push_end(&mut ends, &end)?;
+        moves.push(Move::GivesUp(*id))?;
     }
-    Ok(Outcomes::from_vec(ends))
+    Ok(())
 }
 
-/// The entries of a flush: lease asks first, then commands.
-fn entries_of(
-    alloc: Global,
-    pending: &Pending,
-    leases: &[LeaseAsk],
-    writes: &[(CmdId, LeaseIndex)],
-) -> Result<Entries, NoMemory>
-    ensures carry { IfOk result (λ e. EachCarries e) }
-    ensures entries { IfOk result (λ e. e
-        ≡ map (λ ask. entry_of (payloads.Lease ask)) leases.now
-        ++ map entry_of (filter_map (write_of pending.now.list) writes.now)) }
-    ensures asks { OnOk result (AllByRecursion FitsPayload (map payloads.Lease leases.now)) }
-    ensures commands { OnOk result
-        (AllByRecursion FitsPayload (filter_map (write_of pending.now.list) writes.now)) }
-{
-    let mut entries = Entries::new(alloc);
-    push_asks(alloc, &mut entries, leases)?;
-    push_writes(alloc, &mut entries, pending, writes)?;
-    Ok(entries)
-}
-
-/// Puts entries behind the log.
-fn append_all(log: &mut Log, entries: Entries)
-    requires room { length entries ≤ log.old.spare }
-    requires index { last_index log.old.log + length entries < 2 ^ 64 }
-    ensures { log.new.log ≡ appended log.old.log entries }
-{
-    for entry in entries.into_vec() {
-        log.append(entry);
-    }
-}
-
-/// Frees the latches of attempts.
-fn free_all(latches: &mut Latches, ids: &[CmdId])
-    ensures { latches.new.list ≡ freed_all ids.now latches.old.list }
-{
-    for id in ids {
-        latches.free(*id);
-    }
-}
-
-/// Ends attempts.
-fn finish_all(pending: &mut Pending, ids: &[CmdId])
-    ensures { pending.new.list ≡ without_all ids.now pending.old.list }
-{
-    for id in ids {
-        pending.finish(*id);
-    }
-}
-
-/// Proposes commands, each under its lease index.
-fn propose_all(pending: &mut Pending, writes: &[(CmdId, LeaseIndex)], now: Tick, round: u64)
-    requires { ArePending writes.now pending.old.list }
-    ensures { pending.new.list ≡ proposed_all writes.now now round pending.old.list }
+/// Puts the moves of attempts that get a lease index at the end.
+fn push_writes(moves: &mut Vec<Move>, writes: &[(CmdId, LeaseIndex)]) -> Result<(), NoMemory>
+    ensures { OnOk result (moves.new.items
+        ≡ moves.old.items ++ map (λ write. HandsOut write.0 write.1) writes.now) }
 {
     for write in writes {
-        pending.propose(write.0, write.1, now, round);
+        moves.push(Move::HandsOut {
+            id: write.0,
+            max: write.1,
+        })?;
     }
+    Ok(())
+}
+
+/// The moves of a flush: an attempt that was evaluated under another sequence is refused, and each
+/// other one gets its index.
+fn moves_of(alloc: Global, assigned: &Assigned) -> Result<Seq<Move>, NoMemory>
+    ensures { IfOk result (λ m. m ≡ flush_moves assigned.now) }
+{
+    let mut moves = Vec::new(alloc);
+    push_refused(&mut moves, assigned.refused.as_slice())?;
+    push_writes(&mut moves, assigned.writes.as_slice())?;
+    Ok(Seq::from_vec(moves))
+}
+
+/// What a flush will do, but for Raft.
+#[derive(Drop)]
+struct FlushDraft {
+    moves: Seq<Move>,
+    bytes: Payloads,
+    outcomes: Outcomes,
+    last: LeaseIndex,
 }
 
 impl Replica {
-    pub(crate) fn plan_flush(
-        &self,
-        alloc: Global,
-        now: Tick,
-        round: u64,
-    ) -> Result<ReplicaPlan, NoMemory>
+    /// What a flush will do, but for Raft.
+    fn draft_flush(&self) -> Result<FlushDraft, NoMemory>
         requires { MayFlush self.now.replica }
-        ensures plan { IfOk result
-            (λ p. Makes self.now.replica p (flushed self.now.replica now round)) }
-        ensures fits { OnOk result (WritesFit self.now.replica) }
+        ensures moves { IfOk result
+            (λ d. d.moves ≡ flush_moves (assigning self.now.replica)) }
+        ensures bytes { IfOk result (λ d. d.bytes
+            ≡ asks_spelled (assigning self.now.replica).leases
+            ++ moves_spelled self.now.replica.pending d.moves) }
+        ensures read { IfOk result (λ d. EachReads d.bytes) }
+        ensures outcomes { IfOk result (λ d. d.outcomes
+            ≡ filter_map (told_by self.now.replica.applied.state.lease) d.moves) }
+        ensures last { IfOk result (λ d. d.last ≡ (assigning self.now.replica).last) }
     {
-        let lai = self.applied.lai();
+        let alloc = self.source.alloc;
+        let lai = self.source.state.lai();
         let assigned = assign_inbox(
             alloc,
             &self.inbox,
             &self.pending,
-            self.applied.lease(),
+            self.source.state.lease(),
             lai,
             self.assigned,
         )?;
-        let Assigned {
-            leases,
-            writes,
-            refused,
-            last,
-        } = assigned;
-        let entries = entries_of(alloc, &self.pending, leases.as_slice(), writes.as_slice())?;
-        let lease = self.applied.lease();
-        let outcomes = refusals(alloc, refused.as_slice(), &lease)?;
-        Ok(ReplicaPlan::Flushes {
-            flush: FlushPlan {
-                entries,
-                writes,
-                refused,
-                last,
-                now,
-                round,
-                outcomes,
-            },
+        let moves = moves_of(alloc, &assigned)?;
+        let mut bytes = Payloads::new(alloc);
+        push_asks(alloc, &mut bytes, assigned.leases.as_slice())?;
+        push_moves(alloc, &mut bytes, &self.pending, moves.as_slice())?;
+        let lease = self.source.state.lease();
+        let outcomes = told(alloc, &lease, moves.as_slice())?;
+        Ok(FlushDraft {
+            moves,
+            bytes,
+            outcomes,
+            last: assigned.last,
         })
     }
 
-    pub(crate) fn flush(&mut self, flush: FlushPlan) -> Effects
-        requires fits { FlushFits self.old.replica flush }
-        requires room { length flush.entries ≤ self.old.room.log }
-        ensures { leaves self.new.replica result.answer result.outcomes
-            ≡ leaves (after_flush self.old.replica flush) answers.Done flush.outcomes }
+    /// The inbox goes to Raft: lease asks first, then commands, each with a lease index.
+    pub(crate) fn plan_flush(&mut self, ticks: Tick, round: u64) -> Result<ReplicaPlan, NoMemory>
+        requires { MayFlush self.old.replica }
+        ensures replica { self.new.replica ≡ self.old.replica }
+        ensures room { IsRoomWithin self.old.room self.new.room }
+        ensures plan { IfOk result (λ p. IsPlan self.old.replica
+            (Some (quiet self.old.replica.raft)) p (flushed self.old.replica ticks round)) }
+        ensures read { OnOk result (EachReads (flushed self.old.replica ticks round).proposed) }
     {
-        let FlushPlan {
-            entries,
-            writes,
-            refused,
+        // An id is looked up, so none may stand twice.
+        self.pending.ids_are_distinct();
+        let draft = self.draft_flush()?;
+        let FlushDraft {
+            moves,
+            bytes,
+            outcomes,
             last,
-            now,
-            round,
-            outcomes,
-        } = flush;
-        append_all(&mut self.log, entries);
-        free_all(&mut self.latches, refused.as_slice());
-        finish_all(&mut self.pending, refused.as_slice());
-        propose_all(&mut self.pending, writes.as_slice(), now, round);
-        self.assigned = last;
-        self.inbox.keep_front(0);
-        Effects {
-            answer: EventAnswer::Done,
-            outcomes,
-        }
+        } = draft;
+        let propose = RaftEvent::Propose { payloads: bytes };
+        let raft = self.raft.plan(propose, &self.source)?;
+        Ok(ReplicaPlan::HandsOver {
+            hand: HandOver {
+                raft,
+                moves,
+                ticks,
+                round,
+                last: Some(last),
+                back: 0,
+                outcomes,
+            },
+        })
     }
 }

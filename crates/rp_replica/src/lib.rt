@@ -4,13 +4,20 @@
 
 mod admissions;
 mod applications;
-mod events;
+mod asks;
+mod ends;
 mod flushes;
-pub mod laws;
+mod messages;
+mod moves;
+mod payloads;
 mod plans;
+mod refreshes;
 mod replicas;
+mod snapshots;
+mod sources;
+mod steps;
 mod waits;
 
-pub use events::{Effects, Ended, EventAnswer, Outcomes, ReplicaEvent};
-pub use plans::{Application, FlushPlan, ReplicaPlan, Turn};
+pub use messages::copy_message;
+pub use plans::{Application, HandOver, ReplicaPlan, Turn};
 pub use replicas::Replica;

@@ -1,39 +1,37 @@
-//! A replica and its calls: plan, make room, commit.
-ghost use Rattle.std.specs.Prelude.{◌≡◌, [], OnOk, IfOk};
-ghost use Rattle.rp_replica.specs.Replicas.{Done, committed, leaves, started};
-ghost use Rattle.rp_replica.specs.Events.{event, peeked};
-ghost use Rattle.rp_replica.specs.Plans.{IsCollect, Makes, PlanFits, HasRoom, IsRoomWithin, planned};
-ghost use Rattle.rp_replica.specs.declared.events.ReplicaEvent.TheVariants.{Collect, Flush};
-ghost use Rattle.rp_replica.specs.Allows.{Allows};
-ghost use Rattle.rp_replica.specs.Writes.{WritesFit};
+//! A replica: how it begins, and what it shows.
+ghost use Rattle.std.specs.Prelude.{◌≡◌, ◌+◌, ◌<◌, ◌≤◌, ◌^◌};
+ghost use Rattle.rp_pending.specs.Refreshes.{first_round};
+ghost use Rattle.rp_events.specs.Replicas.{fresh, made_by_snap, started};
 
-use crate::events::{Effects, EventAnswer, Outcomes, ReplicaEvent};
-use crate::plans::ReplicaPlan;
+use crate::sources::Source;
 use rp_apply::ApplyState;
-use rp_base::{Desc, Items, Key, Lease, LeaseIndex, NoMemory, NodeId, Tick};
+use rp_base::{Item, Items, LeaseAsk, LeaseIndex, LeaseSeq, NodeId};
 use rp_latch::Latches;
 use rp_pending::Pending;
-use rp_raftlog::Log;
-use rp_table::Table;
+use rp_raft::Raft;
+use rp_snapshot::Snapshot;
+use rp_split::RightStart;
 use std::alloc::Global;
 use std::marker::Model;
 
-/// One replica of a range, at a node. Contracts see what it holds, and apart from it the room.
+/// One replica of a range, at a node. Contracts see what it is, and apart from it the room.
 #[derive(Drop)]
 pub struct Replica {
-    pub(crate) node: NodeId,
-    pub(crate) log: Log,
-    pub(crate) applied: ApplyState,
+    pub(crate) raft: Raft<Snapshot>,
+    pub(crate) source: Source,
     pub(crate) latches: Latches,
     pub(crate) pending: Pending,
     pub(crate) assigned: LeaseIndex,
     pub(crate) inbox: Items,
+    pub(crate) asks: Vec<LeaseAsk>,
+    pub(crate) barrier: LeaseSeq,
 }
 
 impl Model for Replica {
+    ghost use Rattle.std.specs.Prelude.{◌-◌, vec_len, vec_capacity};
     ghost use Rattle.std.specs.Coded.{codes};
     ghost use Rattle.rp_base.specs.Tables.{table_code};
-    ghost use Rattle.rp_replica.specs.Held.{Held};
+    ghost use Rattle.rp_replica.specs.Rooms.{Held};
 
     ghost Value = { Held };
 
@@ -41,46 +39,100 @@ impl Model for Replica {
 
     ghost view = { λ r. record {
       replica = record {
-        node = r.node;
-        log = r.log.log;
-        applied = r.applied.history;
+        raft = r.raft.raft;
+        applied = r.source.state.history;
         latches = r.latches.list;
         pending = r.pending.list;
         assigned = r.assigned;
         inbox = r.inbox.list;
+        asks = r.asks.items;
+        barrier = r.barrier;
       };
       room = record {
-        log = r.log.spare;
-        applied = r.applied.room;
+        log = r.raft.spare;
+        applied = r.source.state.room;
         latches = r.latches.spare;
         pending = r.pending.spare;
         inbox = r.inbox.spare;
+        asks = vec_capacity r.asks - vec_len r.asks;
       };
     } };
 }
 
+/// A replica that has proposed nothing yet.
+fn fresh(alloc: Global, raft: Raft<Snapshot>, state: ApplyState) -> Replica
+    ensures { result.replica ≡ fresh raft.raft state.history }
+{
+    Replica {
+        raft,
+        source: Source { state, alloc },
+        latches: Latches::new(alloc),
+        pending: Pending::new(alloc),
+        assigned: LeaseIndex::new(0),
+        inbox: Items::new(alloc),
+        asks: Vec::new(alloc),
+        barrier: LeaseSeq::new(0),
+    }
+}
+
 impl Replica {
-    /// A replica that begins in this state, at this index of its log. It takes no memory.
+    /// A replica of a range that starts so, behind this index and term of its log, with this leader.
+    /// It takes no memory.
     pub fn start(
         alloc: Global,
         node: NodeId,
-        desc: Desc,
-        lease: Lease,
-        table: Table,
+        nodes: u8,
+        start: RightStart,
+        leader: NodeId,
         base: (u64, u64),
     ) -> Replica
-        ensures { result.replica ≡ started node
-            (record { desc = desc; lease = lease; lai = 0; table = table.map }) base.0 base.1 }
+        requires nodes { nodes ≤ 5 }
+        requires index { base.0 + 1 < 2 ^ 64 }
+        ensures { result.replica ≡ started node nodes leader base.0 base.1 start }
     {
-        let (index, term) = base;
+        let (desc, lease, table) = start.into_parts();
+        let raft = Raft::start(alloc, node, nodes, leader, base);
+        let lai = LeaseIndex::new(0);
+        let state = ApplyState::start(alloc, desc, lease, lai, table, base.0);
+        fresh(alloc, raft, state)
+    }
+
+    /// A replica that a leader's snapshot makes, at the index and term of its message. It takes no
+    /// memory.
+    pub fn from_snap(
+        alloc: Global,
+        node: NodeId,
+        nodes: u8,
+        term: u64,
+        from: NodeId,
+        base: (u64, u64),
+        snapshot: Snapshot,
+    ) -> Replica
+        requires nodes { nodes ≤ 5 }
+        requires index { base.0 + 1 < 2 ^ 64 }
+        ensures { result.replica ≡ made_by_snap node nodes term from base.0 base.1 snapshot }
+    {
+        let (desc, lease, lai, table) = snapshot.into_parts();
+        let raft = Raft::from_snap(alloc, node, nodes, term, from, base);
+        let state = ApplyState::start(alloc, desc, lease, lai, table, base.0);
+        fresh(alloc, raft, state)
+    }
+
+    /// A replica made of what was kept, as after a restart: it stands at the node of its Raft, and
+    /// nothing is pending. It takes no memory.
+    pub fn revived(
+        alloc: Global,
+        barrier: LeaseSeq,
+        raft: Raft<Snapshot>,
+        applied: ApplyState,
+    ) -> Replica
+        requires { raft.raft.head.commit ≡ applied.history.index }
+        ensures { result.replica
+            ≡ record (fresh raft.raft applied.history) { barrier = barrier } }
+    {
         Replica {
-            node,
-            log: Log::at(alloc, index, term),
-            applied: ApplyState::start(alloc, desc, lease, LeaseIndex::new(0), table, index),
-            latches: Latches::new(alloc),
-            pending: Pending::new(alloc),
-            assigned: LeaseIndex::new(0),
-            inbox: Items::new(alloc),
+            barrier,
+            ..fresh(alloc, raft, applied)
         }
     }
 
@@ -88,14 +140,66 @@ impl Replica {
     pub fn applied(&self) -> &ApplyState
         ensures { result.now.history ≡ self.now.replica.applied }
     {
-        &self.applied
+        &self.source.state
     }
 
-    /// The index up to which its log is committed.
-    pub fn commit_index(&self) -> u64
-        ensures { result ≡ committed self.now.replica }
+    /// What it has applied, as its tombstone keeps it.
+    pub fn into_applied(self) -> ApplyState
+        ensures { result.history ≡ self.replica.applied }
     {
-        self.log.last().0
+        let Replica { source, .. } = self;
+        let Source { state, .. } = source;
+        state
+    }
+
+    /// The term of its Raft.
+    pub fn term(&self) -> u64
+        ensures { result ≡ self.now.replica.raft.head.term }
+    {
+        self.raft.term()
+    }
+
+    /// The greatest index that is known to be committed: an entry waits to be applied exactly where
+    /// it is above the applied index.
+    pub fn commit_index(&self) -> u64
+        ensures { result ≡ self.now.replica.raft.head.commit }
+    {
+        self.raft.commit_index()
+    }
+
+    /// The least round at which a pending proposal was flushed first, `None` where none was flushed.
+    pub fn first_round(&self) -> Option<u64>
+        ensures { result ≡ first_round self.now.replica.pending }
+    {
+        self.pending.first_round()
+    }
+
+    /// Its part in Raft.
+    pub fn raft(&self) -> &Raft<Snapshot>
+        ensures { result.now.raft ≡ self.now.replica.raft }
+    {
+        &self.raft
+    }
+
+    /// The lease sequence at its last restart, 0 before: under it no attempt is admitted.
+    pub fn barrier(&self) -> LeaseSeq
+        ensures { result ≡ self.now.replica.barrier }
+    {
+        self.barrier
+    }
+
+    /// The last lease index that it gave, 0 before the first.
+    pub fn assigned(&self) -> LeaseIndex
+        ensures { result ≡ self.now.replica.assigned }
+    {
+        self.assigned
+    }
+
+    /// What its buffer gave and no flush has taken, in order.
+    pub fn inbox(&self) -> &[Item]
+        ensures { result.now ≡ self.now.replica.inbox }
+    {
+        self.inbox.as_slice()
     }
 
     /// The attempts that have not ended, in order of admission.
@@ -103,119 +207,5 @@ impl Replica {
         ensures { result.now.list ≡ self.now.replica.pending }
     {
         &self.pending
-    }
-
-    /// What an event will do at a tick and in a round of the node. It leaves all that contracts
-    /// see, room aside; a collect is planned without its items.
-    pub fn plan(
-        &mut self,
-        alloc: Global,
-        happens: ReplicaEvent,
-        now: Tick,
-        round: u64,
-    ) -> Result<ReplicaPlan, NoMemory>
-        requires { Allows self.old.replica happens }
-        ensures replica { self.new.replica ≡ self.old.replica }
-        ensures room { IsRoomWithin self.old.room self.new.room }
-        ensures plan { IfOk result
-            (λ p. Makes self.new.replica p (event self.new.replica happens now round [])) }
-        ensures collect { happens ≡ Collect → IfOk result (λ p. IsCollect p) }
-        ensures fits { happens ≡ Flush → OnOk result (WritesFit self.new.replica) }
-    {
-        self.draft(alloc, happens, now, round)
-    }
-
-    fn draft(
-        &self,
-        alloc: Global,
-        happens: ReplicaEvent,
-        now: Tick,
-        round: u64,
-    ) -> Result<ReplicaPlan, NoMemory>
-        requires { Allows self.now.replica happens }
-        ensures plan { IfOk result
-            (λ p. Makes self.now.replica p (event self.now.replica happens now round [])) }
-        ensures collect { happens ≡ Collect → IfOk result (λ p. IsCollect p) }
-        ensures fits { happens ≡ Flush → OnOk result (WritesFit self.now.replica) }
-    {
-        match happens {
-            ReplicaEvent::Admit { id, request } => self.plan_admission(alloc, id, request),
-            ReplicaEvent::Collect => Ok(ReplicaPlan::Collects {
-                taken: Items::new(alloc),
-            }),
-            ReplicaEvent::Flush => self.plan_flush(alloc, now, round),
-            ReplicaEvent::Apply => self.plan_application(alloc),
-            ReplicaEvent::Peek { key } => Ok(ReplicaPlan::Answers {
-                answer: self.peek(key),
-            }),
-        }
-    }
-
-    /// The applied value of a key, and the applied index.
-    fn peek(&self, key: Key) -> EventAnswer
-        ensures { result ≡ (peeked self.now.replica key).answer }
-    {
-        EventAnswer::Value {
-            value: self.applied.table().get(key),
-            applied: self.applied.index(),
-        }
-    }
-
-    /// Makes the room that a plan needs: at a collect, for 16 items. It leaves all that contracts
-    /// see, room aside.
-    pub fn make_room(&mut self, plan: &ReplicaPlan) -> Result<(), NoMemory>
-        requires { PlanFits self.old.replica plan.now }
-        ensures replica { self.new.replica ≡ self.old.replica }
-        ensures kept { IsRoomWithin self.old.room self.new.room }
-        ensures room { OnOk result (HasRoom self.new.room plan.now) }
-    {
-        match plan {
-            ReplicaPlan::Answers { .. } => Ok(()),
-            ReplicaPlan::Admits { .. } => {
-                self.latches.make_room(1)?;
-                self.pending.make_room(1)
-            }
-            ReplicaPlan::Collects { .. } => self.inbox.make_room(16),
-            ReplicaPlan::Flushes { flush } => self.log.make_room(flush.entries.len()),
-            ReplicaPlan::Applies { application } => {
-                self.applied.plan_one(&application.payload)?;
-                self.inbox.make_room(1)
-            }
-        }
-    }
-
-    /// Does what was planned in this state, once `make_room` has answered Ok for it. It takes no
-    /// memory.
-    pub fn commit(&mut self, alloc: Global, plan: ReplicaPlan) -> Effects
-        requires fits { PlanFits self.old.replica plan }
-        requires room { HasRoom self.old.room plan }
-        ensures done { leaves self.new.replica result.answer result.outcomes
-            ≡ planned self.old.replica plan }
-        ensures made { (d : Done) → Makes self.old.replica plan d
-            → leaves self.new.replica result.answer result.outcomes ≡ d }
-    {
-        let none = Outcomes::new(alloc);
-        match plan {
-            ReplicaPlan::Answers { answer } => Effects {
-                answer,
-                outcomes: none,
-            },
-            ReplicaPlan::Admits { proposal } => {
-                self.admit(proposal);
-                Effects {
-                    answer: EventAnswer::Admitted,
-                    outcomes: none,
-                }
-            }
-            ReplicaPlan::Collects { taken } => {
-                self.inbox.append_slice(taken.as_slice());
-                Effects {
-                    answer: EventAnswer::Done,
-                    outcomes: none,
-                }
-            }
-            ReplicaPlan::Flushes { flush } => self.flush(flush),
-            ReplicaPlan::Applies { application } => self.apply(application),
-        }
     }
 }

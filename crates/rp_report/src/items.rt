@@ -1,5 +1,7 @@
 //! The words of requests, replies, applied items and records.
-ghost use Rattle.std.specs.Prelude.{◌≡◌, ◌++◌, OnOk, OnErr};
+ghost use Rattle.std.specs.Prelude.{◌≡◌, ◌++◌, OnOk, OnErr, codes};
+ghost use Rattle.rp_base.specs.Keys.{key_text};
+ghost use Rattle.rp_report.specs.Words.{spaced};
 ghost use Rattle.rp_report.specs.Items.{span_end_text, request_text, reply_text, did_text, item_text, why_text, record_line};
 
 use crate::words::{
@@ -19,47 +21,44 @@ fn push_span_end(out: &mut Text, end: Option<Key>) -> Result<(), NoMemory>
     }
 }
 
+/// A word, which ends in a space, and a key.
+fn push_word_key(out: &mut Text, word: &str, key: Key) -> Result<(), NoMemory>
+    ensures { OnOk result (out.new ≡ out.old ++ word.now ++ key_text key) }
+{
+    push_word(out, word)?;
+    push_key(out, key)
+}
+
 /// A request, as a script spells it.
 fn spell_request(out: &mut Text, request: &Request) -> Result<(), NoMemory>
     ensures { OnOk result (out.new ≡ out.old ++ request_text request.now) }
 {
     match request {
         Request::Put { key, value } => {
-            push_word(out, "put ")?;
-            push_key(out, *key)?;
+            push_word_key(out, "put ", *key)?;
             push_spaced_value(out, value)
         }
         Request::Add { key, by } => {
-            push_word(out, "add ")?;
-            push_key(out, *key)?;
+            push_word_key(out, "add ", *key)?;
             push_spaced(out, *by)
         }
         Request::CPut { key, expect, value } => {
-            push_word(out, "cput ")?;
-            push_key(out, *key)?;
+            push_word_key(out, "cput ", *key)?;
             push_word(out, " ")?;
             push_value_or_none(out, expect)?;
             push_spaced_value(out, value)
         }
-        Request::Del { key } => {
-            push_word(out, "del ")?;
-            push_key(out, *key)
-        }
+        Request::Del { key } => push_word_key(out, "del ", *key),
         Request::Wipe { span } => {
-            push_word(out, "wipe ")?;
-            push_key(out, span.start)?;
+            push_word_key(out, "wipe ", span.start)?;
             push_span_end(out, span.end)
         }
         Request::Move { from, to, by } => {
-            push_word(out, "move ")?;
-            push_key(out, *from)?;
+            push_word_key(out, "move ", *from)?;
             push_spaced_key(out, *to)?;
             push_spaced(out, *by)
         }
-        Request::Split { key } => {
-            push_word(out, "split ")?;
-            push_key(out, *key)
-        }
+        Request::Split { key } => push_word_key(out, "split ", *key),
     }
 }
 
@@ -88,6 +87,22 @@ fn push_did(out: &mut Text, id: CmdId, request: &Request) -> Result<(), NoMemory
     spell_request(out, request)
 }
 
+/// Under which lease.
+fn push_under(out: &mut Text, seq: u64) -> Result<(), NoMemory>
+    ensures { OnOk result (out.new ≡ out.old ++ codes " under" ++ spaced seq) }
+{
+    push_word(out, " under")?;
+    push_spaced(out, seq)
+}
+
+/// The number of the right range.
+fn push_right(out: &mut Text, right: u64) -> Result<(), NoMemory>
+    ensures { OnOk result (out.new ≡ out.old ++ codes " right" ++ spaced right) }
+{
+    push_word(out, " right")?;
+    push_spaced(out, right)
+}
+
 /// An applied item.
 pub fn push_item(out: &mut Text, item: &Place) -> Result<(), NoMemory>
     ensures { OnOk result (out.new ≡ out.old ++ item_text item.now) }
@@ -101,8 +116,7 @@ pub fn push_item(out: &mut Text, item: &Place) -> Result<(), NoMemory>
         } => {
             push_word(out, "write ")?;
             push_did(out, *id, request)?;
-            push_word(out, " under")?;
-            push_spaced(out, seq.get())?;
+            push_under(out, seq.get())?;
             push_word(out, " ok ")?;
             spell_reply(out, reply)
         }
@@ -115,10 +129,8 @@ pub fn push_item(out: &mut Text, item: &Place) -> Result<(), NoMemory>
             push_word(out, "split ")?;
             push_attempt(out, *id)?;
             push_spaced_key(out, *key)?;
-            push_word(out, " right")?;
-            push_spaced(out, u64::from(right.get()))?;
-            push_word(out, " under")?;
-            push_spaced(out, seq.get())
+            push_right(out, u64::from(right.get()))?;
+            push_under(out, seq.get())
         }
         Place::Lease(lease) => {
             push_word(out, "lease ")?;

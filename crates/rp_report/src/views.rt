@@ -3,7 +3,7 @@ use rp_base::{Desc, Key, Lease, LeaseIndex, Seq, Value};
 use rp_request::{Notes, Record, Replies};
 
 /// A key that has a value.
-#[derive(Clone, Copy, Debug, PartialEq, Eq)]
+#[derive(Clone, Copy, PartialEq, Eq)]
 pub struct Row {
     pub key: Key,
     pub value: Value,

@@ -9,7 +9,7 @@ use std::alloc::Global;
 use std::marker::Model;
 
 /// One write to a table.
-#[derive(Clone, Copy, Debug, PartialEq, Eq)]
+#[derive(Clone, Copy, PartialEq, Eq)]
 pub enum Op {
     /// The key gets the value.
     Set { key: Key, value: Value },
@@ -110,7 +110,7 @@ pub enum Payload {
 }
 
 /// A command that waits for a lease index, and the lease sequence under which it was evaluated.
-#[derive(Clone, Copy, Debug, PartialEq, Eq)]
+#[derive(Clone, Copy, PartialEq, Eq)]
 pub struct Waiting {
     pub id: CmdId,
     pub seq: LeaseSeq,

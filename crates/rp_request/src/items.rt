@@ -4,7 +4,7 @@ use crate::requests::Request;
 use rp_base::{CmdId, Key, Lease, LeaseSeq, RangeId};
 
 /// What one entry of a range's log did where it was applied.
-#[derive(Clone, Copy, Debug, PartialEq, Eq)]
+#[derive(Clone, Copy, PartialEq, Eq)]
 pub enum Place {
     /// A request took effect, under this lease sequence, with this reply.
     Write {
@@ -26,7 +26,7 @@ pub enum Place {
 
 /// Why an entry of a range's log did nothing (after CockroachDB's checks at application: the lease
 /// sequence, then the lease applied index).
-#[derive(Clone, Copy, Debug, PartialEq, Eq)]
+#[derive(Clone, Copy, PartialEq, Eq)]
 pub enum Why {
     /// It carries nothing.
     Nothing,
@@ -39,7 +39,7 @@ pub enum Why {
 }
 
 /// What a replica keeps of an entry that it applied.
-#[derive(Clone, Copy, Debug, PartialEq, Eq)]
+#[derive(Clone, Copy, PartialEq, Eq)]
 pub enum Record {
     Took(Place),
     Passed(Why),

@@ -14,7 +14,7 @@ pub struct Note {
 pub type Notes = Seq<Note>;
 
 /// How an attempt of a client's command ended.
-#[derive(Clone, Copy, Debug, PartialEq, Eq)]
+#[derive(Clone, Copy, PartialEq, Eq)]
 pub struct ReplyLine {
     pub client: u16,
     pub seq: u32,

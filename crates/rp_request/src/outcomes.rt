@@ -2,7 +2,7 @@
 use rp_base::{CmdId, Desc, Key, Lease, LeaseIndex, RangeId, Span, Value};
 
 /// The answer to a request that took effect.
-#[derive(Clone, Copy, Debug, PartialEq, Eq)]
+#[derive(Clone, Copy, PartialEq, Eq)]
 pub enum Reply {
     /// The value that the key had, `None` for no value.
     Old(Option<Value>),
@@ -17,7 +17,7 @@ pub enum Reply {
 }
 
 /// Why a request was refused. A refused attempt never takes effect.
-#[derive(Clone, Copy, Debug, PartialEq, Eq)]
+#[derive(Clone, Copy, PartialEq, Eq)]
 pub enum Refusal {
     /// The node has no replica of the range.
     NoReplica,
@@ -44,7 +44,7 @@ pub enum Refusal {
 }
 
 /// Why nobody can tell whether a command took effect (after CockroachDB's ambiguous results).
-#[derive(Clone, Copy, Debug, PartialEq, Eq)]
+#[derive(Clone, Copy, PartialEq, Eq)]
 pub enum Ambiguity {
     /// A snapshot whose lease applied index is `passed` overtook the command, whose own index is `own`.
     Snapshot { own: LeaseIndex, passed: LeaseIndex },
@@ -55,7 +55,7 @@ pub enum Ambiguity {
 }
 
 /// How an attempt of a command ended.
-#[derive(Clone, Copy, Debug, PartialEq, Eq)]
+#[derive(Clone, Copy, PartialEq, Eq)]
 pub enum Outcome {
     /// It took effect once, with this reply.
     Success(Reply),
@@ -68,7 +68,7 @@ pub enum Outcome {
 }
 
 /// What a client knows of an attempt at the end of a run.
-#[derive(Clone, Copy, Debug, PartialEq, Eq)]
+#[derive(Clone, Copy, PartialEq, Eq)]
 pub enum End {
     /// The attempt was made.
     Outcome(Outcome),

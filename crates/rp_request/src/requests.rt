@@ -6,7 +6,7 @@ use rp_base::{Key, KeySpan, Seq, Span, Spans, Value};
 
 /// What a client asks of a range (this project's requests). An absent key counts as 0 for `Add` and
 /// `Move`.
-#[derive(Clone, Copy, Debug, PartialEq, Eq)]
+#[derive(Clone, Copy, PartialEq, Eq)]
 pub enum Request {
     /// The key gets the value.
     Put {

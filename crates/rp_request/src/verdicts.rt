@@ -2,7 +2,7 @@
 use rp_base::{LeaseIndex, LeaseSeq};
 
 /// What the check at application says of a committed payload.
-#[derive(Clone, Copy, Debug, PartialEq, Eq)]
+#[derive(Clone, Copy, PartialEq, Eq)]
 pub enum Verdict {
     /// It takes effect.
     Took,

@@ -6,7 +6,7 @@ use crate::lines::ScriptLine;
 use rp_request::Request;
 
 /// Which forms of line are played (this project).
-#[derive(Clone, Copy, Debug, PartialEq, Eq)]
+#[derive(Clone, Copy, PartialEq, Eq)]
 pub enum Forms {
     /// Every form.
     All,

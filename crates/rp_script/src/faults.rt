@@ -65,7 +65,7 @@ pub enum LineFault {
 }
 
 /// What ends the reading of a script before its end.
-#[derive(Clone, Copy, Debug, PartialEq, Eq)]
+#[derive(Clone, Copy, PartialEq, Eq)]
 pub enum ScriptFault {
     /// The line, from 1, its word, from 1 or 0 for none, and why.
     Refused {
@@ -81,7 +81,7 @@ pub enum ScriptFault {
 }
 
 /// What stops the reading of a script.
-#[derive(Clone, Copy, Debug, PartialEq, Eq)]
+#[derive(Clone, Copy, PartialEq, Eq)]
 pub enum ScriptStop {
     /// The bytes end it.
     Judged { fault: ScriptFault },
@@ -114,14 +114,14 @@ impl From<AllocError> for ScriptStop {
 }
 
 /// The limit that a line passes, and the count by which it does.
-#[derive(Clone, Copy, Debug, PartialEq, Eq)]
+#[derive(Clone, Copy, PartialEq, Eq)]
 pub struct Excess {
     pub which: Which,
     pub count: u64,
 }
 
 /// The word of a line that is refused, from 1, and why.
-#[derive(Clone, Copy, Debug, PartialEq, Eq)]
+#[derive(Clone, Copy, PartialEq, Eq)]
 pub struct BadWord {
     pub word: u32,
     pub kind: LineKind,

@@ -3,7 +3,7 @@ ghost use Rattle.std.specs.Prelude.{◌≡◌};
 ghost use Rattle.rp_script.specs.Keywords.{keyword_of, world_keyword_of, is_barred_in_race, request_word_of};
 
 /// The first word of a line.
-#[derive(Clone, Copy, Debug, PartialEq, Eq)]
+#[derive(Clone, Copy, PartialEq, Eq)]
 pub enum Keyword {
     Cluster,
     Send,
@@ -28,7 +28,7 @@ pub enum Keyword {
 }
 
 /// The first word of a request.
-#[derive(Clone, Copy, Debug, PartialEq, Eq)]
+#[derive(Clone, Copy, PartialEq, Eq)]
 pub enum RequestWord {
     Put,
     Add,

@@ -4,7 +4,7 @@ use rp_request::Request;
 
 /// A line of a script (this project). Clients are 1 to 64, numbers of commands count from 1 for
 /// each client.
-#[derive(Clone, Copy, Debug, PartialEq, Eq)]
+#[derive(Clone, Copy, PartialEq, Eq)]
 pub enum ScriptLine {
     /// So many nodes, 1 to 5.
     Cluster {
@@ -105,7 +105,7 @@ pub enum ScriptLine {
 }
 
 /// A line that is not skipped, and its number, from 1.
-#[derive(Clone, Copy, Debug, PartialEq, Eq)]
+#[derive(Clone, Copy, PartialEq, Eq)]
 pub struct NumberedLine {
     pub number: u32,
     pub line: ScriptLine,

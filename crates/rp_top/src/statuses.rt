@@ -6,7 +6,7 @@ use rp_base::Which;
 use rp_script::LineKind;
 
 /// In which form a report is written.
-#[derive(Clone, Copy, Debug, PartialEq, Eq)]
+#[derive(Clone, Copy, PartialEq, Eq)]
 pub enum Form {
     /// The report.
     Text,
@@ -15,7 +15,7 @@ pub enum Form {
 }
 
 /// How a call of the program ended.
-#[derive(Clone, Copy, Debug, PartialEq, Eq)]
+#[derive(Clone, Copy, PartialEq, Eq)]
 pub enum Status {
     /// The whole output was written.
     Ok,

@@ -8,7 +8,7 @@ use rp_script::{ScriptFault, ScriptStop};
 use std::alloc::AllocFailed;
 
 /// What ends the reading of a script.
-#[derive(Clone, Copy, Debug, PartialEq, Eq)]
+#[derive(Clone, Copy, PartialEq, Eq)]
 pub enum Stop {
     /// The bytes end it.
     Judged { fault: ScriptFault },

@@ -7,7 +7,7 @@ use std::error::Error;
 use std::fmt;
 
 /// The form of an output.
-#[derive(Clone, Copy, Debug, PartialEq, Eq)]
+#[derive(Clone, Copy, PartialEq, Eq)]
 pub enum Form {
     Text,
     Json,
@@ -15,7 +15,7 @@ pub enum Form {
 }
 
 /// How a race is run.
-#[derive(Clone, Copy, Debug, PartialEq, Eq)]
+#[derive(Clone, Copy, PartialEq, Eq)]
 pub struct RacePlan {
     /// How many workers carry messages, 1 to 8.
     pub workers: u8,
@@ -27,7 +27,7 @@ pub struct RacePlan {
 }
 
 /// What the words ask for.
-#[derive(Clone, Copy, Debug, PartialEq, Eq)]
+#[derive(Clone, Copy, PartialEq, Eq)]
 pub enum Asked {
     /// A script is played.
     Run(Form),

@@ -2,7 +2,7 @@
 ghost use Rattle.std.specs.Prelude.{◌≡◌, false, Some, IfOk};
 ghost use Rattle.clap.specs.declared.builder.command.Command.TheViews.{out-Command as fields_of};
 ghost use Rattle.clap.specs.Walk.{rule_of};
-ghost use Rattle.clap.specs.Simple.{app_of};
+ghost use Rattle.clap.specs.Simple.{app_of, with_rule, with_subcommand};
 ghost use Rattle.rp_words.specs.App.{option_rule, word_rule, run_app, race_app, gen_app, top_app, rp_app};
 
 use clap::{Arg, Command};
@@ -25,24 +25,35 @@ fn word<'a>(alloc: Global, name: &'a str) -> Arg<'a>
     Arg::new(alloc, name).required(true)
 }
 
+/// A command that takes one more option.
+fn with_option<'a>(
+    alloc: Global,
+    command: Command<'a>,
+    name: &'a str,
+) -> Result<Command<'a>, NoMemory>
+    requires { (fields_of command).has_globals ≡ false }
+    ensures app { IfOk result (λ c. app_of c ≡ with_rule (app_of command.entry) (option_rule name.entry.now)) }
+    ensures local { IfOk result (λ c. (fields_of c).has_globals ≡ false) }
+{
+    let command = command.arg(option(alloc, name))?;
+    Ok(command)
+}
+
 fn run<'a>(alloc: Global) -> Result<Command<'a>, NoMemory>
     ensures app { IfOk result (λ c. app_of c ≡ run_app) }
     ensures local { IfOk result (λ c. (fields_of c).has_globals ≡ false) }
 {
-    let command = Command::new(alloc, "run").arg(option(alloc, "form"))?;
-    Ok(command)
+    with_option(alloc, Command::new(alloc, "run"), "form")
 }
 
 fn race<'a>(alloc: Global) -> Result<Command<'a>, NoMemory>
     ensures app { IfOk result (λ c. app_of c ≡ race_app) }
     ensures local { IfOk result (λ c. (fields_of c).has_globals ≡ false) }
 {
-    let command = Command::new(alloc, "race")
-        .arg(option(alloc, "workers"))?
-        .arg(option(alloc, "loss"))?
-        .arg(option(alloc, "salt"))?
-        .arg(option(alloc, "form"))?;
-    Ok(command)
+    let command = with_option(alloc, Command::new(alloc, "race"), "workers")?;
+    let command = with_option(alloc, command, "loss")?;
+    let command = with_option(alloc, command, "salt")?;
+    with_option(alloc, command, "form")
 }
 
 fn gen_command<'a>(alloc: Global) -> Result<Command<'a>, NoMemory>
@@ -67,13 +78,38 @@ fn top<'a>(alloc: Global) -> Command<'a>
         .subcommand_required(true)
 }
 
+/// The program with the command that runs a script.
+fn with_run<'a>(alloc: Global) -> Result<Command<'a>, NoMemory>
+    ensures { IfOk result (λ c. app_of c ≡ with_subcommand top_app run_app.top) }
+{
+    let run = run(alloc)?;
+    let command = top(alloc).subcommand(run)?;
+    Ok(command)
+}
+
+/// A program that takes the command of a race too.
+fn with_race<'a>(alloc: Global, command: Command<'a>) -> Result<Command<'a>, NoMemory>
+    ensures { IfOk result (λ c. app_of c ≡ with_subcommand (app_of command.entry) race_app.top) }
+{
+    let race = race(alloc)?;
+    let command = command.subcommand(race)?;
+    Ok(command)
+}
+
+/// A program that takes the command of the script maker too.
+fn with_gen<'a>(alloc: Global, command: Command<'a>) -> Result<Command<'a>, NoMemory>
+    ensures { IfOk result (λ c. app_of c ≡ with_subcommand (app_of command.entry) gen_app.top) }
+{
+    let maker = gen_command(alloc)?;
+    let command = command.subcommand(maker)?;
+    Ok(command)
+}
+
 /// The command line.
 pub(crate) fn command<'a>(alloc: Global) -> Result<Command<'a>, NoMemory>
     ensures { IfOk result (λ c. app_of c ≡ rp_app) }
 {
-    let command = top(alloc)
-        .subcommand(run(alloc)?)?
-        .subcommand(race(alloc)?)?
-        .subcommand(gen_command(alloc)?)?;
-    Ok(command)
+    let command = with_run(alloc)?;
+    let command = with_race(alloc, command)?;
+    with_gen(alloc, command)
 }

@@ -4,8 +4,6 @@
 mod asks;
 mod commands;
 mod readings;
-#[cfg(test)]
-mod tests;
 
 pub use asks::{Asked, Form, RacePlan, WordsFault};
 pub use readings::read_words;

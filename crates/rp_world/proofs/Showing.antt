@@ -44,15 +44,15 @@ use Rattle.rp_request.specs.declared.verdicts.Verdict.TheVariants as verdicts
 use Rattle.rp_raftlog.specs.LogState.{entry_at}
 use Rattle.rp_raftlog.specs.declared.entries.Entry.{Entry}
 use Rattle.rp_report.specs.Shown.{IsShownDesc, IsShownRefusal, IsShownOutcome, IsShownAnswer, IsShownRange, IsShownView}
-use Rattle.rp_replica.specs.Admissions.{admitted_by, guarded, unlatched}
-use Rattle.rp_replica.specs.Applications.{applied_one, applied_where, is_own_command, payload_of, recorded, told_of, turned, turn_of}
-use Rattle.rp_replica.specs.Applications as replica
-use Rattle.rp_replica.specs.Flushes.{assigning, refused_with}
-use Rattle.rp_replica.specs.Replicas.{Replica}
-use Rattle.rp_replica.specs.declared.events.Ended.{Ended}
-use Rattle.rp_replica.specs.declared.events.ReplicaEvent.TheVariants as events
-use Rattle.rp_replica.specs.declared.plans.Turn.{Turn}
-use Rattle.rp_replica.specs.declared.plans.Turn.TheVariants as turns
+use Rattle.rp_lone.specs.Admissions.{admitted_by, guarded, unlatched}
+use Rattle.rp_lone.specs.Applications.{applied_one, applied_where, is_own_command, payload_of, recorded, told_of, turned, turn_of}
+use Rattle.rp_lone.specs.Applications as replica
+use Rattle.rp_lone.specs.Flushes.{assigning, refused_with}
+use Rattle.rp_lone.specs.Replicas.{Replica}
+use Rattle.rp_lone.specs.declared.events.Ended.{Ended}
+use Rattle.rp_lone.specs.declared.events.ReplicaEvent.TheVariants as events
+use Rattle.rp_lone.specs.declared.plans.Turn.{Turn}
+use Rattle.rp_lone.specs.declared.plans.Turn.TheVariants as turns
 use Rattle.rp_script.specs.declared.lines.ScriptLine.{ScriptLine}
 use Rattle.rp_script.specs.declared.lines.ScriptLine.TheVariants as lines
 use Rattle.rp_report.specs.Notes.{absent_text, full_text}

@@ -17,11 +17,11 @@ use Rattle.rp_request.specs.Applicable.{MaySplit}
 use Rattle.rp_request.specs.declared.verdicts.Verdict.{Verdict}
 use Rattle.rp_request.specs.declared.verdicts.Verdict.TheVariants as verdicts
 use Rattle.rp_pending.specs.Proposals.{waiting_again}
-use Rattle.rp_replica.specs.Allows.{MayApply, MayApplyNext}
-use Rattle.rp_replica.specs.Applications.{applied_one, recorded, turned, turn_of}
-use Rattle.rp_replica.specs.Replicas.{Replica}
-use Rattle.rp_replica.specs.declared.plans.Turn.{Turn}
-use Rattle.rp_replica.specs.declared.plans.Turn.TheVariants as turns
+use Rattle.rp_lone.specs.Allows.{MayApply, MayApplyNext}
+use Rattle.rp_lone.specs.Applications.{applied_one, recorded, turned, turn_of}
+use Rattle.rp_lone.specs.Replicas.{Replica}
+use Rattle.rp_lone.specs.declared.plans.Turn.{Turn}
+use Rattle.rp_lone.specs.declared.plans.Turn.TheVariants as turns
 use Rattle.rp_world.specs.Sound.{IsSent, IsGiven, IsWrite, IsSoundReplica}
 use Rattle.rp_world.proofs.SoundFlush.{changed_sent}
 

@@ -19,12 +19,12 @@ use Rattle.rp_pending.specs.Proposals.{has_id, proposal_of, with_changed, propos
 use Rattle.rp_pending.specs.Refreshes.{waiting_of}
 use Rattle.rp_pending.specs.declared.proposals.Proposal.{Proposal}
 use Rattle.rp_raftlog.specs.declared.entries.Entry.{Entry}
-use Rattle.rp_replica.specs.Flushes.{assigning, command_of, entry_of, flushed, payloads_of, proposed_all, without_all, write_of}
-use Rattle.rp_replica.specs.Replicas.{Replica}
-use Rattle.rp_replica.proofs.Assigning.{few_entries, length_entries}
-use Rattle.rp_replica.proofs.Carrying.{read_back}
+use Rattle.rp_lone.specs.Flushes.{assigning, command_of, entry_of, flushed, payloads_of, proposed_all, without_all, write_of}
+use Rattle.rp_lone.specs.Replicas.{Replica}
+use Rattle.rp_lone.proofs.Assigning.{few_entries, length_entries}
+use Rattle.rp_lone.proofs.Carrying.{read_back}
 use Rattle.rp_world.specs.Sound.{IsSent, IsGiven, IsWrite, IsSoundReplica}
-use Rattle.rp_replica.specs.Writes.{WritesFit}
+use Rattle.rp_lone.specs.Writes.{WritesFit}
 
 -- a change that keeps id and request
 changed_by : (sent : List ℕ) (b : Bool) (p q : Proposal) → IsSent sent p → IsSent sent q → IsSent sent (cond b q p)

@@ -19,12 +19,12 @@ use Rattle.rp_pending.specs.Proposals.{has_id, proposal_of}
 use Rattle.rp_pending.specs.declared.proposals.Proposal.{Proposal}
 use Rattle.rp_raftlog.specs.LogState.{entry_at, last_index}
 use Rattle.rp_raftlog.specs.declared.entries.Entry.{Entry}
-use Rattle.rp_replica.specs.Allows.{MayFlush}
-use Rattle.rp_replica.specs.Admissions.{admitted_by, guarded, proposal}
-use Rattle.rp_replica.specs.Applications.{applied_where, payload_of}
-use Rattle.rp_replica.specs.Replicas.{Replica}
+use Rattle.rp_lone.specs.Allows.{MayFlush}
+use Rattle.rp_lone.specs.Admissions.{admitted_by, guarded, proposal}
+use Rattle.rp_lone.specs.Applications.{applied_where, payload_of}
+use Rattle.rp_lone.specs.Replicas.{Replica}
 use Rattle.rp_base.proofs.IdLaws.{same_is}
-use Rattle.rp_replica.specs.declared.events.ReplicaEvent.TheVariants as events
+use Rattle.rp_lone.specs.declared.events.ReplicaEvent.TheVariants as events
 use Rattle.rp_script.specs.Bounds.{IsBounded}
 use Rattle.rp_script.specs.declared.lines.NumberedLine.{NumberedLine}
 use Rattle.rp_script.specs.declared.lines.ScriptLine.{ScriptLine}
@@ -36,7 +36,7 @@ use Rattle.rp_script.specs.declared.built.Forms.TheVariants.{OneNode}
 use Rattle.rp_report.specs.Notes.{absent_text, full_text}
 use Rattle.rp_world.specs.Playing.{applied, asked, collected, flushed, happens, has_replica, noted, peeked, played, played_all, told}
 use Rattle.rp_world.specs.Sound.{IsSent, IsGiven, IsWrite, IsSoundReplica, IsSound, FlushFits}
-use Rattle.rp_replica.specs.Writes.{WritesFit}
+use Rattle.rp_lone.specs.Writes.{WritesFit}
 use Rattle.rp_world.specs.Worlds.{World, started, with_note, with_outcome, took, next_command, counted}
 use Rattle.rp_world.proofs.SoundFlush.{flush_sound}
 use Rattle.rp_world.proofs.SoundApply.{apply_sound, entry_known, may_apply, more_sound}

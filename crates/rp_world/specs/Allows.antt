@@ -2,7 +2,7 @@
 use Rattle.std.specs.Prelude.{◌≡◌, ℕ, ◌+◌, ◌≤◌, ◌<◌, ◌^◌, None}
 use Rattle.rp_base.specs.ClientCounts.{count_of}
 use Rattle.rp_pending.specs.Proposals.{proposal_of}
-use Rattle.rp_replica.specs.Allows.{MayFlush, MayApply}
+use Rattle.rp_lone.specs.Allows.{MayFlush, MayApply}
 use Rattle.rp_script.specs.declared.lines.ScriptLine.{ScriptLine}
 use Rattle.rp_script.specs.declared.lines.ScriptLine.TheVariants as lines
 use Rattle.rp_world.specs.Worlds.{World, next_command}

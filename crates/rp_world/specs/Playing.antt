@@ -5,12 +5,12 @@ use Rattle.rp_base.specs.declared.items.Item.TheVariants as items
 use Rattle.rp_request.specs.declared.outcomes.Outcome.TheVariants as outcomes
 use Rattle.rp_request.specs.declared.outcomes.Refusal.TheVariants.{NoReplica}
 use Rattle.rp_request.specs.declared.requests.Request.{Request}
-use Rattle.rp_replica.specs.Replicas.{Done}
-use Rattle.rp_replica.specs.Events.{event}
-use Rattle.rp_replica.specs.declared.events.EventAnswer.{EventAnswer}
-use Rattle.rp_replica.specs.declared.events.EventAnswer.TheVariants as answers
-use Rattle.rp_replica.specs.declared.events.ReplicaEvent.{ReplicaEvent}
-use Rattle.rp_replica.specs.declared.events.ReplicaEvent.TheVariants as events
+use Rattle.rp_lone.specs.Replicas.{Done}
+use Rattle.rp_lone.specs.Events.{event}
+use Rattle.rp_lone.specs.declared.events.EventAnswer.{EventAnswer}
+use Rattle.rp_lone.specs.declared.events.EventAnswer.TheVariants as answers
+use Rattle.rp_lone.specs.declared.events.ReplicaEvent.{ReplicaEvent}
+use Rattle.rp_lone.specs.declared.events.ReplicaEvent.TheVariants as events
 use Rattle.rp_script.specs.declared.lines.NumberedLine.{NumberedLine}
 use Rattle.rp_script.specs.declared.lines.ScriptLine.{ScriptLine}
 use Rattle.rp_script.specs.declared.lines.ScriptLine.TheVariants as lines

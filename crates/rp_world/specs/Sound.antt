@@ -10,9 +10,9 @@ use Rattle.rp_request.specs.declared.commands.Payload.TheVariants as payloads
 use Rattle.rp_pending.specs.declared.proposals.Proposal.{Proposal}
 use Rattle.rp_raftlog.specs.LogState.{last_index}
 use Rattle.rp_raftlog.specs.declared.entries.Entry.{Entry}
-use Rattle.rp_replica.specs.Applications.{payload_of}
-use Rattle.rp_replica.specs.Writes.{WritesFit}
-use Rattle.rp_replica.specs.Replicas.{Replica}
+use Rattle.rp_lone.specs.Applications.{payload_of}
+use Rattle.rp_lone.specs.Writes.{WritesFit}
+use Rattle.rp_lone.specs.Replicas.{Replica}
 use Rattle.rp_script.specs.declared.lines.ScriptLine.{ScriptLine}
 use Rattle.rp_script.specs.declared.lines.ScriptLine.TheVariants as lines
 use Rattle.rp_world.specs.Worlds.{World}

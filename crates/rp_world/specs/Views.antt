@@ -12,7 +12,7 @@ use Rattle.rp_report.specs.declared.views.ReplicaView.TheVariants.{Live}
 use Rattle.rp_report.specs.declared.views.RangeView.{RangeView}
 use Rattle.rp_report.specs.declared.views.View.{View}
 use Rattle.rp_base.specs.Limits.{first_term}
-use Rattle.rp_replica.specs.Replicas.{Replica}
+use Rattle.rp_lone.specs.Replicas.{Replica}
 use Rattle.rp_world.specs.Worlds.{World}
 
 -- how an attempt ended

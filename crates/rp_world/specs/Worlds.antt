@@ -10,9 +10,9 @@ use Rattle.rp_base.specs.declared.ids.CmdId.{CmdId}
 use Rattle.rp_base.specs.declared.items.Item.{Item}
 use Rattle.rp_request.specs.declared.notes.Note.{Note}
 use Rattle.rp_request.specs.declared.outcomes.Outcome.{Outcome}
-use Rattle.rp_replica.specs.Replicas.{Replica, Done}
-use Rattle.rp_replica.specs.Replicas as replicas
-use Rattle.rp_replica.specs.declared.events.Ended.{Ended}
+use Rattle.rp_lone.specs.Replicas.{Replica, Done}
+use Rattle.rp_lone.specs.Replicas as replicas
+use Rattle.rp_lone.specs.declared.events.Ended.{Ended}
 
 -- the outcomes of attempts, by attempt
 abbrev pub Outcomes : Type 0

@@ -1,16 +1,16 @@
 //! What an event of the replica leaves in the node.
 ghost use Rattle.std.specs.Prelude.{◌≡◌, ◌≤◌, [], length, OnOk, OnErr, IfOk};
-ghost use Rattle.rp_replica.specs.Replicas.{leaves};
-ghost use Rattle.rp_replica.specs.Events.{event, collected};
-ghost use Rattle.rp_replica.specs.Allows.{Allows};
-ghost use Rattle.rp_replica.specs.Writes.{WritesFit};
-ghost use Rattle.rp_replica.specs.declared.events.ReplicaEvent.TheVariants.{Flush};
+ghost use Rattle.rp_lone.specs.Replicas.{leaves};
+ghost use Rattle.rp_lone.specs.Events.{event, collected};
+ghost use Rattle.rp_lone.specs.Allows.{Allows};
+ghost use Rattle.rp_lone.specs.Writes.{WritesFit};
+ghost use Rattle.rp_lone.specs.declared.events.ReplicaEvent.TheVariants.{Flush};
 ghost use Rattle.std.specs.BTreeMap.{insert_entry};
 ghost use Rattle.rp_base.specs.Ids.{cmd_cmp};
 ghost use Rattle.rp_world.specs.Worlds.{ended_in};
 
 use rp_base::{CmdId, Items, NoMemory, Tick};
-use rp_replica::{Effects, Ended, Replica, ReplicaEvent, ReplicaPlan};
+use rp_lone::{Effects, Ended, Replica, ReplicaEvent, ReplicaPlan};
 use rp_request::Outcome;
 use std::alloc::Global;
 use std::collections::BTreeMap;

@@ -1,19 +1,19 @@
 //! What each line does to the node.
 ghost use Rattle.std.specs.Prelude.{◌≡◌, ◌+◌, ◌-◌, ◌<◌, ◌^◌, None, IfOk, OnOk, slice_index};
 ghost use Rattle.rp_pending.specs.Proposals.{proposal_of};
-ghost use Rattle.rp_replica.specs.Allows.{MayFlush, MayApply};
-ghost use Rattle.rp_replica.specs.Writes.{WritesFit};
+ghost use Rattle.rp_lone.specs.Allows.{MayFlush, MayApply};
+ghost use Rattle.rp_lone.specs.Writes.{WritesFit};
 ghost use Rattle.rp_world.specs.Sound.{FlushFits};
 ghost use Rattle.rp_world.specs.Allows.{MayPlay, MaySend};
 ghost use Rattle.rp_report.specs.Notes.{absent_text};
 ghost use Rattle.rp_world.specs.Worlds.{with_note};
-ghost use Rattle.rp_replica.specs.declared.events.ReplicaEvent.TheVariants as events;
+ghost use Rattle.rp_lone.specs.declared.events.ReplicaEvent.TheVariants as events;
 ghost use Rattle.rp_world.specs.Playing.{placed, told, asked, sent, flushed, collected, noted, applied, peeked, happens, played};
 
 use crate::notes::{peek_text, text_of};
 use crate::worlds::World;
 use rp_base::{BUFFER_CAPACITY, CmdId, Item, Key, NoMemory, RangeId};
-use rp_replica::{EventAnswer, ReplicaEvent};
+use rp_lone::{EventAnswer, ReplicaEvent};
 use rp_request::{Outcome, Refusal, Request};
 use rp_script::ScriptLine;
 

@@ -1,12 +1,12 @@
 //! What the node shows at the end.
-ghost use Rattle.std.specs.Prelude.{◌≡◌, ◌-◌, ◌<◌, ◌^◌, map, IfOk};
+ghost use Rattle.std.specs.Prelude.{◌≡◌, ◌-◌, ◌<◌, ◌^◌, map, IfOk, [], ◌∷◌};
 ghost use Rattle.std.specs.FinMap.{entries};
 ghost use Rattle.rp_world.specs.Views.{answer_of, range_view, replica_view, row_of, view_of};
 
 use crate::worlds::World;
 use rp_base::{CmdId, FIRST_TERM, NoMemory, Seq};
 use rp_report::{RangeView, ReplicaView, Row, View};
-use rp_request::{End, Outcome, Replies, ReplyLine};
+use rp_request::{End, Notes, Outcome, Replies, ReplyLine};
 use rp_table::Table;
 use std::alloc::Global;
 use std::collections::BTreeMap;
@@ -81,20 +81,36 @@ impl World {
         })
     }
 
+    /// The one range, as a list.
+    fn ranges_view(&self) -> Result<Seq<RangeView>, NoMemory>
+        requires { self.now.replica.applied.index < 2 ^ 64 - 1 }
+        ensures { IfOk result (λ ranges. ranges ≡ range_view self.now.replica ∷ []) }
+    {
+        let range = self.range_view()?;
+        let ranges = Vec::from_array(self.alloc, [range])?;
+        Ok(Seq::from_vec(ranges))
+    }
+
+    /// The notes, which are what is left of it.
+    fn into_notes(self) -> Notes
+        ensures { result ≡ self.notes }
+    {
+        Seq::from_vec(self.notes)
+    }
+
     /// What the node shows, which is what is left of it.
     pub fn into_view(self) -> Result<View, NoMemory>
         requires { self.replica.applied.index < 2 ^ 64 - 1 }
         ensures { IfOk result (λ view. view ≡ view_of self) }
     {
-        let range = self.range_view()?;
-        let ranges = Vec::from_array(self.alloc, [range])?;
-        let replies = answers_of(self.alloc, &self.outcomes)?;
-        let World { notes, .. } = self;
+        let ranges = self.ranges_view();
+        let replies = answers_of(self.alloc, &self.outcomes);
+        let notes = self.into_notes();
         Ok(View {
             nodes: 1,
-            notes: Seq::from_vec(notes),
-            replies,
-            ranges: Seq::from_vec(ranges),
+            notes,
+            replies: replies?,
+            ranges: ranges?,
             messages: 0,
         })
     }

@@ -2,14 +2,14 @@
 ghost use Rattle.std.specs.Prelude.{◌≡◌, ◌≤◌, ◌==◌, OnOk, IfOk};
 ghost use Rattle.rp_world.specs.Worlds.{started, with_outcome, with_note, took};
 ghost use Rattle.rp_world.specs.Playing.{happens, has_replica, collected};
-ghost use Rattle.rp_replica.specs.Allows.{Allows};
-ghost use Rattle.rp_replica.specs.Writes.{WritesFit};
-ghost use Rattle.rp_replica.specs.declared.events.ReplicaEvent.TheVariants.{Flush};
+ghost use Rattle.rp_lone.specs.Allows.{Allows};
+ghost use Rattle.rp_lone.specs.Writes.{WritesFit};
+ghost use Rattle.rp_lone.specs.declared.events.ReplicaEvent.TheVariants.{Flush};
 
 use crate::events::{collect, end_all, end_one, happen};
 use rp_base::{ClientCounts, CmdId, Items, NoMemory, NodeId, RangeId, Text};
+use rp_lone::{Effects, Replica, ReplicaEvent};
 use rp_range::{first_desc, first_lease};
-use rp_replica::{Effects, Replica, ReplicaEvent};
 use rp_request::{Note, Outcome};
 use rp_table::Table;
 use std::alloc::Global;

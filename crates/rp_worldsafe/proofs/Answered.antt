@@ -13,11 +13,11 @@ use Rattle.rp_request.specs.declared.outcomes.Refusal.{Refusal}
 use Rattle.rp_request.specs.declared.outcomes.Refusal.TheVariants.{NoReplica}
 use Rattle.rp_request.specs.declared.requests.Request.{Request}
 use Rattle.rp_request.specs.declared.evaluations.Evaluated.{Evaluated}
-use Rattle.rp_replica.specs.Admissions.{admitted_by, guarded}
-use Rattle.rp_replica.specs.Applications.{applied_where, next_payload}
-use Rattle.rp_replica.specs.Flushes.{flushed}
-use Rattle.rp_replica.specs.declared.events.Ended.{Ended}
-use Rattle.rp_replica.specs.declared.events.ReplicaEvent.TheVariants as events
+use Rattle.rp_lone.specs.Admissions.{admitted_by, guarded}
+use Rattle.rp_lone.specs.Applications.{applied_where, next_payload}
+use Rattle.rp_lone.specs.Flushes.{flushed}
+use Rattle.rp_lone.specs.declared.events.Ended.{Ended}
+use Rattle.rp_lone.specs.declared.events.ReplicaEvent.TheVariants as events
 use Rattle.rp_base.specs.ClientCounts.{count_of, one_more_of}
 use Rattle.rp_base.proofs.ClientCountLaws.{none_counted, one_more_counted, others_counted}
 use Rattle.rp_base.proofs.Counts.{count_cons}

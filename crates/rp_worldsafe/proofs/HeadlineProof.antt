@@ -10,7 +10,7 @@ use Rattle.rp_request.specs.declared.outcomes.Outcome.TheVariants.{Success, Refu
 use Rattle.rp_request.specs.declared.outcomes.Refusal.TheVariants.{NoReplica}
 use Rattle.rp_request.specs.declared.outcomes.Reply.{Reply}
 use Rattle.rp_pending.specs.Proposals.{proposal_of}
-use Rattle.rp_replica.specs.Replicas.{Replica}
+use Rattle.rp_lone.specs.Replicas.{Replica}
 use Rattle.rp_refine.specs.Laws.{IsReached, IsLater, IsPlace, IsTheOnePlace, payload, payloads}
 use Rattle.rp_refine.specs.Runs.{Run, Outcomes, AllLawful, IsRefusal, begun, play}
 use Rattle.rp_refine.proofs.Telling.{all_carry, applied_is, applied_place_is_told, fold_is, index_within, listed_is_pending, log_recorded, never_ambiguous, none_left_out, once, once_in_log, pending_is_listed, place_is_lawful, refused_has_never, success_is_one_place}

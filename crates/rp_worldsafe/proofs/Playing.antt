@@ -18,9 +18,9 @@ use Rattle.rp_request.specs.declared.requests.Request.{Request}
 use Rattle.rp_request.specs.declared.requests.Request.TheVariants as requests
 use Rattle.rp_request.specs.Fits.{FitsRequest, FitsEnd}
 use Rattle.rp_request.specs.declared.evaluations.Evaluated.{Evaluated}
-use Rattle.rp_replica.specs.Admissions.{admitted_by, guarded}
-use Rattle.rp_replica.specs.Applications.{applied_where, next_payload}
-use Rattle.rp_replica.specs.declared.events.ReplicaEvent.TheVariants as events
+use Rattle.rp_lone.specs.Admissions.{admitted_by, guarded}
+use Rattle.rp_lone.specs.Applications.{applied_where, next_payload}
+use Rattle.rp_lone.specs.declared.events.ReplicaEvent.TheVariants as events
 use Rattle.rp_refine.specs.Laws.{IsReached}
 use Rattle.rp_refine.specs.Runs.{Input, Run, AllLawful, FitsItem, LawfulEvent, MayAsk, begun, next, play}
 use Rattle.rp_refine.proofs.Allowing.{may_flush, low_sequence}

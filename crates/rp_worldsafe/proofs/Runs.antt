@@ -8,11 +8,11 @@ use Rattle.rp_request.specs.declared.outcomes.Refusal.{Refusal}
 use Rattle.rp_request.specs.declared.outcomes.Refusal.TheVariants.{NoReplica}
 use Rattle.rp_request.specs.declared.requests.Request.{Request}
 use Rattle.rp_request.specs.declared.evaluations.Evaluated.{Evaluated}
-use Rattle.rp_replica.specs.Admissions.{admitted_by, guarded}
-use Rattle.rp_replica.specs.Applications.{applied_where, next_payload}
-use Rattle.rp_replica.specs.Replicas.{Replica}
-use Rattle.rp_replica.specs.Events.{event}
-use Rattle.rp_replica.specs.declared.events.ReplicaEvent.TheVariants as events
+use Rattle.rp_lone.specs.Admissions.{admitted_by, guarded}
+use Rattle.rp_lone.specs.Applications.{applied_where, next_payload}
+use Rattle.rp_lone.specs.Replicas.{Replica}
+use Rattle.rp_lone.specs.Events.{event}
+use Rattle.rp_lone.specs.declared.events.ReplicaEvent.TheVariants as events
 use Rattle.rp_refine.specs.Runs.{Input, Run, begun, next, play}
 use Rattle.rp_script.specs.declared.lines.NumberedLine.{NumberedLine}
 use Rattle.rp_script.specs.declared.lines.ScriptLine.{ScriptLine}

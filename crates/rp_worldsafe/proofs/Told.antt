@@ -21,12 +21,12 @@ use Rattle.rp_request.specs.declared.verdicts.Verdict as verdict_type
 use Rattle.rp_request.specs.declared.verdicts.Verdict.TheVariants as verdicts
 use Rattle.rp_pending.specs.Proposals.{proposal_of}
 use Rattle.rp_pending.specs.declared.proposals.Proposal.{Proposal}
-use Rattle.rp_replica.specs.Admissions.{admitted_by, guarded}
-use Rattle.rp_replica.specs.Applications.{applied_where, is_own, next_payload, told_of}
-use Rattle.rp_replica.specs.Applications as applications
-use Rattle.rp_replica.specs.Flushes.{flushed, refused_with}
-use Rattle.rp_replica.specs.declared.events.Ended.{Ended}
-use Rattle.rp_replica.specs.declared.events.ReplicaEvent.TheVariants as events
+use Rattle.rp_lone.specs.Admissions.{admitted_by, guarded}
+use Rattle.rp_lone.specs.Applications.{applied_where, is_own, next_payload, told_of}
+use Rattle.rp_lone.specs.Applications as applications
+use Rattle.rp_lone.specs.Flushes.{flushed, refused_with}
+use Rattle.rp_lone.specs.declared.events.Ended.{Ended}
+use Rattle.rp_lone.specs.declared.events.ReplicaEvent.TheVariants as events
 use Rattle.rp_base.specs.Ids.{same_id}
 use Rattle.rp_rangesafe.specs.Attempts.{IsPending, Waiting, Attempts}
 use Rattle.rp_base.proofs.ClientCountLaws.{counts_grow, one_more_counted, one_more_length}

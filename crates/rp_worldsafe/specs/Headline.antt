@@ -14,7 +14,7 @@ use Rattle.rp_request.specs.declared.outcomes.Outcome.TheVariants.{Success, Ambi
 use Rattle.rp_request.specs.declared.outcomes.Reply.{Reply}
 use Rattle.rp_pending.specs.Proposals.{proposal_of}
 use Rattle.rp_request.specs.Applied.{after_all, records_of}
-use Rattle.rp_replica.specs.Carried.{AllCarry}
+use Rattle.rp_lone.specs.Carried.{AllCarry}
 use Rattle.rp_request.specs.States.{shown}
 use Rattle.rp_request.specs.States.{first_applied}
 use Rattle.rp_refine.specs.Laws.{payload, IsPlace, IsLawfulPlace, IsTheOnePlace}

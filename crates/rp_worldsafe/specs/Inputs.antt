@@ -1,8 +1,8 @@
 -- The events of the replica that the lines of a script make.
 use Rattle.std.specs.Prelude.{ℕ, if◌then◌else◌, List, [], ◌∷◌, ◌++◌}
 use Rattle.rp_base.specs.declared.items.Item.{Item}
-use Rattle.rp_replica.specs.declared.events.ReplicaEvent.{ReplicaEvent}
-use Rattle.rp_replica.specs.declared.events.ReplicaEvent.TheVariants as events
+use Rattle.rp_lone.specs.declared.events.ReplicaEvent.{ReplicaEvent}
+use Rattle.rp_lone.specs.declared.events.ReplicaEvent.TheVariants as events
 use Rattle.rp_refine.specs.Runs.{Input, Run, begun, play}
 use Rattle.rp_script.specs.declared.lines.NumberedLine.{NumberedLine}
 use Rattle.rp_script.specs.declared.lines.ScriptLine.{ScriptLine}

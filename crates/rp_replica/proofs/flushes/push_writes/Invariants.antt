@@ -1,16 +1,8 @@
-use Rattle.std.proofs.Common.{◌≡◌, ◌++◌, drop, map}
-use Rattle.std.specs.Prelude.{filter_map}
-use Rattle.std.specs.List.{AllByRecursion}
-use Rattle.rp_request.specs.Fits.{FitsPayload}
-use Rattle.rp_replica.specs.Carried.{EachCarries}
-use Rattle.rp_replica.specs.Flushes.{entry_of, write_of}
+use Rattle.std.proofs.Common.{◌≡◌, ◌++◌, ℕ, drop, map}
+use Rattle.rp_base.specs.declared.ids.CmdId.{CmdId}
+use Rattle.rp_events.specs.declared.moves.Move.TheVariants.{HandsOut}
 use Rattle.rp_replica.proofs.flushes.push_writes.Given as goal
 
--- the entries so far, and those of the commands that are left, are what all of the commands make
+-- the moves so far, and those of what is left, are what all of it makes
 abbrev pub invariant-loop-write : goal.invariant-loop-write
-invariant-loop-write l = record {
-  makes : l.entries ++ map entry_of (filter_map (write_of l.pending.list) (drop l.write-index l.writes))
-      ≡ l.fn.entries ++ map entry_of (filter_map (write_of l.pending.list) l.writes);
-  carry : EachCarries l.entries;
-  fits : AllByRecursion FitsPayload (filter_map (write_of l.pending.list) (drop l.write-index l.writes)) → AllByRecursion FitsPayload (filter_map (write_of l.pending.list) l.writes);
-}
+invariant-loop-write l = l.moves.items ++ map (λ (write : CmdId × ℕ). HandsOut write.0 write.1) (drop l.write-index l.writes) ≡ l.fn.moves.items ++ map (λ (write : CmdId × ℕ). HandsOut write.0 write.1) l.writes

@@ -1,31 +1,42 @@
-use Rattle.std.proofs.Common.{sym, subst}
-use Rattle.rp_replica.specs.declared.plans.ReplicaPlan.TheVariants.{Flushes}
-use Rattle.rp_replica.specs.Flushes.{flushed}
-use Rattle.rp_replica.specs.Allows.{MayFlush}
-use Rattle.rp_replica.specs.Plans.{Makes}
-use Rattle.rp_replica.specs.Writes.{WritesFit}
-use Rattle.rp_replica.proofs.Flushing.{makes_flush}
-use Rattle.rp_replica.proofs.Writing.{writes_fit}
+use Rattle.std.proofs.Common.{◌+◌, ◌<◌, ◌^◌, length, map, Some, ap, sym, subst, ◌∙◌}
+use Rattle.std.specs.List.{IsDistinct}
+use Rattle.rp_base.specs.Ids.{same_id}
+use Rattle.rp_raftlog.specs.LogState.{last_index}
+use Rattle.rp_raftstep.specs.Conditions.{CanRise}
+use Rattle.rp_raftstep.specs.Step.{propose, step}
+use Rattle.rp_raftstep.specs.declared.events.RaftEvent.TheVariants.{Propose}
+use Rattle.rp_raft.specs.Plans.{IsMadeIn, Makes}
+use Rattle.rp_replica.specs.Handing.{EachReads}
+use Rattle.rp_replica.proofs.Flushing.{flush_plan, flush_spelled, may_propose}
 use Rattle.rp_replica.proofs.replicas.Replica.plan_flush.Goals as goal
 
-pub returns : goal.returns
-returns c = record {
-  plan =
-      subst (λ h. Makes h.replica (Flushes (record {
-        entries = c.in_ok-entries.entries;
-        writes = c.in_ok-assigned.assigned.writes;
-        refused = c.in_ok-assigned.assigned.refused;
-        last = c.in_ok-assigned.assigned.last;
-        now = c.args.now;
-        round = c.args.round;
-        outcomes = c.in_ok-outcomes.outcomes;
-      })) (flushed h.replica c.args.now c.args.round)) c.self.view_is
-      (makes_flush _ c.args.now c.args.round c.lease.result c.lease-lease.result c.lai-lai.result c.in_ok-assigned.assigned
-      c.as_slice.result.now c.as_slice-2.result.now c.as_slice-3.result.now c.in_ok-entries.entries c.in_ok-outcomes.outcomes
-      c.lease.ensures c.lease-lease.ensures c.lai-lai.ensures c.in_ok-assigned.ensures
-      c.as_slice.ensures c.as_slice-2.ensures c.as_slice-3.ensures c.in_ok-entries.ensures.entries c.in_ok-entries.ensures.carry c.in_ok-outcomes.ensures
-      (subst (λ h. MayFlush h.replica) (sym c.self.view_is) (record { assigned = c.requires.assigned; index = c.requires.index })));
-  fits = subst (λ h. WritesFit h.replica) c.self.view_is (writes_fit _ c.lease.result c.lai-lai.result c.in_ok-assigned.assigned
-      c.as_slice.result.now c.as_slice-2.result.now c.lease.ensures c.lai-lai.ensures c.in_ok-assigned.ensures
-      c.as_slice.ensures c.as_slice-2.ensures c.in_ok-entries.ensures.asks c.in_ok-entries.ensures.commands);
-}
+pub plan-requires : goal.plan-requires
+plan-requires c =
+    subst (λ h. CanRise h.replica.raft × (last_index h.replica.raft.log + length c.in_ok-draft.draft.bytes < 2 ^ 64)) (sym c.self.view_is)
+    (may_propose c.args.self.now.replica c.in_ok-draft.draft.bytes c.in_ok-draft.draft.moves (record { assigned = c.requires.assigned; rise = c.requires.rise; last = c.requires.last })
+    c.in_ok-draft.ensures.moves c.in_ok-draft.ensures.bytes)
+
+pub returns-clause-plan : goal.returns-clause-plan
+returns-clause-plan c =
+    flush_plan c.args.self.now.replica (record {
+      raft = c.in_ok-raft.raft;
+      moves = c.in_ok-draft.draft.moves;
+      ticks = c.args.ticks;
+      round = c.args.round;
+      last = Some c.in_ok-draft.draft.last;
+      back = 0;
+      outcomes = c.in_ok-draft.draft.outcomes;
+    }) c.in_ok-draft.draft.bytes
+    (subst (λ h. IsDistinct same_id (map (λ p. p.id) h.replica.pending)) c.self.view_is c.ids_are_distinct.ensures)
+    (subst (λ s. IsMadeIn s c.in_ok-raft.raft) (c.in_ok-raft.ensures.raft ∙ ap (λ h. h.replica.raft) c.self.view_is) c.in_ok-raft.ensures.fits.made)
+    (subst (λ h. Makes h.replica.raft c.in_ok-raft.raft (propose h.replica.raft c.in_ok-draft.draft.bytes)
+    (step h.replica.applied.index h.replica.applied.state h.replica.raft (Propose c.in_ok-draft.draft.bytes))) c.self.view_is c.in_ok-raft.ensures.plan)
+    c.in_ok-draft.ensures.moves c.in_ok-draft.ensures.bytes c.in_ok-draft.ensures.outcomes (ap Some c.in_ok-draft.ensures.last)
+
+pub returns-clause-read : goal.returns-clause-read
+returns-clause-read c =
+    subst EachReads
+    (flush_spelled c.args.self.now.replica c.args.ticks c.args.round c.in_ok-draft.draft.moves c.in_ok-draft.draft.bytes
+    (subst (λ h. IsDistinct same_id (map (λ p. p.id) h.replica.pending)) c.self.view_is c.ids_are_distinct.ensures)
+    c.in_ok-draft.ensures.moves c.in_ok-draft.ensures.bytes)
+    c.in_ok-draft.ensures.read

@@ -1,0 +1,11 @@
+pub mod Replicas
+pub mod Admissions
+pub mod Flushes
+pub mod Applications
+pub mod Events
+pub mod Carried
+pub mod Writes
+pub mod Waits
+pub mod Plans
+pub mod Held
+pub mod Allows

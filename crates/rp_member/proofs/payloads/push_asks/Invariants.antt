@@ -1,7 +1,0 @@
-use Rattle.std.proofs.Common.{◌≡◌, ◌++◌, drop}
-use Rattle.rp_member.specs.Handing.{asks_spelled}
-use Rattle.rp_member.proofs.payloads.push_asks.Given as goal
-
--- the bytes so far, and those of the asks that are left, are those of all of them
-abbrev pub invariant-loop-ask : goal.invariant-loop-ask
-invariant-loop-ask l = l.bytes ++ asks_spelled (drop l.ask-index l.asks) ≡ l.fn.bytes ++ asks_spelled l.asks

@@ -1,7 +1,0 @@
-use Rattle.std.proofs.Common.{◌≡◌, ◌++◌, drop}
-use Rattle.rp_member.specs.Handing.{moves_spelled}
-use Rattle.rp_member.proofs.payloads.push_moves.Given as goal
-
--- the bytes so far, and those of the moves that are left, are those of all of them
-abbrev pub invariant-loop-one : goal.invariant-loop-one
-invariant-loop-one l = l.bytes ++ moves_spelled l.pending.list (drop l.one-index l.moves) ≡ l.fn.bytes ++ moves_spelled l.pending.list l.moves

@@ -1,5 +1,0 @@
-use Rattle.rp_member.proofs.Ending.{removal_plan}
-use Rattle.rp_member.proofs.replicas.Replica.plan_removal.Goals as goal
-
-pub returns : goal.returns
-returns c = removal_plan c.args.self.now.replica c.in_ok-outcomes.outcomes c.in_ok-outcomes.ensures

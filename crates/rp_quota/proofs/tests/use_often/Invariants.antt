@@ -1,9 +1,0 @@
-use Rattle.std.proofs.Common.{◌≡◌}
-use Rattle.rp_quota.specs.Shares.{known_by, IsShareOf}
-use Rattle.rp_quota.proofs.tests.use_often.Given as goal
-
-abbrev pub invariant-loop : goal.invariant-loop
-invariant-loop l = record {
-  of : IsShareOf l.fn.quota l.share;
-  parts : (known_by l.share).parts ≡ (known_by l.fn.share).parts;
-}
