@@ -1,0 +1,98 @@
+-- What a pass knows, and how its rights are handed over (this project).
+use Rattle.std.specs.Prelude.{◌≡◌, ℕ, ◌+◌, ◌*◌, ◌/◌, ◌%◌, List, [], ◌∷◌, ◌++◌, map, slice_index_or, slice_set, Bool, true, false, replicate}
+use Rattle.rp_base.specs.declared.items.Item.{Item}
+use Rattle.rp_buffer.specs.declared.rule.Hand.{Hand}
+use Rattle.rp_buffer.specs.declared.rule.Stage.{Stage}
+use Rattle.rp_buffer.specs.declared.rule.Stage.TheVariants.{Idle, Drew, Taking}
+use Rattle.rp_buffer.specs.declared.rule.Look.{Look}
+use Rattle.rp_buffer.specs.declared.rights.Right.{Right}
+use Rattle.rp_buffer.specs.declared.rights.Right.TheVariants.{Lacks, Carries}
+use Rattle.rp_buffer.specs.declared.rights.Keep.{Keep}
+use Rattle.rp_buffer.specs.declared.rights.Keep.TheVariants.{Open, Closed}
+
+-- a buffer and an item
+abbrev pub Put : Type 0
+Put = ℕ × Item
+
+-- how many parts the first pass has. Each pass has at least one, so one with all is the only one
+abbrev pub all_parts : ℕ
+all_parts = 1024
+
+-- a pass's parts, where it stands, what it put and took, what its steps told, and its rights
+abbrev pub hand : ℕ → Stage → List Put → List Put → List Look → List Right → Hand
+hand parts stage put taken looks rights = record { parts = parts; stage = stage; put = put; taken = taken; looks = looks; rights = rights }
+
+-- a pass that knows nothing and has no rights
+abbrev pub bare_hand : ℕ → List Right → Hand
+bare_hand parts rights = hand parts Idle [] [] [] rights
+
+-- the right of a node, counted from 0
+abbrev pub right_at : List Right → ℕ → Right
+right_at rights i = slice_index_or rights i Lacks
+
+-- what is kept of a range's buffer
+abbrev pub keep_in : List Keep → ℕ → Keep
+keep_in keeps r = slice_index_or keeps r Open
+
+-- what a right keeps of a range's buffer
+abbrev pub keep_of : Right → ℕ → Keep
+keep_of Lacks r = Open
+keep_of (Carries keeps) r = keep_in keeps r
+
+-- what a pass keeps of a buffer
+abbrev pub keep_at : List Right → ℕ → Keep
+keep_at rights b = keep_of (right_at rights (b / 8)) (b % 8)
+
+-- a right keeps something else of a range's buffer
+abbrev pub keeping : Right → ℕ → Keep → Right
+keeping Lacks r keep = Lacks
+keeping (Carries keeps) r keep = Carries (slice_set keeps r keep)
+
+-- a pass keeps something else of a buffer
+abbrev pub with_keep : List Right → ℕ → Keep → List Right
+with_keep rights b keep = slice_set rights (b / 8) (keeping (right_at rights (b / 8)) (b % 8) keep)
+
+-- no place is taken
+abbrev pub none_gone : List Bool
+none_gone = replicate 16 false
+
+-- one more place is taken
+abbrev pub gone_too : Keep → ℕ → Keep
+gone_too Open p = Open
+gone_too (Closed count gone) p = Closed count (slice_set gone p true)
+
+-- a right is carried
+abbrev pub IsCarried : Right → Type 0
+IsCarried Lacks = ⊥
+IsCarried (Carries keeps) = Unit {0}
+
+-- no rights
+abbrev pub no_rights : List Right → List Right
+no_rights rights = map (λ r. Lacks) rights
+
+-- the least right of a list alone
+abbrev pub least : List Right → List Right
+least [] = []
+least (Lacks ∷ rs) = Lacks ∷ least rs
+least (Carries keeps ∷ rs) = Carries keeps ∷ no_rights rs
+
+-- the others
+abbrev pub others : List Right → List Right
+others [] = []
+others (Lacks ∷ rs) = Lacks ∷ others rs
+others (Carries keeps ∷ rs) = Lacks ∷ rs
+
+-- one of two rights, where not both are carried
+abbrev pub one_of : Right → Right → Right
+one_of Lacks r = r
+one_of (Carries keeps) r = Carries keeps
+
+-- the rights of two passes
+abbrev pub together : List Right → List Right → List Right
+together [] rs = rs
+together (r ∷ rs) [] = r ∷ rs
+together (r ∷ rs) (q ∷ qs) = one_of r q ∷ together rs qs
+
+-- the first pass carries the right of each node
+abbrev pub all_rights : ℕ → List Right
+all_rights nodes = replicate nodes (Carries (replicate 8 Open))
