@@ -58,3 +58,14 @@ left_none (suc m) f h none_there =
     let here = none_there m (omega arith) in
     let a : left_in (suc m) f h ≡ left_in m f h + lies h m (f m) = refl in
     omega (arith, below, here, a)
+
+-- places that lie alike
+pub left_alike : (m : ℕ) (f g : ℕ → Phase) (h : Put → ℕ) → ((k : ℕ) → k < m → lies h k (f k) ≡ lies h k (g k)) → left_in m f h ≡ left_in m g h
+unfolding left_in
+left_alike zero f g h alike = refl
+left_alike (suc m) f g h alike =
+    let below = left_alike m f g h (λ k less. alike k (omega (arith, less))) in
+    let here = alike m (omega arith) in
+    let a : left_in (suc m) f h ≡ left_in m f h + lies h m (f m) = refl in
+    let b : left_in (suc m) g h ≡ left_in m g h + lies h m (g m) = refl in
+    omega (arith, below, here, a, b)
