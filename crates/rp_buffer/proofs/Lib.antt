@@ -3,3 +3,4 @@ pub mod Frames
 pub mod Steps
 pub mod Keeps
 pub mod Sweeps
+pub mod Inserting

@@ -228,3 +228,8 @@ publishes n slots id q x me count stage has some_part s k long at small =
       subst (λ cs. Kept n record { words = set s.words (n + q) 1; homes = put_back s.homes cs; views = set s.views id w }) (sym has) (publish_at n id q x (rest me.1) s me.0 k at stage some_part),
       λ y lies_there. let same : x ≡ y = same_item x y (rest_same me.1 q (Some x) (Some y) has (subst (λ r. me.1 ≡ (r, Some y) ∷ rest me.1) place lies_there)) in
           (ap (having_put me.0) (λ i. (sym place i / 16, same i)), refl))
+
+pub publishes_at : (n slots id q i : ℕ) (x : Item) (me : Standing) → i ≡ n + q → slots ≡ 16 * n → me.0.stage ≡ Drew q → me.1 ≡ (q, Some x) ∷ rest me.1 → 0 < me.0.parts
+    → Allows (Kept n) slots id me i (λ _. 1) (plays.published (step slots i 1 0 maybe.none) me)
+publishes_at n slots id q i x me e count stage has some_part =
+    subst (λ z. Allows (Kept n) slots id me z (λ _. 1) (plays.published (step slots z 1 0 maybe.none) me)) (sym e) (publishes n slots id q x me count stage has some_part)

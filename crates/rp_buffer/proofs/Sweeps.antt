@@ -219,7 +219,7 @@ wiped_stage n phases b j (Taking k) none_has at = (at.0, wiped_else phases b k (
 
 -- the swap that opens a buffer again, once each place that was drawn is gone
 pub reopens : (n slots id b count : ℕ) (gone : List Bool) (me : Standing) → b < n → IsCarried (right_at me.0.rights (b / 8)) → keep_at me.0.rights b ≡ Closed count gone
-    → ((p : ℕ) → p < count → slice_index_or gone p false ≡ true)
+    → ((p : ℕ) → p < 16 → p < count → slice_index_or gone p false ≡ true)
     → Allows (Kept n) slots id me b (λ _. 0) (plays.opened (step slots b 0 0 maybe.none) me)
 reopens n slots id b count gone me low is keep all_gone s k long at small =
     let v = me.0 in
@@ -236,7 +236,7 @@ reopens n slots id b count gone me low is keep all_gone s k long at small =
         = λ o fits of_b. at_rest (k.rings (o / 16)).drawn_to s.homes o (k.phases o)
             (λ in_ring. let drawn_low : o % 16 < (k.rings b).drawn_to = subst (λ c. o % 16 < (k.rings c).drawn_to) of_b in_ring in
                 let number : 16 * b + o % 16 ≡ o = omega (arith, of_b) in
-                subst (λ c. k.phases c ≡ taken) number (closed.3 (o % 16) (omega arith) (all_gone (o % 16) (omega (arith, drawn_low, drawn_is)))))
+                subst (λ c. k.phases c ≡ taken) number (closed.3 (o % 16) (omega arith) (all_gone (o % 16) (omega arith) (omega (arith, drawn_low, drawn_is)))))
             (k.places o fits).1 in
     (w, keeps, tt,
       changed n id s v w k rings phases words s.homes at
@@ -274,3 +274,14 @@ reopens n slots id b count gone me low is keep all_gone s k long at small =
                 (λ of_b. (rests o fits of_b).4 h ∙ ap (lies h o) (sym (wiped_here k.phases b o of_b)))
                 (λ else. ap (lies h o) (sym (wiped_else k.phases b o else)))) in omega (arith, l))
     , (refl, refl))
+
+pub takes_at : (n slots id q i : ℕ) (me : Standing) → i ≡ n + q → slots ≡ 16 * n → q < 16 * n → 0 < me.0.parts
+    → Allows (Kept n) slots id me i (λ z. either (eqb z 1) 0 z) (plays.took (step slots i 1 0 maybe.none) me)
+takes_at n slots id q i me e count low some_part =
+    subst (λ o. Allows (Kept n) slots id me o (λ z. either (eqb z 1) 0 z) (plays.took (step slots o 1 0 maybe.none) me)) (sym e) (takes_one n slots id q me count low some_part)
+
+pub returns_at : (n slots id q i count : ℕ) (gone : List Bool) (me : Standing) → i ≡ n + q → slots ≡ 16 * n → me.0.stage ≡ Taking q → me.1 ≡ (q, None) ∷ rest me.1 → 0 < me.0.parts
+    → IsCarried (right_at me.0.rights (q / 16 / 8)) → keep_at me.0.rights (q / 16) ≡ Closed count gone
+    → Allows (Kept n) slots id me i (λ z. z) (plays.returned (step slots i 0 0 maybe.none) me)
+returns_at n slots id q i count gone me e slots_are stage has some_part is keep =
+    subst (λ o. Allows (Kept n) slots id me o (λ z. z) (plays.returned (step slots o 0 0 maybe.none) me)) (sym e) (returns_one n slots id q count gone me slots_are stage has some_part is keep)

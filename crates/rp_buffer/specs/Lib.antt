@@ -1,3 +1,4 @@
 pub mod Hands
 pub mod Slots
 pub mod Plays
+pub mod Passes

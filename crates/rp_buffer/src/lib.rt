@@ -2,9 +2,14 @@
 //! atomic steps on the words of one table.
 #![tactic(auto)]
 
+mod faults;
+mod inserts;
 mod plays;
 mod rights;
 mod rule;
+mod table;
 
+pub use faults::InsertFault;
 pub use rights::{Keep, Right};
 pub use rule::{Hand, Look, Stage};
+pub use table::{Pass, SlotTable};
