@@ -1,6 +1,7 @@
 pub mod Places
 pub mod Frames
 pub mod Steps
-pub mod Keeps
+pub mod Keeping
 pub mod Sweeps
 pub mod Inserting
+pub mod Taking

@@ -24,7 +24,7 @@ use Rattle.rp_buffer.specs.Plays as plays
 use Rattle.rp_buffer.specs.Plays.{Standing, noted, with_stage, having_taken, having_shut, having_emptied, having_opened}
 use Rattle.rp_buffer.proofs.Places.{put, put_here, put_else, at_put, left_set, left_alike}
 use Rattle.rp_buffer.proofs.Frames.{changed, placed, same_words, knows_stays, home_stays, stage_stays, keep_stays, right_stays, IsMine}
-use Rattle.rp_buffer.proofs.Keeps.{same_weight, all_kept, theirs_kept, kept_known, none_there}
+use Rattle.rp_buffer.proofs.Keeping.{same_weight, all_kept, theirs_kept, kept_known, none_there}
 use Rattle.rp_buffer.proofs.Steps.{stands}
 
 no_bool : (b : Bool) → b ≡ false → b ≡ true → ⊥

@@ -1,5 +1,6 @@
 -- What a pass knows, and how its rights are handed over (this project).
-use Rattle.std.specs.Prelude.{◌≡◌, ℕ, ◌+◌, ◌*◌, ◌/◌, ◌%◌, List, [], ◌∷◌, ◌++◌, map, slice_index_or, slice_set, Bool, true, false, replicate}
+use Rattle.std.specs.Prelude.{◌≡◌, ℕ, ◌+◌, ◌*◌, ◌/◌, ◌%◌, List, [], ◌∷◌, ◌++◌, map, slice_index_or, slice_set, Bool, true, false, not, ◌&&◌, nat_lt, take, replicate}
+use Rattle.std.specs.List.{list_all}
 use Rattle.rp_base.specs.declared.items.Item.{Item}
 use Rattle.rp_buffer.specs.declared.rule.Hand.{Hand}
 use Rattle.rp_buffer.specs.declared.rule.Stage.{Stage}
@@ -60,6 +61,19 @@ none_gone = replicate 16 false
 abbrev pub gone_too : Keep → ℕ → Keep
 gone_too Open p = Open
 gone_too (Closed count gone) p = Closed count (slice_set gone p true)
+
+-- each of the places that were drawn is taken
+abbrev pub all_gone : ℕ → List Bool → Bool
+all_gone count gone = list_all (λ is_gone. is_gone) (take count gone)
+
+-- a place was drawn and is not taken
+abbrev pub is_due : ℕ → List Bool → ℕ → Bool
+is_due count gone p = nat_lt p count && not (slice_index_or gone p false)
+
+-- a buffer is known to be closed
+abbrev pub IsClosed : Keep → Type 0
+IsClosed Open = ⊥
+IsClosed (Closed count gone) = Unit {0}
 
 -- a right is carried
 abbrev pub IsCarried : Right → Type 0

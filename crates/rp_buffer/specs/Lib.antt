@@ -2,3 +2,4 @@ pub mod Hands
 pub mod Slots
 pub mod Plays
 pub mod Passes
+pub mod Collects

@@ -2,8 +2,10 @@
 //! atomic steps on the words of one table.
 #![tactic(auto)]
 
+mod collects;
 mod faults;
 mod inserts;
+mod keeps;
 mod plays;
 mod rights;
 mod rule;
