@@ -5,3 +5,4 @@ pub mod Keeping
 pub mod Sweeps
 pub mod Inserting
 pub mod Taking
+pub mod Collecting

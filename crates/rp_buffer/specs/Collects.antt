@@ -64,9 +64,14 @@ Reopens v b w = ReopensFrom (keep_at v.rights b) v b w
 abbrev pub IsSwept : Hand → ℕ → List Item → Hand → Type 0
 IsSwept v b items w = (shut : Hand) × (swept : Hand) × Shuts v b shut × Swept b 16 shut items swept × Reopens swept b w
 
--- What a collect tells: its steps, and that just the items that it gives are those that it took.
-pub record Collects (v : Hand) (b : ℕ) (items : List Item) (w : Hand) : Type 0 where
-  pub steps : IsSwept v b items w
+-- a pass has taken these items from a buffer, in order, and nothing else changed of what it put and
+-- took
+pub record Takings (v : Hand) (b : ℕ) (items : List Item) (w : Hand) : Type 0 where
   pub taken : w.taken ≡ v.taken ++ map (λ x. (b, x)) items
   pub put : w.put ≡ v.put
   pub parts : w.parts ≡ v.parts
+
+-- What a collect tells: its steps, and that just the items that it gives are those that it took.
+pub record Collects (v : Hand) (b : ℕ) (items : List Item) (w : Hand) : Type 0 where
+  pub steps : IsSwept v b items w
+  pub takings : Takings v b items w

@@ -1,5 +1,5 @@
 -- What a pass knows, and how its rights are handed over (this project).
-use Rattle.std.specs.Prelude.{◌≡◌, ℕ, ◌+◌, ◌*◌, ◌/◌, ◌%◌, List, [], ◌∷◌, ◌++◌, map, slice_index_or, slice_set, Bool, true, false, not, ◌&&◌, nat_lt, take, replicate}
+use Rattle.std.specs.Prelude.{◌≡◌, ℕ, ◌+◌, ◌*◌, ◌/◌, ◌%◌, List, [], ◌∷◌, ◌++◌, map, length, slice_index_or, slice_set, Bool, true, false, not, ◌&&◌, nat_lt, take, replicate}
 use Rattle.std.specs.List.{list_all}
 use Rattle.rp_base.specs.declared.items.Item.{Item}
 use Rattle.rp_buffer.specs.declared.rule.Hand.{Hand}
@@ -79,6 +79,11 @@ IsClosed (Closed count gone) = Unit {0}
 abbrev pub IsCarried : Right → Type 0
 IsCarried Lacks = ⊥
 IsCarried (Carries keeps) = Unit {0}
+
+-- a right that is carried keeps eight buffers
+abbrev pub CarriesEight : Right → Type 0
+CarriesEight Lacks = Unit {0}
+CarriesEight (Carries keeps) = length keeps ≡ 8
 
 -- no rights
 abbrev pub no_rights : List Right → List Right
