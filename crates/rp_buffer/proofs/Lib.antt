@@ -6,3 +6,4 @@ pub mod Sweeps
 pub mod Inserting
 pub mod Taking
 pub mod Collecting
+pub mod Ends

@@ -2,6 +2,7 @@
 use Rattle.std.specs.Prelude.{◌≡◌, ◌≢◌, ℕ, zero, suc, ◌+◌, ◌*◌, ◌/◌, ◌<◌, ◌≤◌, Bool, true, false, List, [], ◌∷◌, ◌++◌, length, map, Option, Some, None}
 use Rattle.std.specs.Option.{option_to_list}
 use Rattle.rp_base.specs.declared.items.Item.{Item}
+use Rattle.rp_base.specs.Kept.{Kept}
 use Rattle.rp_buffer.specs.declared.rule.Hand.{Hand}
 use Rattle.rp_buffer.specs.declared.rule.Look.TheVariants.{Missed}
 use Rattle.rp_buffer.specs.declared.rights.Keep.{Keep}
@@ -43,7 +44,7 @@ abbrev pub Sweeps : Hand → ℕ → ℕ → Option Item → Hand → Type 0
 Sweeps v b p found w = SweepsFrom (keep_at v.rights b) v b p found w
 
 -- the first n places are swept, in order, and these items are found
-abbrev pub Swept : ℕ → ℕ → Hand → List Item → Hand → Type 0
+unfoldable pub Swept : ℕ → ℕ → Hand → List Item → Hand → Type 0
 Swept b zero v items w = (items ≡ []) × (w ≡ v)
 Swept b (suc n) v items w = (first : List Item) × (mid : Hand) × (found : Option Item)
     × Swept b n v first mid × Sweeps mid b n found w × (items ≡ first ++ option_to_list found)
@@ -75,3 +76,8 @@ pub record Takings (v : Hand) (b : ℕ) (items : List Item) (w : Hand) : Type 0 
 pub record Collects (v : Hand) (b : ℕ) (items : List Item) (w : Hand) : Type 0 where
   pub steps : IsSwept v b items w
   pub takings : Takings v b items w
+
+-- these items were appended to what was there, sixteen at most, and the spare room is less by no more
+abbrev pub Appends : (List Item → Hand → Type 0) → Kept Item → Kept Item → Hand → Type 0
+Appends told before after w = (items : List Item) × (length items ≤ 16) × (after.list ≡ before.list ++ items)
+    × (before.spare ≤ after.spare + length items) × told items w

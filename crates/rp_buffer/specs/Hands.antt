@@ -1,6 +1,6 @@
 -- What a pass knows, and how its rights are handed over (this project).
 use Rattle.std.specs.Prelude.{◌≡◌, ℕ, ◌+◌, ◌*◌, ◌/◌, ◌%◌, List, [], ◌∷◌, ◌++◌, map, length, slice_index_or, slice_set, Bool, true, false, not, ◌&&◌, nat_lt, take, replicate}
-use Rattle.std.specs.List.{list_all}
+use Rattle.std.specs.List.{list_all, prefix_len}
 use Rattle.rp_base.specs.declared.items.Item.{Item}
 use Rattle.rp_buffer.specs.declared.rule.Hand.{Hand}
 use Rattle.rp_buffer.specs.declared.rule.Stage.{Stage}
@@ -85,21 +85,26 @@ abbrev pub CarriesEight : Right → Type 0
 CarriesEight Lacks = Unit {0}
 CarriesEight (Carries keeps) = length keeps ≡ 8
 
+-- a right is carried
+abbrev pub is_carried : Right → Bool
+is_carried Lacks = false
+is_carried (Carries keeps) = true
+
 -- no rights
 abbrev pub no_rights : List Right → List Right
 no_rights rights = map (λ r. Lacks) rights
 
+-- the number of the least right that is carried, or of no right
+abbrev pub least_of : List Right → ℕ
+least_of rights = prefix_len (λ r. not (is_carried r)) rights
+
 -- the least right of a list alone
 abbrev pub least : List Right → List Right
-least [] = []
-least (Lacks ∷ rs) = Lacks ∷ least rs
-least (Carries keeps ∷ rs) = Carries keeps ∷ no_rights rs
+least rights = slice_set (no_rights rights) (least_of rights) (right_at rights (least_of rights))
 
 -- the others
 abbrev pub others : List Right → List Right
-others [] = []
-others (Lacks ∷ rs) = Lacks ∷ others rs
-others (Carries keeps ∷ rs) = Lacks ∷ rs
+others rights = slice_set rights (least_of rights) Lacks
 
 -- one of two rights, where not both are carried
 abbrev pub one_of : Right → Right → Right

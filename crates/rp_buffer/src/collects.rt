@@ -4,11 +4,12 @@ ghost use Rattle.std.specs.Option.{option_to_list};
 ghost use Rattle.rp_base.specs.declared.items.Item.{Item};
 ghost use Rattle.rp_buffer.specs.Hands.{right_at, IsCarried};
 ghost use Rattle.rp_buffer.specs.Passes.{known_by, IsPassOf, IsSame};
-ghost use Rattle.rp_buffer.specs.Collects.{Sweeping, Takings, Takes, Shuts, Sweeps, Reopens};
+ghost use Rattle.rp_buffer.specs.Collects.{Sweeping, Takings, Takes, Shuts, Sweeps, Swept, Reopens, Collects, Appends};
 
 use crate::keeps::{all_gone, gone_too, is_due, keep, kept, sixteen};
 use crate::plays::{Open, Return, Shut, Take};
 use crate::rights::Keep;
+use crate::flush::FlushPass;
 use crate::table::{BUFFERS, Pass, SlotTable};
 use rp_base::{Item, Items};
 
@@ -107,5 +108,38 @@ impl SlotTable {
                 .swap::<Open>(&mut pass.seat, buffer, 0);
             keep(&mut pass.rights, buffer, Keep::Open);
         }
+    }
+
+    /// Appends what is found at the sixteen places of a closed buffer, in order.
+    fn sweep_all(&self, pass: &mut Pass, buffer: usize, out: &mut Items)
+        requires of { IsPassOf self.now pass.old }
+        requires sweeping { Sweeping (known_by pass.old) buffer }
+        requires room { 16 ≤ out.old.spare }
+        ensures same { IsSame pass.old pass.new }
+        ensures told { Appends (Swept buffer 16 (known_by pass.old)) out.old out.new (known_by pass.new) }
+        ensures sweeping { Sweeping (known_by pass.new) buffer }
+    {
+        for place in 0..16 {
+            self.sweep_into(pass, buffer, place, out);
+        }
+    }
+
+    /// Closes a buffer of the flush's node, unless it is closed, takes what is published at the
+    /// places that were drawn, in order, and opens it again where all of these are taken. A drawn
+    /// place is passed over only where its word was not 1 when this call looked at it. It takes no
+    /// memory and does not wait.
+    pub fn collect(&self, pass: &mut FlushPass, buffer: u8, out: &mut Items)
+        requires of { IsPassOf self.now pass.old.pass }
+        requires node { buffer / 8 + 1 ≡ pass.old.node }
+        requires room { 16 ≤ out.old.spare }
+        ensures same { IsSame pass.old.pass pass.new.pass }
+        ensures node { pass.new.node ≡ pass.old.node }
+        ensures told { Appends (Collects (known_by pass.old.pass) buffer) out.old out.new
+            (known_by pass.new.pass) }
+    {
+        let buffer = usize::from(buffer);
+        self.shut(&mut pass.pass, buffer);
+        self.sweep_all(&mut pass.pass, buffer, out);
+        self.reopen(&mut pass.pass, buffer);
     }
 }

@@ -4,6 +4,7 @@
 
 mod collects;
 mod faults;
+mod flush;
 mod inserts;
 mod keeps;
 mod plays;
@@ -12,6 +13,7 @@ mod rule;
 mod table;
 
 pub use faults::InsertFault;
+pub use flush::FlushPass;
 pub use rights::{Keep, Right};
 pub use rule::{Hand, Look, Stage};
 pub use table::{Pass, SlotTable};
