@@ -111,6 +111,10 @@ abbrev pub one_of : Right → Right → Right
 one_of Lacks r = r
 one_of (Carries keeps) r = Carries keeps
 
+-- one right comes from another list where it is not carried
+abbrev pub with_one : List Right → List Right → ℕ → List Right
+with_one rights more i = slice_set rights i (one_of (right_at rights i) (right_at more i))
+
 -- the rights of two passes
 abbrev pub together : List Right → List Right → List Right
 together [] rs = rs

@@ -1,6 +1,6 @@
 //! What a pass keeps of the buffers of its nodes.
 ghost use Rattle.std.specs.Prelude.{◌≡◌, ◌/◌, ◌<◌, length};
-ghost use Rattle.rp_buffer.specs.Hands.{right_at, IsCarried, CarriesEight, keep_at, with_keep, gone_too, all_gone, is_due};
+ghost use Rattle.rp_buffer.specs.Hands.{right_at, IsCarried, CarriesEight, keep_at, with_keep, gone_too, all_gone, is_due, is_carried, least_of, least, others, with_one, together};
 
 use crate::rights::{Keep, Right};
 
@@ -86,4 +86,56 @@ pub(crate) fn is_due(count: u64, gone: &[bool; 16], place: usize) -> bool
     ensures { result ≡ is_due count gone.now place }
 {
     (place as u64) < count && !gone[place]
+}
+
+fn carries(right: &Right) -> bool
+    ensures { result ≡ is_carried right.now }
+{
+    matches!(right, Right::Carries(_))
+}
+
+fn first_carried(rights: &[Right; 5]) -> usize
+    ensures { result ≡ least_of rights.now }
+{
+    rights.iter().take_while(|right| !carries(right)).count()
+}
+
+/// The least right that is carried, alone. It is gone then.
+pub(crate) fn take_least(rights: &mut [Right; 5]) -> [Right; 5]
+    ensures least { result ≡ least rights.old }
+    ensures others { rights.new ≡ others rights.old }
+{
+    five(rights);
+    let number = first_carried(rights);
+    let mut alone = [Right::Lacks; 5];
+    if number < 5 {
+        alone[number] = rights[number];
+        rights[number] = Right::Lacks;
+    }
+    alone
+}
+
+/// Takes in one of another pass's rights.
+fn put_one(rights: &mut [Right; 5], more: &[Right; 5], number: usize)
+    requires { number < 5 }
+    ensures { rights.new ≡ with_one rights.old more.now number }
+{
+    if !carries(&rights[number]) {
+        rights[number] = more[number];
+    }
+}
+
+fn five(rights: &[Right; 5])
+    ensures { length rights.now ≡ 5 }
+{}
+
+/// Takes in another pass's rights.
+pub(crate) fn put_together(rights: &mut [Right; 5], more: &[Right; 5])
+    ensures { rights.new ≡ together rights.old more.now }
+{
+    five(rights);
+    five(more);
+    for number in 0..5 {
+        put_one(rights, more, number);
+    }
 }

@@ -7,6 +7,7 @@ mod faults;
 mod flush;
 mod inserts;
 mod keeps;
+mod passes;
 mod plays;
 mod rights;
 mod rule;
