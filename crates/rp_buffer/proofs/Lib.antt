@@ -7,3 +7,4 @@ pub mod Inserting
 pub mod Taking
 pub mod Collecting
 pub mod Ends
+pub mod Closing

@@ -3,3 +3,4 @@ pub mod Slots
 pub mod Plays
 pub mod Passes
 pub mod Collects
+pub mod Lefts

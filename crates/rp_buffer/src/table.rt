@@ -13,6 +13,7 @@ pub(crate) const BUFFERS: usize = 40;
 
 /// Forty proposal buffers. Buffer 8 * (node - 1) + range is that of a node's range. Threads step
 /// through a `&SlotTable`, each with a pass of its own.
+#[derive(Drop)]
 pub struct SlotTable {
     pub(crate) table: Table<Option<Item>, Hand, u64, Law, Global>,
     ghost keyed: { table.shared.key ≡ 40 },
