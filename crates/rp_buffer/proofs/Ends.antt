@@ -21,6 +21,7 @@ use Rattle.rp_buffer.specs.declared.rights.Keep.TheVariants.{Open, Closed}
 use Rattle.rp_buffer.specs.Hands.{Put, hand, bare_hand, right_at, keep_in, no_rights, least_of, least, others, one_of, with_one, together, all_rights, all_parts}
 use Rattle.rp_buffer.specs.Slots.{Phase, free, drawn, published, taking, taken, Ring, face, up, InPhase, AtStage, KeepOf, RightOf, Knows, weight, right_on, lies, left_in, weight_put, weight_taken, Kept, first}
 use Rattle.rp_buffer.specs.Plays.{left, right, both, spent}
+use Rattle.rp_buffer.proofs.Showing.{opening_ring, opening_phase, at_first}
 use Rattle.rp_buffer.proofs.Places.{left_none}
 
 no_right_at : (rights : List Right) (i : ℕ) → right_at (no_rights rights) i ≡ Lacks
@@ -102,6 +103,7 @@ splits n id v two s k at =
       long = k.long;
       counters = k.counters;
       places = k.places;
+      machine = k.machine;
       each_pass = each_snoc (λ j x. Knows n k.rings k.phases j x) views (right v)
           (record { stage = tt; rights = λ i. least_keeps n k.rings k.phases v.rights i (known.rights i); idle = λ e. (refl, refl, refl); })
           (each_set (λ j x. Knows n k.rings k.phases j x) s.views id (left v)
@@ -166,6 +168,7 @@ joins n id v other w some_part s k at away there =
       long = k.long;
       counters = k.counters;
       places = k.places;
+      machine = k.machine;
       each_pass = each_set (λ j x. Knows n k.rings k.phases j x) views other spent
           (record { stage = tt; rights = λ i. subst (λ r. RightOf n k.rings k.phases i r) (sym (nothing_at i)) tt; idle = λ e. (refl, refl, refl); })
           (λ j x _ e. each_set (λ i y. Knows n k.rings k.phases i y) s.views id (both v w)
@@ -215,12 +218,6 @@ first_rights zero (suc i) = inl refl
 first_rights (suc m) zero = inr (refl, omega arith)
 first_rights (suc m) (suc i) = ⊎_elim (λ h. inl h) (λ h. let low = h.1 in inr (h.0, omega (arith, low))) (first_rights m i)
 
-abbrev opening_ring : ℕ → Ring
-opening_ring b = record { drawn_to = 0; is_open = true }
-
-abbrev opening_phase : ℕ → Phase
-opening_phase k = free
-
 first_knows : (n id : ℕ) → Knows n opening_ring opening_phase id (first n)
 first_knows n id = record {
   stage = tt;
@@ -244,6 +241,7 @@ opens n words slots wide long = record {
   long = length-map (empty_slots slots) maybe.some ∙ length-replicate slots None ∙ long;
   counters = λ b fits. (omega arith, naught_at words b);
   places = λ k fits. (naught_at words (n + k), (omega arith, empty_at slots k (omega (arith, fits, long))));
+  machine = λ b fits. at_first b;
   each_pass = only_first;
   parted = let e = sum_by-cons (λ (x : Hand). x.parts) (first n) [] in omega (arith, e);
   once = λ i. let e = sum_by-cons (right_on i) (first n) [] in let m = weighs_one (right_at (first n).rights i) in omega (arith, e, m);

@@ -18,6 +18,8 @@ use Rattle.rp_buffer.specs.declared.rights.Keep.{Keep}
 use Rattle.rp_buffer.specs.declared.rights.Keep.TheVariants.{Open, Closed}
 use Rattle.rp_buffer.specs.Hands.{Put, right_at, keep_in}
 use Rattle.rp_buffer.specs.Slots.{Phase, free, drawn, published, taking, taken, Ring, face, up, InPhase, AtStage, KeepOf, RightOf, Knows, weight, right_on, lies, left_in, weight_put, weight_taken, Kept}
+use Rattle.rp_buffer.specs.Machine.{shown, IsReached}
+use Rattle.rp_buffer.proofs.Showing.{place_else}
 use Rattle.rp_buffer.proofs.Places.{put, put_here, put_else, at_put, left_set}
 
 -- the words, the slots, the rings, the phases and one view change
@@ -27,13 +29,14 @@ pub changed : (n id : ℕ) (s : State (Option Item) Hand) (v w : Hand) (k : Kept
     → length words ≡ 17 * n → length homes ≡ 16 * n
     → ((b : ℕ) → b < n → ((rings b).drawn_to ≤ 16) × (slice_index words b ≡ face (rings b)))
     → ((q : ℕ) → q < 16 * n → (slice_index words (n + q) ≡ up (phases q)) × InPhase (rings (q / 16)).drawn_to homes q (phases q))
+    → ((b : ℕ) → b < n → IsReached (shown rings phases b))
     → Knows n rings phases id w
     → ((j : ℕ) (u : Hand) → j ≢ id → get_elem? s.views j ≡ maybe.some u → Knows n rings phases j u)
     → w.parts ≡ v.parts
     → ((i : ℕ) → right_on i w ≤ right_on i v)
     → ((h : Put → ℕ) → weight_put h w + weight_taken h v + left_in (16 * n) k.phases h ≡ weight_put h v + weight_taken h w + left_in (16 * n) phases h)
     → Kept n record { words = words; homes = homes; views = set s.views id w }
-changed n id s v w k rings phases words homes at wide long counters places mine theirs same_parts fewer even =
+changed n id s v w k rings phases words homes at wide long counters places reached mine theirs same_parts fewer even =
     let p = total_set (λ (x : Hand). x.parts) s.views id v w at in
     let parted = k.parted in
     record {
@@ -43,6 +46,7 @@ changed n id s v w k rings phases words homes at wide long counters places mine 
       long = long;
       counters = counters;
       places = places;
+      machine = reached;
       each_pass = each_set (λ j u. Knows n rings phases j u) s.views id w mine theirs;
       parted = omega (arith, p, parted, same_parts);
       once = λ i. let r = total_set (right_on i) s.views id v w at in let o = k.once i in let f = fewer i in omega (arith, r, o, f);
@@ -128,12 +132,13 @@ pub placed : (n id q u : ℕ) (p : Phase) (s : State (Option Item) Hand) (homes 
     → length homes ≡ 16 * n
     → ((o : ℕ) → o ≢ q → get_elem? homes o ≡ get_elem? s.homes o)
     → InPhase (k.rings (q / 16)).drawn_to homes q p
+    → (IsReached (shown k.rings k.phases (q / 16)) → IsReached (shown k.rings (put k.phases q p) (q / 16)))
     → Knows n k.rings (put k.phases q p) id w
     → w.parts ≡ v.parts
     → ((i : ℕ) → right_on i w ≤ right_on i v)
     → ((h : Put → ℕ) → weight_put h w + weight_taken h v + lies h q (k.phases q) ≡ weight_put h v + weight_taken h w + lies h q p)
     → Kept n record { words = set s.words (n + q) u; homes = homes; views = set s.views id w }
-placed n id q u p s homes v w k at low mine is_up long else_same in_phase known same_parts fewer even =
+placed n id q u p s homes v w k at low mine is_up long else_same in_phase goes known same_parts fewer even =
     let words : List ℕ = set s.words (n + q) u in
     let wide = k.wide in
     changed n id s v w k k.rings (put k.phases q p) words homes at
@@ -144,6 +149,9 @@ placed n id q u p s homes v w k at low mine is_up long else_same in_phase known 
              , subst (λ x. InPhase (k.rings (x / 16)).drawn_to homes x p) (sym e) in_phase))
         (λ away. (get_or-set_other s.words (n + q) (n + o) u 0 (λ e. away (omega (arith, e))) ∙ (k.places o small).0
              , home_stays (k.rings (o / 16)).drawn_to s.homes homes o (k.phases o) (else_same o away) (k.places o small).1)))
+    (λ b small. dite (ℕ_discrete b (q / 16))
+        (λ e. subst (λ c. IsReached (shown k.rings (put k.phases q p) c)) (sym e) (goes (k.machine (q / 16) (omega (arith, low)))))
+        (λ away. subst IsReached (place_else k.rings k.phases q b p away) (k.machine b small)))
     known
     (λ j x away e. knows_stays n k.rings k.phases q id j p x mine away (k.each_pass j x e))
     same_parts fewer

@@ -1,4 +1,5 @@
 pub mod Places
+pub mod Showing
 pub mod Frames
 pub mod Steps
 pub mod Keeping

@@ -23,6 +23,8 @@ use Rattle.rp_buffer.specs.Hands.{Put, hand, right_at, keep_in}
 use Rattle.rp_buffer.specs.Slots.{Phase, free, drawn, published, taking, taken, Ring, face, up, InPhase, AtStage, KeepOf, RightOf, Knows, weight, right_on, lies, left_in, weight_put, weight_taken, Kept}
 use Rattle.rp_buffer.specs.Plays as plays
 use Rattle.rp_buffer.specs.Plays.{Standing, noted, with_stage, having_put}
+use Rattle.rp_buffer.specs.Machine.{shown, IsReached}
+use Rattle.rp_buffer.proofs.Showing.{after_drawn, after_published, drawn_away}
 use Rattle.rp_buffer.proofs.Places.{put, put_here, put_else, at_put, left_set}
 use Rattle.rp_buffer.proofs.Frames.{changed, placed, same_words, knows_stays, home_stays, stage_stays, right_stays, IsMine}
 
@@ -40,7 +42,7 @@ pub stands : (n id i : ℕ) (look : Look) (s : State (Option Item) Hand) (v : Ha
 stands n id i look s v k at =
     let known = k.each_pass id v at in
     subst (λ (ws : List ℕ). Kept n record { words = ws; homes = s.homes; views = set s.views id (noted v look) }) (sym (same_words s.words i))
-    (changed n id s v (noted v look) k k.rings k.phases s.words s.homes at k.wide k.long k.counters k.places
+    (changed n id s v (noted v look) k k.rings k.phases s.words s.homes at k.wide k.long k.counters k.places k.machine
       (record { stage = known.stage; rights = known.rights; idle = known.idle; })
       (λ j u away e. k.each_pass j u e)
       refl (λ i. omega arith) (λ h. refl))
@@ -142,6 +144,10 @@ draw_hits n id b old s v k at low below found stage some_part w same_parts drew 
                         more_drawn (k.rings b).drawn_to (old + 1) s.homes o (k.phases o) (omega (arith, d))
                           (λ f. let past : (k.rings b).drawn_to ≤ o % 16 = still_past (k.rings b).drawn_to s.homes o (k.phases o) f was in omega (arith, past, d, e, away)) was)
                     (λ else same. (k.places o small).1) refl))))
+      (λ c small. dite (ℕ_discrete c b)
+          (λ e. subst (λ z. IsReached (shown rings phases z)) (sym e)
+            (after_drawn k.rings k.phases b old id opened.0 opened.1 below (k.machine b low)))
+          (λ away. subst IsReached (drawn_away k.rings k.phases b c q after (drawn id) away of_b) (k.machine c small)))
       (record {
         stage = subst (λ st. AtStage n phases id st) (sym drew) (in_q, put_here k.phases q q (drawn id) refl);
         rights = λ i. subst (λ rs. RightOf n rings phases i (right_at rs i)) (sym same_rights) (right_free n k.rings k.phases b q id i after (right_at v.rights i) opened.0 refl place.0 (known.rights i));
@@ -198,6 +204,7 @@ publish_at n id q x tl s v k at stage some_part =
       (length-set s.homes q (maybe.some (Some x)) ∙ k.long)
       (λ o away. home_again s.homes q o (Some x) away)
       (drawn_low (k.rings (q / 16)).drawn_to s.homes q id (k.phases q) mine.1 (k.places q mine.0).1, set_here s.homes q (maybe.some (Some x)) (omega (arith, long, low)))
+      (after_published k.rings k.phases q id x mine.1)
       (record {
         stage = tt;
         rights = λ i. right_stays n k.rings k.phases q i (published x) (right_at v.rights i) (λ e. let d = mine.1 in cc) (known.rights i);

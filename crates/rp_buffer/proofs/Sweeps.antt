@@ -22,6 +22,8 @@ use Rattle.rp_buffer.specs.Hands.{Put, hand, right_at, keep_in, keep_at, with_ke
 use Rattle.rp_buffer.specs.Slots.{Phase, free, drawn, published, taking, taken, Ring, face, up, InPhase, AtStage, KeepOf, RightOf, Knows, weight, right_on, lies, left_in, weight_put, weight_taken, Kept}
 use Rattle.rp_buffer.specs.Plays as plays
 use Rattle.rp_buffer.specs.Plays.{Standing, noted, with_stage, having_taken, having_shut, having_emptied, having_opened}
+use Rattle.rp_buffer.specs.Machine.{shown, IsReached}
+use Rattle.rp_buffer.proofs.Showing.{wiped, wiped_here, wiped_else, after_shut, after_taken, after_home, after_opened, ring_away, wiped_away}
 use Rattle.rp_buffer.proofs.Places.{put, put_here, put_else, at_put, left_set, left_alike}
 use Rattle.rp_buffer.proofs.Frames.{changed, placed, same_words, knows_stays, home_stays, stage_stays, keep_stays, right_stays, IsMine}
 use Rattle.rp_buffer.proofs.Keeping.{same_weight, all_kept, theirs_kept, kept_known, none_there}
@@ -67,6 +69,9 @@ shuts n slots id b me low is keep s k long at small =
             , at_put (λ x (ring : Ring). x ≡ o / 16 → InPhase ring.drawn_to s.homes o (k.phases o)) k.rings b after (o / 16)
                 (λ e same. subst (λ c. InPhase (k.rings c).drawn_to s.homes o (k.phases o)) e (k.places o fits).1)
                 (λ away same. (k.places o fits).1) refl))
+        (λ c fits. dite (ℕ_discrete c b)
+          (λ e. subst (λ z. IsReached (shown rings k.phases z)) (sym e) (after_shut k.rings k.phases b after refl refl (k.machine b low)))
+          (λ away. subst IsReached (ring_away k.rings k.phases b c after away) (k.machine c fits)))
         (record {
           stage = known.stage;
           rights = all_kept n k.rings rings k.phases k.phases v.rights b (Closed found none_gone) is
@@ -104,6 +109,7 @@ take_hits n id q x s v k at low is_there fits some_part =
       (length-set s.homes q maybe.none ∙ k.long)
       (λ o away. set_else s.homes q o maybe.none away)
       fits
+      (after_taken k.rings k.phases q id x is_there)
       (record {
         stage = (low, put_here k.phases q q (taking id) refl);
         rights = λ i. right_stays n k.rings k.phases q i (taking id) (right_at v.rights i) (λ e. cc) (known.rights i);
@@ -160,6 +166,7 @@ empty_at n id q count gone tl s v k at stage some_part is keep =
       (length-set s.homes q (maybe.some None) ∙ k.long)
       (λ o away. set_else s.homes q o (maybe.some None) away)
       (taking_low (k.rings b).drawn_to s.homes q id (k.phases q) mine.1 (k.places q mine.0).1, set_here s.homes q (maybe.some None) (omega (arith, long, low)))
+      (after_home k.rings k.phases q id mine.1)
       (record {
         stage = tt;
         rights = all_kept n k.rings k.rings k.phases (put k.phases q taken) v.rights b (gone_too (keep_at v.rights b) (q % 16)) is
@@ -184,16 +191,6 @@ returns_one n slots id q count gone me slots_are stage has some_part is keep s k
       subst (λ cs. Kept n record { words = set s.words (n + q) (slice_index s.words (n + q)); homes = put_back s.homes cs; views = set s.views id w }) (sym has)
         (empty_at n id q count gone (rest me.1) s me.0 k at stage some_part is keep),
       (ap (having_emptied me.0) place, refl))
-
--- the places of one buffer are free again
-abbrev wiped : (ℕ → Phase) → ℕ → ℕ → Phase
-wiped phases b k = cond (eqb (k / 16) b) free (phases k)
-
-wiped_here : (phases : ℕ → Phase) (b k : ℕ) → k / 16 ≡ b → wiped phases b k ≡ free
-wiped_here phases b k e = ap (λ (t : Bool). cond t free (phases k)) (eq-eqb (k / 16) b e)
-
-wiped_else : (phases : ℕ → Phase) (b k : ℕ) → k / 16 ≢ b → wiped phases b k ≡ phases k
-wiped_else phases b k away = ap (λ (t : Bool). cond t free (phases k)) (ne_eqb (k / 16) b away)
 
 -- a place of a buffer is at rest: taken, or not drawn
 at_rest : (d : ℕ) (homes : List (maybe.Option (Option Item))) (k : ℕ) (p : Phase) → (k % 16 < d → p ≡ taken) → InPhase d homes k p
@@ -254,6 +251,11 @@ reopens n slots id b count gone me low is keep all_gone s k long at small =
           (λ away. subst (λ (p : Phase). (slice_index words (n + o) ≡ up p) × InPhase (rings (o / 16)).drawn_to s.homes o p) (sym (wiped_else k.phases b o away))
                 (get_or-set_other s.words b (n + o) 0 0 (λ same. omega (arith, same, low)) ∙ (k.places o fits).0
                 , subst (λ (ring : Ring). InPhase ring.drawn_to s.homes o (k.phases o)) (sym (put_else k.rings b (o / 16) after away)) (k.places o fits).1)))
+        (λ c fits. dite (ℕ_discrete c b)
+          (λ e. subst (λ z. IsReached (shown rings phases z)) (sym e)
+            (after_opened k.rings k.phases b after refl refl (k.counters b low).0
+              (λ p fits low_p. closed.3 p fits (all_gone p fits (omega (arith, low_p, drawn_is)))) (k.machine b low)))
+          (λ away. subst IsReached (wiped_away k.rings k.phases b c after away) (k.machine c fits)))
         (record {
           stage = wiped_stage n k.phases b id v.stage (λ o fits of_b. ((rests o fits of_b).2 id, (rests o fits of_b).3 id)) known.stage;
           rights = all_kept n k.rings rings k.phases phases v.rights b Open is

@@ -1,4 +1,5 @@
 pub mod Hands
+pub mod Machine
 pub mod Slots
 pub mod Plays
 pub mod Passes

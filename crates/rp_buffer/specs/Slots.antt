@@ -12,21 +12,9 @@ use Rattle.rp_buffer.specs.declared.rights.Right.{Right}
 use Rattle.rp_buffer.specs.declared.rights.Right.TheVariants.{Lacks, Carries}
 use Rattle.rp_buffer.specs.declared.rights.Keep.{Keep}
 use Rattle.rp_buffer.specs.declared.rights.Keep.TheVariants.{Open, Closed}
+pub use Rattle.rp_buffer.specs.Machine.{Phase, free, drawn, published, taking, taken, Ring}
+use Rattle.rp_buffer.specs.Machine.{shown, IsReached}
 use Rattle.rp_buffer.specs.Hands.{Put, all_parts, bare_hand, right_at, keep_in, all_rights}
-
--- A place is free, drawn by the pass of this number, published with an item, being emptied by the
--- pass of this number, or taken.
-pub data Phase : Type 0 where
-  free : Phase
-  drawn : ℕ → Phase
-  published : Item → Phase
-  taking : ℕ → Phase
-  taken : Phase
-
--- how many places are drawn, and whether more can be drawn
-pub record Ring : Type 0 where
-  pub drawn_to : ℕ
-  pub is_open : Bool
 
 -- the counter tells how many places are drawn, and 16 where none can be drawn
 abbrev pub face : Ring → ℕ
@@ -104,7 +92,7 @@ abbrev pub weight_taken : (Put → ℕ) → Hand → ℕ
 weight_taken h v = sum_by h v.taken
 
 -- After every step there are n buffers with 16 places each, which the words, the slots at home and
--- the passes show. Each node's right is carried once at most, and what was put is what was taken
+-- the passes show, and each is a state that the buffer machine comes to. Each node's right is carried once at most, and what was put is what was taken
 -- and what lies in the slots, by any weight.
 pub record Kept (n : ℕ) (s : State (Option Item) Hand) : Type 0 where
   pub rings : ℕ → Ring
@@ -113,6 +101,7 @@ pub record Kept (n : ℕ) (s : State (Option Item) Hand) : Type 0 where
   pub long : length s.homes ≡ 16 * n
   pub counters : (b : ℕ) → b < n → ((rings b).drawn_to ≤ 16) × (slice_index s.words b ≡ face (rings b))
   pub places : (k : ℕ) → k < 16 * n → (slice_index s.words (n + k) ≡ up (phases k)) × InPhase (rings (k / 16)).drawn_to s.homes k (phases k)
+  pub machine : (b : ℕ) → b < n → IsReached (shown rings phases b)
   pub each_pass : (id : ℕ) (v : Hand) → get_elem? s.views id ≡ maybe.some v → Knows n rings phases id v
   pub parted : sum_by (λ (v : Hand). v.parts) s.views ≡ all_parts
   pub once : (i : ℕ) → sum_by (right_on i) s.views ≤ 1

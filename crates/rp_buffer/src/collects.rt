@@ -134,6 +134,7 @@ impl SlotTable {
         requires room { 16 ≤ out.old.spare }
         ensures same { IsSame pass.old.pass pass.new.pass }
         ensures node { pass.new.node ≡ pass.old.node }
+        ensures parts { (known_by pass.new.pass).parts ≡ (known_by pass.old.pass).parts }
         ensures told { Appends (Collects (known_by pass.old.pass) buffer) out.old out.new
             (known_by pass.new.pass) }
     {
