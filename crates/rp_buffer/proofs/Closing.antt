@@ -49,7 +49,7 @@ all_weigh zero h s k slots most at_home = refl
 all_weigh (suc m) h s k slots most at_home =
     let below = all_weigh m h s k slots (omega (arith, most)) at_home in
     let here : sum_by h (map pair_of (found_at m (slice_index s.words (40 + m)) (slice_index_or slots m None))) ≡ lies h m (k.phases m)
-        = place_weighs h m (k.rings (m / 16)).drawn_to (slice_index s.words (40 + m)) s.homes slots (k.phases m) (k.places m (omega (arith, most))).0 (k.places m (omega (arith, most))).1 (at_home m) in
+    = place_weighs h m (k.rings (m / 16)).drawn_to (slice_index s.words (40 + m)) s.homes slots (k.phases m) (k.places m (omega (arith, most))).0 (k.places m (omega (arith, most))).1 (at_home m) in
     let more : List LeftItem = found_at m (slice_index s.words (40 + m)) (slice_index_or slots m None) in
     let split : map pair_of (lying m s.words slots ++ more) ≡ map pair_of (lying m s.words slots) ++ map pair_of more = map-append pair_of (lying m s.words slots) more in
     let sum = sum_by-append h (map pair_of (lying m s.words slots)) (map pair_of more) in
@@ -73,9 +73,9 @@ settled h id v words slots all final =
 count_is_sum : (test : Put → Bool) (xs : List Put) → sum_by (λ x. cond (test x) 1 0) xs ≡ count_by test xs
 count_is_sum test xs = is_count_by (sum_by (λ x. cond (test x) 1 0)) test refl (λ x ys. sum_by-cons (λ y. cond (test y) 1 0) x ys ∙ by_test (test x) (sum_by (λ y. cond (test y) 1 0) ys)) xs
   where
-  by_test : (b : Bool) (n : ℕ) → cond b 1 0 + n ≡ cond b (1 + n) n
-  by_test true n = refl
-  by_test false n = omega arith
+    by_test : (b : Bool) (n : ℕ) → cond b 1 0 + n ≡ cond b (1 + n) n
+    by_test true n = refl
+    by_test false n = omega arith
 
 pub settles : (id : ℕ) (v : Hand) (words : List ℕ) (slots : List (Option Item)) → v.parts ≡ all_parts → Final (Seen (Kept 40) id v) words slots
     → PutIsTakenOrLeft v (lying 640 words slots)
@@ -96,10 +96,11 @@ unfolding lying
 lying_next k words slots before now after is next =
     next ∙ ap (λ l. l ++ more) is ∙ append_assoc before (lying k words slots) more ∙ ap (λ z. before ++ lying z words slots) (suc_is k)
   where
-  more : List LeftItem
-  more = found_at k (slice_index words (40 + k)) (slice_index_or slots k None)
-  suc_is : (n : ℕ) → suc n ≡ n + 1
-  suc_is n = omega arith
+    more : List LeftItem
+    more = found_at k (slice_index words (40 + k)) (slice_index_or slots k None)
+
+    suc_is : (n : ℕ) → suc n ≡ n + 1
+    suc_is n = omega arith
 
 -- which slots are empty so far
 pub record Emptied (filled : List Bool) (place : ℕ) : Type 0 where

@@ -20,7 +20,7 @@ append_nothing [] = refl
 append_nothing (x ∷ xs) = ap (λ (ys : List _). x ∷ ys) (append_nothing xs)
 
 no_takings : (v : Hand) (b : ℕ) → Takings v b [] v
-no_takings v b = record { taken = append_nothing v.taken; put = refl; parts = refl; }
+no_takings v b = record { taken = append_nothing v.taken; put = refl; parts = refl }
 
 pub carried_so : (r : Right) → is_carried r ≡ true → IsCarried r
 carried_so Lacks e = absurd (cc)
@@ -71,7 +71,7 @@ takings_chain v m w b xs ys one two = record {
 }
 
 takes_takings : (v w : Hand) (b k : ℕ) (found : Option Item) → k / 16 ≡ b → Takes v k found w → Takings v b (option_to_list found) w
-takes_takings v w b k None of told = subst (λ (y : Hand). Takings v b [] y) (sym told.2) (record { taken = append_nothing v.taken; put = refl; parts = refl; })
+takes_takings v w b k None of told = subst (λ (y : Hand). Takings v b [] y) (sym told.2) (record { taken = append_nothing v.taken; put = refl; parts = refl })
 takes_takings v w b k (Some x) of told = record {
   taken = ap (λ (y : Hand). y.taken) told ∙ ap (λ z. v.taken ++ (z, x) ∷ []) of;
   put = ap (λ (y : Hand). y.put) told;
@@ -95,10 +95,10 @@ unfolding Swept
 swept_takings zero b v w items most told = subst (λ (y : Hand). Takings v b items y) (sym told.1) (subst (λ l. Takings v b l v) (sym told.0) (no_takings v b))
 swept_takings (suc n) b v w items most (first, mid, found, before, here, is) =
     subst (λ l. Takings v b l w) (sym is)
-      (takings_chain v mid w b first (option_to_list found) (swept_takings n b v mid first (omega (arith, most)) before) (sweeps_from (keep_at mid.rights b) mid w b n found (omega (arith, most)) here))
+    (takings_chain v mid w b first (option_to_list found) (swept_takings n b v mid first (omega (arith, most)) before) (sweeps_from (keep_at mid.rights b) mid w b n found (omega (arith, most)) here))
 
 reopens_if : (t : Bool) (v w : Hand) (b : ℕ) → ReopensIf t v b w → Takings v b [] w
-reopens_if true v w b told = subst (λ (y : Hand). Takings v b [] y) (sym told) (record { taken = append_nothing v.taken; put = refl; parts = refl; })
+reopens_if true v w b told = subst (λ (y : Hand). Takings v b [] y) (sym told) (record { taken = append_nothing v.taken; put = refl; parts = refl })
 reopens_if false v w b told = subst (λ (y : Hand). Takings v b [] y) (sym told) (no_takings v b)
 
 reopens_from : (keep : Keep) (v w : Hand) (b : ℕ) → ReopensFrom keep v b w → Takings v b [] w
@@ -118,8 +118,8 @@ pub swept_next : (b n : ℕ) (v mid w : Hand) (first : List Item) (found : Optio
 unfolding Swept
 swept_next b n v mid w first found before here = subst (λ m. Swept b m v (first ++ option_to_list found) w) (suc_is n) (first, mid, found, before, here, refl)
   where
-  suc_is : (n : ℕ) → suc n ≡ n + 1
-  suc_is n = omega arith
+    suc_is : (n : ℕ) → suc n ≡ n + 1
+    suc_is n = omega arith
 
 -- nothing is swept yet
 pub swept_none : (b : ℕ) (v : Hand) → Swept b 0 v [] v
@@ -133,10 +133,14 @@ pub one_more : (before mid after : kept.Kept Item) (v m w : Hand) (b n : ℕ)
     → (items : List Item) × (length items ≤ n + 1) × (after.list ≡ before.list ++ items) × (before.spare ≤ after.spare + length items) × Swept b (n + 1) v items w
 one_more before mid after v m w b n (items, most, list, spare, swept) (found, more, room, here) =
     let sum = length-append items (option_to_list found) in
-    let one = at_most_one found in
-    (items ++ option_to_list found, omega (arith, sum, most, one), more ∙ ap (λ l. l ++ option_to_list found) list ∙ append_assoc before.list items (option_to_list found),
-      omega (arith, sum, spare, room), swept_next b n v m w items found swept here)
+    let one = at_most_one found in (
+      items ++ option_to_list found,
+      omega (arith, sum, most, one),
+      more ∙ ap (λ l. l ++ option_to_list found) list ∙ append_assoc before.list items (option_to_list found),
+      omega (arith, sum, spare, room),
+      swept_next b n v m w items found swept here,
+    )
   where
-  at_most_one : (found : Option Item) → length (option_to_list found) ≤ 1
-  at_most_one None = omega arith
-  at_most_one (Some x) = omega arith
+    at_most_one : (found : Option Item) → length (option_to_list found) ≤ 1
+    at_most_one None = omega arith
+    at_most_one (Some x) = omega arith

@@ -49,27 +49,27 @@ one_half rights i =
     let p : ℕ = least_of rights in
     dite (ℕ_discrete i p)
     (λ e. ⊎_elim
-        (λ here. ⊎_elim
-          (λ gone. inl (here ∙ ap (right_at rights) (sym e), gone))
-          (λ short. inl (here ∙ ap (right_at rights) (sym e), short.0))
-          (set_at rights p i Lacks e))
-        (λ short. ⊎_elim
-          (λ gone. ⊎_elim
-              (λ same. inr (short.0, gone ∙ sym same))
-              (λ same. absurd (same))
-              (lost rights p i e short.0))
-          (λ none. inr (short.0, none.0 ∙ sym none.1))
-          (set_at rights p i Lacks e))
-        (set_at (no_rights rights) p i (right_at rights p) e))
+    (λ here. ⊎_elim
+    (λ gone. inl (here ∙ ap (right_at rights) (sym e), gone))
+    (λ short. inl (here ∙ ap (right_at rights) (sym e), short.0))
+    (set_at rights p i Lacks e))
+    (λ short. ⊎_elim
+    (λ gone. ⊎_elim
+    (λ same. inr (short.0, gone ∙ sym same))
+    (λ same. absurd (same))
+    (lost rights p i e short.0))
+    (λ none. inr (short.0, none.0 ∙ sym none.1))
+    (set_at rights p i Lacks e))
+    (set_at (no_rights rights) p i (right_at rights p) e))
     (λ away. inr (get_or-set_other (no_rights rights) p i (right_at rights p) Lacks away ∙ no_right_at rights i, get_or-set_other rights p i Lacks Lacks away))
   where
-  lost : (rights : List Right) (p i : ℕ) → i ≡ p → right_at (set (no_rights rights) p (right_at rights p)) i ≡ Lacks → (right_at rights i ≡ Lacks) ⊎ ⊥
-  lost [] p zero e is = inl refl
-  lost [] p (suc i) e is = inl refl
-  lost (x ∷ xs) zero zero e is = inl is
-  lost (x ∷ xs) zero (suc i) e is = inr (omega (arith, e))
-  lost (x ∷ xs) (suc p) zero e is = inr (omega (arith, e))
-  lost (x ∷ xs) (suc p) (suc i) e is = lost xs p i (omega (arith, e)) is
+    lost : (rights : List Right) (p i : ℕ) → i ≡ p → right_at (set (no_rights rights) p (right_at rights p)) i ≡ Lacks → (right_at rights i ≡ Lacks) ⊎ ⊥
+    lost [] p zero e is = inl refl
+    lost [] p (suc i) e is = inl refl
+    lost (x ∷ xs) zero zero e is = inl is
+    lost (x ∷ xs) zero (suc i) e is = inr (omega (arith, e))
+    lost (x ∷ xs) (suc p) zero e is = inr (omega (arith, e))
+    lost (x ∷ xs) (suc p) (suc i) e is = lost xs p i (omega (arith, e)) is
 
 least_keeps : (n : ℕ) (rings : ℕ → Ring) (phases : ℕ → Phase) (rights : List Right) (i : ℕ) → RightOf n rings phases i (right_at rights i) → RightOf n rings phases i (right_at (least rights) i)
 least_keeps n rings phases rights i known = ⊎_elim
@@ -105,10 +105,10 @@ splits n id v two s k at =
       places = k.places;
       machine = k.machine;
       each_pass = each_snoc (λ j x. Knows n k.rings k.phases j x) views (right v)
-          (record { stage = tt; rights = λ i. least_keeps n k.rings k.phases v.rights i (known.rights i); idle = λ e. (refl, refl, refl); })
+          (record { stage = tt; rights = λ i. least_keeps n k.rings k.phases v.rights i (known.rights i); idle = λ e. (refl, refl, refl) })
           (each_set (λ j x. Knows n k.rings k.phases j x) s.views id (left v)
-            (record { stage = known.stage; rights = λ i. others_keep n k.rings k.phases v.rights i (known.rights i); idle = λ none_left. absurd (omega (arith, none_left, two)); })
-            (λ j x away e. k.each_pass j x e));
+          (record { stage = known.stage; rights = λ i. others_keep n k.rings k.phases v.rights i (known.rights i); idle = λ none_left. absurd (omega (arith, none_left, two)) })
+          (λ j x away e. k.each_pass j x e));
       parted = omega (arith, p, parted, more_parts, two);
       once = λ i. let r = total_set (right_on i) s.views id v (left v) at in let more = sum_by_push (right_on i) views (right v) in
           let o = k.once i in let h = halves_weigh v.rights i in omega (arith, r, more, o, h);
@@ -122,21 +122,22 @@ together_at [] [] zero = refl
 together_at [] [] (suc i) = refl
 together_at [] (q ∷ qs) i = one_of_none [] (q ∷ qs) i
   where
-  one_of_none : (a b : List Right) (i : ℕ) → right_at b i ≡ one_of (right_at [] i) (right_at b i)
-  one_of_none a b zero = refl
-  one_of_none a b (suc i) = refl
+    one_of_none : (a b : List Right) (i : ℕ) → right_at b i ≡ one_of (right_at [] i) (right_at b i)
+    one_of_none a b zero = refl
+    one_of_none a b (suc i) = refl
 together_at (r ∷ rs) [] zero = one_of_lacks r
   where
-  one_of_lacks : (r : Right) → r ≡ one_of r Lacks
-  one_of_lacks Lacks = refl
-  one_of_lacks (Carries ks) = refl
+    one_of_lacks : (r : Right) → r ≡ one_of r Lacks
+    one_of_lacks Lacks = refl
+    one_of_lacks (Carries ks) = refl
 together_at (r ∷ rs) [] (suc i) = one_of_lacks (right_at rs i) ∙ ap (one_of (right_at rs i)) (none_at i)
   where
-  one_of_lacks : (r : Right) → r ≡ one_of r Lacks
-  one_of_lacks Lacks = refl
-  one_of_lacks (Carries ks) = refl
-  none_at : (i : ℕ) → Lacks ≡ right_at [] (suc i)
-  none_at i = refl
+    one_of_lacks : (r : Right) → r ≡ one_of r Lacks
+    one_of_lacks Lacks = refl
+    one_of_lacks (Carries ks) = refl
+
+    none_at : (i : ℕ) → Lacks ≡ right_at [] (suc i)
+    none_at i = refl
 together_at (r ∷ rs) (q ∷ qs) zero = refl
 together_at (r ∷ rs) (q ∷ qs) (suc i) = together_at rs qs i
 
@@ -170,15 +171,15 @@ joins n id v other w some_part s k at away there =
       places = k.places;
       machine = k.machine;
       each_pass = each_set (λ j x. Knows n k.rings k.phases j x) views other spent
-          (record { stage = tt; rights = λ i. subst (λ r. RightOf n k.rings k.phases i r) (sym (nothing_at i)) tt; idle = λ e. (refl, refl, refl); })
+          (record { stage = tt; rights = λ i. subst (λ r. RightOf n k.rings k.phases i r) (sym (nothing_at i)) tt; idle = λ e. (refl, refl, refl) })
           (λ j x _ e. each_set (λ i y. Knows n k.rings k.phases i y) s.views id (both v w)
-            (record {
-              stage = known.stage;
-              rights = λ i. subst (λ r. RightOf n k.rings k.phases i r) (sym (together_at v.rights w.rights i))
-                  (one_keeps n k.rings k.phases i (right_at v.rights i) (right_at w.rights i) (known.rights i) (theirs.rights i));
-              idle = λ none_left. absurd (omega (arith, none_left, some_part));
-            })
-            (λ i y _ d. k.each_pass i y d) j x e);
+          (record {
+            stage = known.stage;
+            rights = λ i. subst (λ r. RightOf n k.rings k.phases i r) (sym (together_at v.rights w.rights i))
+                (one_keeps n k.rings k.phases i (right_at v.rights i) (right_at w.rights i) (known.rights i) (theirs.rights i));
+            idle = λ none_left. absurd (omega (arith, none_left, some_part));
+          })
+          (λ i y _ d. k.each_pass i y d) j x e);
       parted = omega (arith, p, parted, more_parts);
       once = λ i. let r = total_set (right_on i) s.views id v (both v w) at in let more = total_set (right_on i) views other w spent there in
           let o = k.once i in let h = one_weighs (right_at v.rights i) (right_at w.rights i) in let e = ap weight (together_at v.rights w.rights i) in
@@ -224,7 +225,7 @@ first_knows n id = record {
   rights = λ i. ⊎_elim
       (λ h. subst (λ r. RightOf n opening_ring opening_phase i r) (sym h) tt)
       (λ h. let low = h.1 in subst (λ r. RightOf n opening_ring opening_phase i r) (sym h.0)
-        (omega (arith, low), refl, λ r fits. subst (λ (y : Keep). KeepOf (opening_ring (8 * i + r)) opening_phase (8 * i + r) y) (sym (open_keep 8 r)) refl))
+      (omega (arith, low), refl, λ r fits. subst (λ (y : Keep). KeepOf (opening_ring (8 * i + r)) opening_phase (8 * i + r) y) (sym (open_keep 8 r)) refl))
       (first_rights (n / 8) i);
   idle = λ e. (refl, refl, refl);
 }
@@ -249,9 +250,9 @@ opens n words slots wide long = record {
       let l = left_none (16 * n) opening_phase h (λ k low. refl) in omega (arith, a, b, l);
 }
   where
-  only_first : (id : ℕ) (v : Hand) → get_elem? (first n ∷ []) id ≡ maybe.some v → Knows n opening_ring opening_phase id v
-  only_first zero v e = subst (λ (x : Hand). Knows n opening_ring opening_phase 0 x) (some-injective (first n) v e) (first_knows n 0)
-  only_first (suc id) v e = absurd (some-ne-none v (sym e))
+    only_first : (id : ℕ) (v : Hand) → get_elem? (first n ∷ []) id ≡ maybe.some v → Knows n opening_ring opening_phase id v
+    only_first zero v e = subst (λ (x : Hand). Knows n opening_ring opening_phase 0 x) (some-injective (first n) v e) (first_knows n 0)
+    only_first (suc id) v e = absurd (some-ne-none v (sym e))
 
 abbrev five_lack : List Right
 five_lack = Lacks ∷ Lacks ∷ Lacks ∷ Lacks ∷ Lacks ∷ []
@@ -293,8 +294,8 @@ pub merged_next : (n : ℕ) (now after rights more : List Right) → now ≡ mer
 unfolding merged
 merged_next n now after rights more is next = next ∙ ap (λ (l : List Right). with_one l more n) is ∙ ap (λ z. merged z rights more) (suc_is n)
   where
-  suc_is : (n : ℕ) → suc n ≡ n + 1
-  suc_is n = omega arith
+    suc_is : (n : ℕ) → suc n ≡ n + 1
+    suc_is n = omega arith
 
 five_of : (rights : List Right) → length rights ≡ 5 → (a : Right) × (b : Right) × (c : Right) × (d : Right) × (f : Right) × (rights ≡ a ∷ b ∷ c ∷ d ∷ f ∷ [])
 five_of [] e = absurd (omega (arith, e))
@@ -310,4 +311,4 @@ unfolding merged
 merged_all rights more long too =
     let x = five_of rights long in let y = five_of more too in
     subst (λ (l : List Right). merged 5 l more ≡ together l more) (sym x.5)
-      (subst (λ (l : List Right). merged 5 (x.0 ∷ x.1 ∷ x.2 ∷ x.3 ∷ x.4 ∷ []) l ≡ together (x.0 ∷ x.1 ∷ x.2 ∷ x.3 ∷ x.4 ∷ []) l) (sym y.5) refl)
+    (subst (λ (l : List Right). merged 5 (x.0 ∷ x.1 ∷ x.2 ∷ x.3 ∷ x.4 ∷ []) l ≡ together (x.0 ∷ x.1 ∷ x.2 ∷ x.3 ∷ x.4 ∷ []) l) (sym y.5) refl)

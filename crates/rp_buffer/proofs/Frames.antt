@@ -145,13 +145,17 @@ placed n id q u p s homes v w k at low mine is_up long else_same in_phase goes k
     (length-set s.words (n + q) u ∙ k.wide) long
     (λ b small. ((k.counters b small).0, get_or-set_other s.words (n + q) b u 0 (λ e. omega (arith, e, small)) ∙ (k.counters b small).1))
     (λ o small. at_put (λ x (y : Phase). (slice_index words (n + x) ≡ up y) × InPhase (k.rings (x / 16)).drawn_to homes x y) k.phases q p o
-        (λ e. (subst (λ x. slice_index words (n + x) ≡ up p) (sym e) (get_or-set_same s.words (n + q) u 0 (omega (arith, low, wide)) ∙ is_up)
-             , subst (λ x. InPhase (k.rings (x / 16)).drawn_to homes x p) (sym e) in_phase))
-        (λ away. (get_or-set_other s.words (n + q) (n + o) u 0 (λ e. away (omega (arith, e))) ∙ (k.places o small).0
-             , home_stays (k.rings (o / 16)).drawn_to s.homes homes o (k.phases o) (else_same o away) (k.places o small).1)))
+    (λ e. (
+      subst (λ x. slice_index words (n + x) ≡ up p) (sym e) (get_or-set_same s.words (n + q) u 0 (omega (arith, low, wide)) ∙ is_up),
+      subst (λ x. InPhase (k.rings (x / 16)).drawn_to homes x p) (sym e) in_phase,
+    ))
+    (λ away. (
+      get_or-set_other s.words (n + q) (n + o) u 0 (λ e. away (omega (arith, e))) ∙ (k.places o small).0,
+      home_stays (k.rings (o / 16)).drawn_to s.homes homes o (k.phases o) (else_same o away) (k.places o small).1,
+    )))
     (λ b small. dite (ℕ_discrete b (q / 16))
-        (λ e. subst (λ c. IsReached (shown k.rings (put k.phases q p) c)) (sym e) (goes (k.machine (q / 16) (omega (arith, low)))))
-        (λ away. subst IsReached (place_else k.rings k.phases q b p away) (k.machine b small)))
+    (λ e. subst (λ c. IsReached (shown k.rings (put k.phases q p) c)) (sym e) (goes (k.machine (q / 16) (omega (arith, low)))))
+    (λ away. subst IsReached (place_else k.rings k.phases q b p away) (k.machine b small)))
     known
     (λ j x away e. knows_stays n k.rings k.phases q id j p x mine away (k.each_pass j x e))
     same_parts fewer

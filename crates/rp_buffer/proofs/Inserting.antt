@@ -29,10 +29,11 @@ ready b r seen x m0 m1 m2 m3 same load draw written =
     let q : ℕ = 16 * b + r in
     let hit = draw.0 same in
     let lies_there : m3.1 ≡ (q, Some x) ∷ rest m2.1 = ap (λ (m : Standing). m.1) written in
-    let under : rest m3.1 ≡ rest m2.1 = ap rest lies_there in
-    (ap (λ (m : Standing). m.0) written ∙ hit.0 ∙ ap (λ (v : Hand). with_stage (noted v (Asked b r seen)) (Drew q)) load.1 ∙ ap (λ z. with_stage (noted (noted m0.0 (Loaded b r)) (Asked b r z)) (Drew q)) same
-    , lies_there ∙ ap (λ (cs : List (ℕ × Option Item)). (q, Some x) ∷ cs) (sym under)
-    , under ∙ ap rest hit.1 ∙ load.2)
+    let under : rest m3.1 ≡ rest m2.1 = ap rest lies_there in (
+      ap (λ (m : Standing). m.0) written ∙ hit.0 ∙ ap (λ (v : Hand). with_stage (noted v (Asked b r seen)) (Drew q)) load.1 ∙ ap (λ z. with_stage (noted (noted m0.0 (Loaded b r)) (Asked b r z)) (Drew q)) same,
+      lies_there ∙ ap (λ (cs : List (ℕ × Option Item)). (q, Some x) ∷ cs) (sym under),
+      under ∙ ap rest hit.1 ∙ load.2,
+    )
 
 -- and then it is put
 pub done : (slots b r i : ℕ) (x : Item) (m0 m3 m4 : Standing) → slots ≡ 640 → i ≡ 40 + (16 * b + r) → r < 16 → m0.1 ≡ [] → m0.0.stage ≡ Idle
@@ -43,7 +44,8 @@ done slots b r i x m0 m3 m4 count word low none_out idle was told =
     let q : ℕ = 16 * b + r in
     let place : i - slots / 16 ≡ q = omega (arith, count, word) in
     let of_b : q / 16 ≡ b = omega (arith, low) in
-    let out = told x (was.1 ∙ ap (λ z. (z, Some x) ∷ rest m3.1) (sym place)) in
-    (out.0 ∙ ap (λ z. having_put m3.0 (z / 16, x)) place ∙ ap (λ z. having_put m3.0 (z, x)) of_b ∙ ap (λ v. having_put v (b, x)) was.0
-      ∙ ap (λ st. hand m0.0.parts st (m0.0.put ++ (b, x) ∷ []) m0.0.taken ((m0.0.looks ++ Loaded b r ∷ []) ++ Asked b r r ∷ []) m0.0.rights) (sym idle)
-    , out.1 ∙ was.2 ∙ none_out)
+    let out = told x (was.1 ∙ ap (λ z. (z, Some x) ∷ rest m3.1) (sym place)) in (
+      out.0 ∙ ap (λ z. having_put m3.0 (z / 16, x)) place ∙ ap (λ z. having_put m3.0 (z, x)) of_b ∙ ap (λ v. having_put v (b, x)) was.0
+          ∙ ap (λ st. hand m0.0.parts st (m0.0.put ++ (b, x) ∷ []) m0.0.taken ((m0.0.looks ++ Loaded b r ∷ []) ++ Asked b r r ∷ []) m0.0.rights) (sym idle),
+      out.1 ∙ was.2 ∙ none_out,
+    )

@@ -20,9 +20,9 @@ use Rattle.rp_buffer.specs.Slots.{Phase, Ring, KeepOf, RightOf, Knows, weight, r
 pub carried_low : (rights : List Right) (i : ℕ) → IsCarried (right_at rights i) → i < length rights
 carried_low [] i is = absurd (none_there i is)
   where
-  none_there : (i : ℕ) → IsCarried (right_at [] i) → ⊥
-  none_there zero is = is
-  none_there (suc i) is = is
+    none_there : (i : ℕ) → IsCarried (right_at [] i) → ⊥
+    none_there zero is = is
+    none_there (suc i) is = is
 carried_low (r ∷ rs) zero is = omega arith
 carried_low (r ∷ rs) (suc i) is = let later = carried_low rs i is in omega (arith, later)
 
@@ -30,7 +30,7 @@ carried_low (r ∷ rs) (suc i) is = let later = carried_low rs i is in omega (ar
 pub with_keep_here : (rights : List Right) (b i : ℕ) (keep : Keep) → i ≡ b / 8 → IsCarried (right_at rights i) → right_at (with_keep rights b keep) i ≡ keeping (right_at rights i) (b % 8) keep
 with_keep_here rights b i keep e is =
     subst (λ x. IsCarried (right_at rights x) → right_at (with_keep rights b keep) x ≡ keeping (right_at rights x) (b % 8) keep) (sym e)
-      (λ it. get_or-set_same rights (b / 8) (keeping (right_at rights (b / 8)) (b % 8) keep) Lacks (carried_low rights (b / 8) it)) is
+    (λ it. get_or-set_same rights (b / 8) (keeping (right_at rights (b / 8)) (b % 8) keep) Lacks (carried_low rights (b / 8) it)) is
 
 pub with_keep_else : (rights : List Right) (b i : ℕ) (keep : Keep) → i ≢ b / 8 → right_at (with_keep rights b keep) i ≡ right_at rights i
 with_keep_else rights b i keep away = get_or-set_other rights (b / 8) i (keeping (right_at rights (b / 8)) (b % 8) keep) Lacks away
@@ -51,23 +51,30 @@ right_kept : (n : ℕ) (rings after : ℕ → Ring) (phases then : ℕ → Phase
     → RightOf n rings phases i r → RightOf n after then i (keeping r (b % 8) keep)
 right_kept n rings after phases then b i keep Lacks e stays now known = tt
 right_kept n rings after phases then b i keep (Carries ks) e stays now known =
-    let long = known.1 in
-    (known.0, length-set ks (b % 8) keep ∙ known.1, λ x low. dite (ℕ_discrete x (b % 8))
-      (λ same. let number : b ≡ 8 * i + x = omega (arith, same, e) in
+    let long = known.1 in (
+      known.0,
+      length-set ks (b % 8) keep ∙ known.1,
+      λ x low. dite (ℕ_discrete x (b % 8))
+          (λ same. let number : b ≡ 8 * i + x = omega (arith, same, e) in
           subst (λ c. KeepOf (after c) then c (keep_in (set ks (b % 8) keep) x)) number
-            (subst (λ (y : Keep). KeepOf (after b) then b y)
-              (sym (subst (λ z. keep_in (set ks (b % 8) keep) z ≡ keep) (sym same) (get_or-set_same ks (b % 8) keep Open (omega (arith, long)))))
-              now))
-      (λ away. subst (λ (y : Keep). KeepOf (after (8 * i + x)) then (8 * i + x) y) (sym (get_or-set_other ks (b % 8) x keep Open away))
-          (stays (8 * i + x) (keep_in ks x) (λ is. away (omega (arith, is, low))) (known.2 x low))))
+          (subst (λ (y : Keep). KeepOf (after b) then b y)
+          (sym (subst (λ z. keep_in (set ks (b % 8) keep) z ≡ keep) (sym same) (get_or-set_same ks (b % 8) keep Open (omega (arith, long)))))
+          now))
+          (λ away. subst (λ (y : Keep). KeepOf (after (8 * i + x)) then (8 * i + x) y) (sym (get_or-set_other ks (b % 8) x keep Open away))
+          (stays (8 * i + x) (keep_in ks x) (λ is. away (omega (arith, is, low))) (known.2 x low))),
+    )
 
 -- rights that have nothing to do with one buffer
 right_else : (n : ℕ) (rings after : ℕ → Ring) (phases then : ℕ → Phase) (b i : ℕ) (r : Right) → i ≢ b / 8
     → ((c : ℕ) (k : Keep) → c ≢ b → KeepOf (rings c) phases c k → KeepOf (after c) then c k)
     → RightOf n rings phases i r → RightOf n after then i r
 right_else n rings after phases then b i Lacks away stays known = tt
-right_else n rings after phases then b i (Carries ks) away stays known = (known.0, known.1, λ x low.
-    stays (8 * i + x) (keep_in ks x) (λ is. away (omega (arith, is, low))) (known.2 x low))
+right_else n rings after phases then b i (Carries ks) away stays known = (
+  known.0,
+  known.1,
+  λ x low.
+      stays (8 * i + x) (keep_in ks x) (λ is. away (omega (arith, is, low))) (known.2 x low),
+)
 
 -- all that a pass keeps, where it keeps something else of one buffer
 pub all_kept : (n : ℕ) (rings after : ℕ → Ring) (phases then : ℕ → Phase) (rights : List Right) (b : ℕ) (keep : Keep)
@@ -78,9 +85,9 @@ pub all_kept : (n : ℕ) (rings after : ℕ → Ring) (phases then : ℕ → Pha
     → (i : ℕ) → RightOf n after then i (right_at (with_keep rights b keep) i)
 all_kept n rings after phases then rights b keep is stays now known i = dite (ℕ_discrete i (b / 8))
     (λ e. subst (λ r. RightOf n after then i r) (sym (with_keep_here rights b i keep e (subst (λ x. IsCarried (right_at rights x)) (sym e) is)))
-        (right_kept n rings after phases then b i keep (right_at rights i) e stays now (known i)))
+    (right_kept n rings after phases then b i keep (right_at rights i) e stays now (known i)))
     (λ away. subst (λ r. RightOf n after then i r) (sym (with_keep_else rights b i keep away))
-        (right_else n rings after phases then b i (right_at rights i) away stays (known i)))
+    (right_else n rings after phases then b i (right_at rights i) away stays (known i)))
 
 -- another pass does not carry the right
 lacks_it : (n : ℕ) (rings after : ℕ → Ring) (phases then : ℕ → Phase) (i : ℕ) (r : Right) → weight r ≡ 0 → RightOf n after then i r
@@ -101,9 +108,9 @@ theirs_kept n s k after then id j b v u at there away is stays i =
     let known = k.each_pass j u there in
     dite (ℕ_discrete i (b / 8))
     (λ e. let pair = pair_le (right_on i) s.views id j v u away at there in
-        let once = k.once i in
-        let one : right_on i v ≡ 1 = subst (λ x. weight (right_at v.rights x) ≡ 1) (sym e) (carried_weight (right_at v.rights (b / 8)) is) in
-        lacks_it n k.rings after k.phases then i (right_at u.rights i) (omega (arith, pair, once, one)))
+    let once = k.once i in
+    let one : right_on i v ≡ 1 = subst (λ x. weight (right_at v.rights x) ≡ 1) (sym e) (carried_weight (right_at v.rights (b / 8)) is) in
+    lacks_it n k.rings after k.phases then i (right_at u.rights i) (omega (arith, pair, once, one)))
     (λ else. right_else n k.rings after k.phases then b i (right_at u.rights i) else stays (known.rights i))
 
 -- what is known of a buffer that the pass keeps

@@ -41,13 +41,13 @@ left_set (suc m) k f p h less =
     let b : left_in (suc m) (put f k p) h ≡ left_in m (put f k p) h + lies h m (put f k p m) = refl in
     dite (ℕ_discrete m k)
     (λ e. let below = left_same m (put f k p) f h (λ q low. put_else f k q p (λ is. omega (arith, is, low, e))) in
-        let here : lies h m (put f k p m) ≡ lies h m p = ap (lies h m) (put_here f k m p e) in
-        let was : lies h m (f m) ≡ lies h k (f k) = ap (λ q. lies h q (f q)) e in
-        let is : lies h m p ≡ lies h k p = ap (λ q. lies h q p) e in
-        omega (arith, below, here, was, is, a, b))
+    let here : lies h m (put f k p m) ≡ lies h m p = ap (lies h m) (put_here f k m p e) in
+    let was : lies h m (f m) ≡ lies h k (f k) = ap (λ q. lies h q (f q)) e in
+    let is : lies h m p ≡ lies h k p = ap (λ q. lies h q p) e in
+    omega (arith, below, here, was, is, a, b))
     (λ n. let below = left_set m k f p h (omega (arith, less, n)) in
-        let here : lies h m (put f k p m) ≡ lies h m (f m) = ap (lies h m) (put_else f k m p n) in
-        omega (arith, below, here, a, b))
+    let here : lies h m (put f k p m) ≡ lies h m (f m) = ap (lies h m) (put_else f k m p n) in
+    omega (arith, below, here, a, b))
 
 -- nothing lies in places none of which is published
 pub left_none : (m : ℕ) (f : ℕ → Phase) (h : Put → ℕ) → ((k : ℕ) → k < m → lies h k (f k) ≡ 0) → left_in m f h ≡ 0

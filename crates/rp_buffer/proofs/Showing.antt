@@ -31,24 +31,24 @@ unfolding slots_from
 from_get zero k i f low = absurd (omega (arith, low))
 from_get (suc m) k zero f low = ap (λ z. Some (bare (f z))) (zero_more k)
   where
-  zero_more : (k : ℕ) → k ≡ k + 0
-  zero_more k = omega arith
+    zero_more : (k : ℕ) → k ≡ k + 0
+    zero_more k = omega arith
 from_get (suc m) k (suc i) f low = from_get m (k + 1) i f (omega (arith, low)) ∙ ap (λ z. Some (bare (f z))) (one_more k i)
   where
-  one_more : (k i : ℕ) → k + 1 + i ≡ k + suc i
-  one_more k i = omega arith
+    one_more : (k i : ℕ) → k + 1 + i ≡ k + suc i
+    one_more k i = omega arith
 
 from_index : (m k i : ℕ) (f : ℕ → Phase) (d : Slot) → i < m → slice_index_or (slots_from m k f) i d ≡ bare (f (k + i))
 unfolding slots_from
 from_index zero k i f d low = absurd (omega (arith, low))
 from_index (suc m) k zero f d low = ap (λ z. bare (f z)) (zero_more k)
   where
-  zero_more : (k : ℕ) → k ≡ k + 0
-  zero_more k = omega arith
+    zero_more : (k : ℕ) → k ≡ k + 0
+    zero_more k = omega arith
 from_index (suc m) k (suc i) f d low = from_index m (k + 1) i f d (omega (arith, low)) ∙ ap (λ z. bare (f z)) (one_more k i)
   where
-  one_more : (k i : ℕ) → k + 1 + i ≡ k + suc i
-  one_more k i = omega arith
+    one_more : (k i : ℕ) → k + 1 + i ≡ k + suc i
+    one_more k i = omega arith
 
 from_free : (m k : ℕ) (f : ℕ → Phase) → ((q : ℕ) → k ≤ q → q < k + m → f q ≡ free) → slots_from m k f ≡ replicate m Free
 unfolding slots_from
@@ -65,10 +65,11 @@ from_taken (suc m) (suc n) k f all =
     let later : list_all is_taken (take n (slots_from m (k + 1) f)) ≡ true = from_taken m n (k + 1) f (λ p low high. subst (λ z. f z ≡ taken) (one_more k p) (all (suc p) (omega (arith, low)) (omega (arith, high)))) in
     grind (arith)
   where
-  zero_more : (k : ℕ) → k + 0 ≡ k
-  zero_more k = omega arith
-  one_more : (k p : ℕ) → k + suc p ≡ k + 1 + p
-  one_more k p = omega arith
+    zero_more : (k : ℕ) → k + 0 ≡ k
+    zero_more k = omega arith
+
+    one_more : (k p : ℕ) → k + suc p ≡ k + 1 + p
+    one_more k p = omega arith
 
 abbrev pub opening_ring : ℕ → Ring
 opening_ring b = record { drawn_to = 0; is_open = true }
@@ -115,10 +116,10 @@ pub after_drawn : (rings : ℕ → Ring) (phases : ℕ → Phase) (b old id : �
     → IsReached (shown rings phases b) → IsReached (shown (put rings b (record { drawn_to = old + 1; is_open = true })) (put phases (16 * b + old) (drawn id)) b)
 after_drawn rings phases b old id is same low was =
     subst IsReached
-      (draws_so (rings b).is_open (rings b).drawn_to old (slots_from 16 (16 * b) phases) is same low
-       ∙ ap (state true (old + 1)) (sym (from_set 16 (16 * b) old (16 * b + old) phases (drawn id) low refl))
-       ∙ ap (λ (r : Ring). state r.is_open r.drawn_to (slots_from 16 (16 * b) (put phases (16 * b + old) (drawn id)))) (sym (put_here rings b b (record { drawn_to = old + 1; is_open = true }) refl)))
-      (draws (shown rings phases b) was)
+    (draws_so (rings b).is_open (rings b).drawn_to old (slots_from 16 (16 * b) phases) is same low
+    ∙ ap (state true (old + 1)) (sym (from_set 16 (16 * b) old (16 * b + old) phases (drawn id) low refl))
+    ∙ ap (λ (r : Ring). state r.is_open r.drawn_to (slots_from 16 (16 * b) (put phases (16 * b + old) (drawn id)))) (sym (put_here rings b b (record { drawn_to = old + 1; is_open = true }) refl)))
+    (draws (shown rings phases b) was)
 
 publishes_so : (o : Bool) (d place : ℕ) (slots : List Slot) (x : Item) → slice_get slots place ≡ Some Drawn → after_publish (state o d slots) place x ≡ state o d (set slots place (Published x))
 publishes_so o d place slots x is = grind (arith)
@@ -130,19 +131,19 @@ after_published rings phases q id x is was =
     let place : ℕ = q % 16 in
     let number : q ≡ 16 * b + place = omega arith in
     subst IsReached
-      (publishes_so (rings b).is_open (rings b).drawn_to place (slots_from 16 (16 * b) phases) x
-        (from_get 16 (16 * b) place phases (omega arith) ∙ ap (λ z. Some (bare (phases z))) (sym number) ∙ ap (λ p. Some (bare p)) is)
-       ∙ ap (state (rings b).is_open (rings b).drawn_to) (sym (from_set 16 (16 * b) place q phases (published x) (omega arith) number)))
-      (publishes (shown rings phases b) place x was)
+    (publishes_so (rings b).is_open (rings b).drawn_to place (slots_from 16 (16 * b) phases) x
+    (from_get 16 (16 * b) place phases (omega arith) ∙ ap (λ z. Some (bare (phases z))) (sym number) ∙ ap (λ p. Some (bare p)) is)
+    ∙ ap (state (rings b).is_open (rings b).drawn_to) (sym (from_set 16 (16 * b) place q phases (published x) (omega arith) number)))
+    (publishes (shown rings phases b) place x was)
 
 pub after_shut : (rings : ℕ → Ring) (phases : ℕ → Phase) (b : ℕ) (after : Ring) → after.is_open ≡ false → after.drawn_to ≡ (rings b).drawn_to
     → IsReached (shown rings phases b) → IsReached (shown (put rings b after) phases b)
 after_shut rings phases b after is same was =
     subst IsReached
-      (ap (λ o. state o (rings b).drawn_to (slots_from 16 (16 * b) phases)) (sym is)
-       ∙ ap (λ d. state after.is_open d (slots_from 16 (16 * b) phases)) (sym same)
-       ∙ ap (λ (r : Ring). state r.is_open r.drawn_to (slots_from 16 (16 * b) phases)) (sym (put_here rings b b after refl)))
-      (closes (shown rings phases b) was)
+    (ap (λ o. state o (rings b).drawn_to (slots_from 16 (16 * b) phases)) (sym is)
+    ∙ ap (λ d. state after.is_open d (slots_from 16 (16 * b) phases)) (sym same)
+    ∙ ap (λ (r : Ring). state r.is_open r.drawn_to (slots_from 16 (16 * b) phases)) (sym (put_here rings b b after refl)))
+    (closes (shown rings phases b) was)
 
 pub after_taken : (rings : ℕ → Ring) (phases : ℕ → Phase) (q id : ℕ) (x : Item) → phases q ≡ published x
     → IsReached (shown rings phases (q / 16)) → IsReached (shown rings (put phases q (taking id)) (q / 16))
@@ -151,21 +152,21 @@ after_taken rings phases q id x is was =
     let place : ℕ = q % 16 in
     let number : q ≡ 16 * b + place = omega arith in
     subst IsReached
-      (ap (λ y. state (rings b).is_open (rings b).drawn_to (set (slots_from 16 (16 * b) phases) place (buffers.taken y)))
-        (from_index 16 (16 * b) place phases Free (omega arith) ∙ ap (λ z. bare (phases z)) (sym number) ∙ ap bare is)
-       ∙ ap (state (rings b).is_open (rings b).drawn_to) (sym (from_set 16 (16 * b) place q phases (taking id) (omega arith) number)))
-      (takes (shown rings phases b) place was)
+    (ap (λ y. state (rings b).is_open (rings b).drawn_to (set (slots_from 16 (16 * b) phases) place (buffers.taken y)))
+    (from_index 16 (16 * b) place phases Free (omega arith) ∙ ap (λ z. bare (phases z)) (sym number) ∙ ap bare is)
+    ∙ ap (state (rings b).is_open (rings b).drawn_to) (sym (from_set 16 (16 * b) place q phases (taking id) (omega arith) number)))
+    (takes (shown rings phases b) place was)
 
 pub after_home : (rings : ℕ → Ring) (phases : ℕ → Phase) (q id : ℕ) → phases q ≡ taking id
     → IsReached (shown rings phases (q / 16)) → IsReached (shown rings (put phases q taken) (q / 16))
 after_home rings phases q id is was =
     let b : ℕ = q / 16 in
     subst IsReached
-      (ap (state (rings b).is_open (rings b).drawn_to) (from_same 16 (16 * b) phases (put phases q taken)
-        (λ o low high. dite (ℕ_discrete o q)
-          (λ e. ap (λ z. bare (phases z)) e ∙ ap bare is ∙ ap bare (sym (put_here phases q o taken e)))
-          (λ away. ap bare (sym (put_else phases q o taken away))))))
-      was
+    (ap (state (rings b).is_open (rings b).drawn_to) (from_same 16 (16 * b) phases (put phases q taken)
+    (λ o low high. dite (ℕ_discrete o q)
+    (λ e. ap (λ z. bare (phases z)) e ∙ ap bare is ∙ ap bare (sym (put_here phases q o taken e)))
+    (λ away. ap bare (sym (put_else phases q o taken away))))))
+    was
 
 reopens_so : (o : Bool) (d : ℕ) (slots : List Slot) → list_all is_taken (take d slots) ≡ true → after_reopen (state o d slots) ≡ start
 reopens_so o d slots all = grind (arith)
@@ -175,9 +176,9 @@ pub after_opened : (rings : ℕ → Ring) (phases : ℕ → Phase) (b : ℕ) (af
     → IsReached (shown rings phases b) → IsReached (shown (put rings b after) (wiped phases b) b)
 after_opened rings phases b after is none most all was =
     subst IsReached
-      (reopens_so (rings b).is_open (rings b).drawn_to (slots_from 16 (16 * b) phases) (from_taken 16 (rings b).drawn_to (16 * b) phases all)
-       ∙ ap (state true 0) (sym (from_free 16 (16 * b) (wiped phases b) (λ q low high. wiped_here phases b q (omega (arith, low, high)))))
-       ∙ ap (λ o. state o 0 (slots_from 16 (16 * b) (wiped phases b))) (sym is)
-       ∙ ap (λ d. state after.is_open d (slots_from 16 (16 * b) (wiped phases b))) (sym none)
-       ∙ ap (λ (r : Ring). state r.is_open r.drawn_to (slots_from 16 (16 * b) (wiped phases b))) (sym (put_here rings b b after refl)))
-      (reopens (shown rings phases b) was)
+    (reopens_so (rings b).is_open (rings b).drawn_to (slots_from 16 (16 * b) phases) (from_taken 16 (rings b).drawn_to (16 * b) phases all)
+    ∙ ap (state true 0) (sym (from_free 16 (16 * b) (wiped phases b) (λ q low high. wiped_here phases b q (omega (arith, low, high)))))
+    ∙ ap (λ o. state o 0 (slots_from 16 (16 * b) (wiped phases b))) (sym is)
+    ∙ ap (λ d. state after.is_open d (slots_from 16 (16 * b) (wiped phases b))) (sym none)
+    ∙ ap (λ (r : Ring). state r.is_open r.drawn_to (slots_from 16 (16 * b) (wiped phases b))) (sym (put_here rings b b after refl)))
+    (reopens (shown rings phases b) was)

@@ -31,9 +31,9 @@ use Rattle.rp_buffer.proofs.Frames.{changed, placed, same_words, knows_stays, ho
 face_small : (ring : Ring) → ring.drawn_to ≤ 16 → face ring ≤ 16
 face_small ring small = by_open ring.is_open ring.drawn_to small
   where
-  by_open : (o : Bool) (d : ℕ) → d ≤ 16 → face (record { drawn_to = d; is_open = o }) ≤ 16
-  by_open true d small = small
-  by_open false d small = omega arith
+    by_open : (o : Bool) (d : ℕ) → d ≤ 16 → face (record { drawn_to = d; is_open = o }) ≤ 16
+    by_open true d small = small
+    by_open false d small = omega arith
 
 -- nothing changes but what the view notes
 pub stands : (n id i : ℕ) (look : Look) (s : State (Option Item) Hand) (v : Hand) (k : Kept n s)
@@ -43,9 +43,9 @@ stands n id i look s v k at =
     let known = k.each_pass id v at in
     subst (λ (ws : List ℕ). Kept n record { words = ws; homes = s.homes; views = set s.views id (noted v look) }) (sym (same_words s.words i))
     (changed n id s v (noted v look) k k.rings k.phases s.words s.homes at k.wide k.long k.counters k.places k.machine
-      (record { stage = known.stage; rights = known.rights; idle = known.idle; })
-      (λ j u away e. k.each_pass j u e)
-      refl (λ i. omega arith) (λ h. refl))
+    (record { stage = known.stage; rights = known.rights; idle = known.idle })
+    (λ j u away e. k.each_pass j u e)
+    refl (λ i. omega arith) (λ h. refl))
 
 -- a load of a counter
 pub loads : (n slots id b : ℕ) (me : Standing) → b < n
@@ -60,9 +60,9 @@ loads n slots id b me low s k long at small =
 open_face : (ring : Ring) (old : ℕ) → old < 16 → old ≡ face ring → (ring.is_open ≡ true) × (ring.drawn_to ≡ old)
 open_face ring old low e = by_open ring.is_open ring.drawn_to low e
   where
-  by_open : (o : Bool) (d : ℕ) → old < 16 → old ≡ face (record { drawn_to = d; is_open = o }) → (o ≡ true) × (d ≡ old)
-  by_open true d low e = (refl, sym e)
-  by_open false d low e = absurd (omega (arith, low, e))
+    by_open : (o : Bool) (d : ℕ) → old < 16 → old ≡ face (record { drawn_to = d; is_open = o }) → (o ≡ true) × (d ≡ old)
+    by_open true d low e = (refl, sym e)
+    by_open false d low e = absurd (omega (arith, low, e))
 
 -- a place that is not drawn is free
 is_free : (d : ℕ) (homes : List (maybe.Option (Option Item))) (k : ℕ) (p : Phase) → d ≤ k % 16 → InPhase d homes k p
@@ -96,10 +96,14 @@ still_open ring after phases b (Closed count gone) was is known = absurd (let sh
 ring_stays : (n : ℕ) (rings : ℕ → Ring) (phases : ℕ → Phase) (b i : ℕ) (after : Ring) (r : Right) → (rings b).is_open ≡ true → after.is_open ≡ true
     → RightOf n rings phases i r → RightOf n (put rings b after) phases i r
 ring_stays n rings phases b i after Lacks was is known = tt
-ring_stays n rings phases b i after (Carries ks) was is known = (known.0, known.1, λ r low.
-    at_put (λ c (ring : Ring). KeepOf ring phases c (keep_in ks r)) rings b after (8 * i + r)
+ring_stays n rings phases b i after (Carries ks) was is known = (
+  known.0,
+  known.1,
+  λ r low.
+      at_put (λ c (ring : Ring). KeepOf ring phases c (keep_in ks r)) rings b after (8 * i + r)
       (λ e. still_open (rings (8 * i + r)) after phases (8 * i + r) (keep_in ks r) (subst (λ c. (rings c).is_open ≡ true) (sym e) was) is (known.2 r low))
-      (λ away. known.2 r low))
+      (λ away. known.2 r low),
+)
 
 right_free : (n : ℕ) (rings : ℕ → Ring) (phases : ℕ → Phase) (b q id i : ℕ) (after : Ring) (r : Right) → (rings b).is_open ≡ true → after.is_open ≡ true → phases q ≡ free
     → RightOf n rings phases i r → RightOf n (put rings b after) (put phases q (drawn id)) i r
@@ -126,45 +130,51 @@ draw_hits n id b old s v k at low below found stage some_part w same_parts drew 
     let rings : ℕ → Ring = put k.rings b after in
     let phases : ℕ → Phase = put k.phases q (drawn id) in
     let wide = k.wide in
-    let known = k.each_pass id v at in
-    (place.1, changed n id s v w k rings phases words homes at
-      (length-set s.words b (old + 1) ∙ k.wide)
-      (length-set s.homes q maybe.none ∙ k.long)
-      (λ c small. at_put (λ x (ring : Ring). (ring.drawn_to ≤ 16) × (slice_index words x ≡ face ring)) k.rings b after c
+    let known = k.each_pass id v at in (
+      place.1,
+      changed n id s v w k rings phases words homes at
+          (length-set s.words b (old + 1) ∙ k.wide)
+          (length-set s.homes q maybe.none ∙ k.long)
+          (λ c small. at_put (λ x (ring : Ring). (ring.drawn_to ≤ 16) × (slice_index words x ≡ face ring)) k.rings b after c
           (λ e. (omega (arith, below), subst (λ x. slice_index words x ≡ old + 1) (sym e) (get_or-set_same s.words b (old + 1) 0 (omega (arith, low, wide)))))
           (λ away. ((k.counters c small).0, get_or-set_other s.words b c (old + 1) 0 away ∙ (k.counters c small).1)))
-      (λ o small. at_put (λ x (y : Phase). (slice_index words (n + x) ≡ up y) × InPhase (rings (x / 16)).drawn_to homes x y) k.phases q (drawn id) o
-          (λ e. (get_or-set_other s.words b (n + o) (old + 1) 0 (λ is. omega (arith, is, low)) ∙ (k.places o small).0 ∙ ap up (ap k.phases e ∙ place.0)
-              , subst (λ x. x % 16 < (rings (x / 16)).drawn_to) (sym e) (subst (λ (ring : Ring). q % 16 < ring.drawn_to) (sym (put_here k.rings b (q / 16) after of_b)) (omega (arith, number)))))
-          (λ away. (get_or-set_other s.words b (n + o) (old + 1) 0 (λ is. omega (arith, is, low)) ∙ (k.places o small).0
-              , home_stays (rings (o / 16)).drawn_to s.homes homes o (k.phases o) (set_else s.homes q o maybe.none away)
-                  (at_put (λ x (ring : Ring). x ≡ o / 16 → InPhase ring.drawn_to s.homes o (k.phases o)) k.rings b after (o / 16)
-                    (λ e same. let d = opened.1 in
-                        let was : InPhase (k.rings b).drawn_to s.homes o (k.phases o) = subst (λ c. InPhase (k.rings c).drawn_to s.homes o (k.phases o)) e (k.places o small).1 in
-                        more_drawn (k.rings b).drawn_to (old + 1) s.homes o (k.phases o) (omega (arith, d))
-                          (λ f. let past : (k.rings b).drawn_to ≤ o % 16 = still_past (k.rings b).drawn_to s.homes o (k.phases o) f was in omega (arith, past, d, e, away)) was)
-                    (λ else same. (k.places o small).1) refl))))
-      (λ c small. dite (ℕ_discrete c b)
+          (λ o small. at_put (λ x (y : Phase). (slice_index words (n + x) ≡ up y) × InPhase (rings (x / 16)).drawn_to homes x y) k.phases q (drawn id) o
+          (λ e. (
+            get_or-set_other s.words b (n + o) (old + 1) 0 (λ is. omega (arith, is, low)) ∙ (k.places o small).0 ∙ ap up (ap k.phases e ∙ place.0),
+            subst (λ x. x % 16 < (rings (x / 16)).drawn_to) (sym e) (subst (λ (ring : Ring). q % 16 < ring.drawn_to) (sym (put_here k.rings b (q / 16) after of_b)) (omega (arith, number))),
+          ))
+          (λ away. (
+            get_or-set_other s.words b (n + o) (old + 1) 0 (λ is. omega (arith, is, low)) ∙ (k.places o small).0,
+            home_stays (rings (o / 16)).drawn_to s.homes homes o (k.phases o) (set_else s.homes q o maybe.none away)
+                (at_put (λ x (ring : Ring). x ≡ o / 16 → InPhase ring.drawn_to s.homes o (k.phases o)) k.rings b after (o / 16)
+                (λ e same. let d = opened.1 in
+                let was : InPhase (k.rings b).drawn_to s.homes o (k.phases o) = subst (λ c. InPhase (k.rings c).drawn_to s.homes o (k.phases o)) e (k.places o small).1 in
+                more_drawn (k.rings b).drawn_to (old + 1) s.homes o (k.phases o) (omega (arith, d))
+                (λ f. let past : (k.rings b).drawn_to ≤ o % 16 = still_past (k.rings b).drawn_to s.homes o (k.phases o) f was in omega (arith, past, d, e, away)) was)
+                (λ else same. (k.places o small).1) refl),
+          )))
+          (λ c small. dite (ℕ_discrete c b)
           (λ e. subst (λ z. IsReached (shown rings phases z)) (sym e)
-            (after_drawn k.rings k.phases b old id opened.0 opened.1 below (k.machine b low)))
+          (after_drawn k.rings k.phases b old id opened.0 opened.1 below (k.machine b low)))
           (λ away. subst IsReached (drawn_away k.rings k.phases b c q after (drawn id) away of_b) (k.machine c small)))
-      (record {
-        stage = subst (λ st. AtStage n phases id st) (sym drew) (in_q, put_here k.phases q q (drawn id) refl);
-        rights = λ i. subst (λ rs. RightOf n rings phases i (right_at rs i)) (sym same_rights) (right_free n k.rings k.phases b q id i after (right_at v.rights i) opened.0 refl place.0 (known.rights i));
-        idle = λ none_left. absurd (omega (arith, none_left, same_parts, some_part));
-      })
-      (λ j u away e. let theirs = k.each_pass j u e in record {
-        stage = stage_stays n k.phases q j (drawn id) u.stage (λ is. let f = place.0 in cc) (λ is. let f = place.0 in cc) theirs.stage;
-        rights = λ i. right_free n k.rings k.phases b q id i after (right_at u.rights i) opened.0 refl place.0 (theirs.rights i);
-        idle = theirs.idle;
-      })
-      same_parts
-      (λ i. let e : right_on i w ≡ right_on i v = ap (λ rs. weight (right_at rs i)) same_rights in omega (arith, e))
-      (λ h. let l = left_set (16 * n) q k.phases (drawn id) h in_q in
+          (record {
+            stage = subst (λ st. AtStage n phases id st) (sym drew) (in_q, put_here k.phases q q (drawn id) refl);
+            rights = λ i. subst (λ rs. RightOf n rings phases i (right_at rs i)) (sym same_rights) (right_free n k.rings k.phases b q id i after (right_at v.rights i) opened.0 refl place.0 (known.rights i));
+            idle = λ none_left. absurd (omega (arith, none_left, same_parts, some_part));
+          })
+          (λ j u away e. let theirs = k.each_pass j u e in record {
+            stage = stage_stays n k.phases q j (drawn id) u.stage (λ is. let f = place.0 in cc) (λ is. let f = place.0 in cc) theirs.stage;
+            rights = λ i. right_free n k.rings k.phases b q id i after (right_at u.rights i) opened.0 refl place.0 (theirs.rights i);
+            idle = theirs.idle;
+          })
+          same_parts
+          (λ i. let e : right_on i w ≡ right_on i v = ap (λ rs. weight (right_at rs i)) same_rights in omega (arith, e))
+          (λ h. let l = left_set (16 * n) q k.phases (drawn id) h in_q in
           let was : lies h q (k.phases q) ≡ 0 = ap (lies h q) place.0 in
           let a : weight_put h w ≡ weight_put h v = ap (sum_by h) same_put in
           let c : weight_taken h w ≡ weight_taken h v = ap (sum_by h) same_taken in
-          omega (arith, l, was, a, c)))
+          omega (arith, l, was, a, c)),
+    )
 
 -- an exchange of a counter
 pub draws : (n slots id b old : ℕ) (me : Standing) → b < n → old < 16 → me.0.stage ≡ Idle → 0 < me.0.parts
@@ -174,10 +184,10 @@ draws n slots id b old me low below stage some_part s k long at small =
     let q : ℕ = 16 * b + old in
     exchanged found old (old + 1) (λ z. (w : Hand) × (a : Act (Option Item)) × Valid s.homes me.1 a × Kept n (stepped s b z id me.1 w a) × plays.drew (step slots b old (old + 1) maybe.none) me found (w, carried_after me.1 a))
     (λ hit. let w = with_stage (noted me.0 (Asked b old found)) (Drew q) in
-        let done = draw_hits n id b old s me.0 k at low below hit stage some_part w refl refl refl refl refl in
-        (w, takes q None, done.0, done.1, ((λ _. (refl, refl)), (λ miss. absurd (miss hit)))))
+    let done = draw_hits n id b old s me.0 k at low below hit stage some_part w refl refl refl refl refl in
+    (w, takes q None, done.0, done.1, ((λ _. (refl, refl)), (λ miss. absurd (miss hit)))))
     (λ miss. let w = noted me.0 (Asked b old found) in
-        (w, keeps, tt, stands n id b (Asked b old found) s me.0 k at, ((λ hit. absurd (miss hit)), (λ _. (refl, refl)))))
+    (w, keeps, tt, stands n id b (Asked b old found) s me.0 k at, ((λ hit. absurd (miss hit)), (λ _. (refl, refl)))))
 
 -- the slot that is out comes home
 pub home_again : (homes : List (maybe.Option (Option Item))) (k o : ℕ) (y : Option Item) → o ≢ k → get_elem? (set homes k (maybe.some y)) o ≡ get_elem? homes o
@@ -200,20 +210,20 @@ publish_at n id q x tl s v k at stage some_part =
     let long = k.long in
     let low = mine.0 in
     placed n id q 1 (published x) s (set s.homes q (maybe.some (Some x))) v (having_put v (q / 16, x)) k at mine.0
-      (subst (λ p. IsMine id p) (sym mine.1) refl) refl
-      (length-set s.homes q (maybe.some (Some x)) ∙ k.long)
-      (λ o away. home_again s.homes q o (Some x) away)
-      (drawn_low (k.rings (q / 16)).drawn_to s.homes q id (k.phases q) mine.1 (k.places q mine.0).1, set_here s.homes q (maybe.some (Some x)) (omega (arith, long, low)))
-      (after_published k.rings k.phases q id x mine.1)
-      (record {
-        stage = tt;
-        rights = λ i. right_stays n k.rings k.phases q i (published x) (right_at v.rights i) (λ e. let d = mine.1 in cc) (known.rights i);
-        idle = λ none_left. absurd (omega (arith, none_left, some_part));
-      })
-      refl (λ i. omega arith)
-      (λ h. let was : lies h q (k.phases q) ≡ 0 = ap (lies h q) mine.1 in
-          let grew = sum_by_push h v.put (q / 16, x) in
-          omega (arith, was, grew))
+    (subst (λ p. IsMine id p) (sym mine.1) refl) refl
+    (length-set s.homes q (maybe.some (Some x)) ∙ k.long)
+    (λ o away. home_again s.homes q o (Some x) away)
+    (drawn_low (k.rings (q / 16)).drawn_to s.homes q id (k.phases q) mine.1 (k.places q mine.0).1, set_here s.homes q (maybe.some (Some x)) (omega (arith, long, low)))
+    (after_published k.rings k.phases q id x mine.1)
+    (record {
+      stage = tt;
+      rights = λ i. right_stays n k.rings k.phases q i (published x) (right_at v.rights i) (λ e. let d = mine.1 in cc) (known.rights i);
+      idle = λ none_left. absurd (omega (arith, none_left, some_part));
+    })
+    refl (λ i. omega arith)
+    (λ h. let was : lies h q (k.phases q) ≡ 0 = ap (lies h q) mine.1 in
+    let grew = sum_by_push h v.put (q / 16, x) in
+    omega (arith, was, grew))
 
 abbrev top_value : List (ℕ × Option Item) → Option Item
 top_value [] = None
@@ -230,11 +240,14 @@ pub publishes : (n slots id q : ℕ) (x : Item) (me : Standing) → slots ≡ 16
     → Allows (Kept n) slots id me (n + q) (λ _. 1) (plays.published (step slots (n + q) 1 0 maybe.none) me)
 publishes n slots id q x me count stage has some_part s k long at small =
     let w = having_put me.0 (q / 16, x) in
-    let place : n + q - slots / 16 ≡ q = omega (arith, count) in
-    (w, gives, tt,
+    let place : n + q - slots / 16 ≡ q = omega (arith, count) in (
+      w,
+      gives,
+      tt,
       subst (λ cs. Kept n record { words = set s.words (n + q) 1; homes = put_back s.homes cs; views = set s.views id w }) (sym has) (publish_at n id q x (rest me.1) s me.0 k at stage some_part),
       λ y lies_there. let same : x ≡ y = same_item x y (rest_same me.1 q (Some x) (Some y) has (subst (λ r. me.1 ≡ (r, Some y) ∷ rest me.1) place lies_there)) in
-          (ap (having_put me.0) (λ i. (sym place i / 16, same i)), refl))
+          (ap (having_put me.0) (λ i. (sym place i / 16, same i)), refl),
+    )
 
 pub publishes_at : (n slots id q i : ℕ) (x : Item) (me : Standing) → i ≡ n + q → slots ≡ 16 * n → me.0.stage ≡ Drew q → me.1 ≡ (q, Some x) ∷ rest me.1 → 0 < me.0.parts
     → Allows (Kept n) slots id me i (λ _. 1) (plays.published (step slots i 1 0 maybe.none) me)

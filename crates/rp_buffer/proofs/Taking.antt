@@ -40,12 +40,13 @@ emptied i q seen y m0 m1 m2 same word took lies written =
     let x = hit.0 in
     let place : i - 640 / 16 ≡ q = omega (arith, word) in
     let out : m2.1 ≡ (q, None) ∷ rest m1.1 = ap (λ (m : Standing). m.1) written in
-    let under : rest m2.1 ≡ rest m1.1 = ap rest out in
-    (x
-    , top_same m1.1 (rest m1.1) m0.1 q (i - 640 / 16) y (Some x) lies hit.2
-    , ap (λ (m : Standing). m.0) written ∙ hit.1 ∙ ap (λ z. having_taken m0.0 z x) place
-    , out ∙ ap (λ (cs : List (ℕ × Option Item)). (q, None) ∷ cs) (sym under)
-    , under ∙ ap rest hit.2)
+    let under : rest m2.1 ≡ rest m1.1 = ap rest out in (
+      x,
+      top_same m1.1 (rest m1.1) m0.1 q (i - 640 / 16) y (Some x) lies hit.2,
+      ap (λ (m : Standing). m.0) written ∙ hit.1 ∙ ap (λ z. having_taken m0.0 z x) place,
+      out ∙ ap (λ (cs : List (ℕ × Option Item)). (q, None) ∷ cs) (sym under),
+      under ∙ ap rest hit.2,
+    )
 
 -- the closed buffer of a place
 pub closed_at : (k : Keep) → IsClosed k → (count : ℕ) × (gone : List Bool) × (k ≡ Closed count gone)
@@ -56,6 +57,7 @@ closed_at (Closed count gone) is = (count, gone, refl)
 pub of_buffer : (b p q : ℕ) (v w : Hand) (x : Item) → q ≡ 16 * b + p → p < 16 → w ≡ having_taken v q x → Sweeping v b
     → (IsCarried (right_at w.rights (q / 16 / 8))) × (IsClosed (keep_at w.rights (q / 16)))
 of_buffer b p q v w x is low told can =
-    let buffer : b ≡ q / 16 = omega (arith, is, low) in
-    (subst (λ c. IsCarried (right_at w.rights (c / 8))) buffer (subst (λ (y : Hand). IsCarried (right_at y.rights (b / 8))) (sym told) can.carried)
-    , subst (λ c. IsClosed (keep_at w.rights c)) buffer (subst (λ (y : Hand). IsClosed (keep_at y.rights b)) (sym told) can.closed))
+    let buffer : b ≡ q / 16 = omega (arith, is, low) in (
+      subst (λ c. IsCarried (right_at w.rights (c / 8))) buffer (subst (λ (y : Hand). IsCarried (right_at y.rights (b / 8))) (sym told) can.carried),
+      subst (λ c. IsClosed (keep_at w.rights c)) buffer (subst (λ (y : Hand). IsClosed (keep_at y.rights b)) (sym told) can.closed),
+    )

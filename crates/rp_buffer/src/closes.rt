@@ -40,7 +40,7 @@ fn empty(closed: &mut Closed<Option<Item>, Global>, place: usize, left: &mut Lef
     ensures slots { slots_len closed.new.slots ≡ slots_len closed.old.slots }
     ensures found { left.new.list ≡ left.old.list
         ++ found_at place (slice_index (slots_items closed.old.words) (40 + place))
-            (slice_index_or (slots_items closed.old.slots) place None) }
+        (slice_index_or (slots_items closed.old.slots) place None) }
     ensures room { left.old.spare ≤ left.new.spare + 1 }
 {
     let word = closed.word(BUFFERS + place);

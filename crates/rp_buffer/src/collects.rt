@@ -6,10 +6,10 @@ ghost use Rattle.rp_buffer.specs.Hands.{right_at, IsCarried};
 ghost use Rattle.rp_buffer.specs.Passes.{known_by, IsPassOf, IsSame};
 ghost use Rattle.rp_buffer.specs.Collects.{Sweeping, Takings, Takes, Shuts, Sweeps, Swept, Reopens, Collects, Appends};
 
+use crate::flush::FlushPass;
 use crate::keeps::{all_gone, gone_too, is_due, keep, kept, sixteen};
 use crate::plays::{Open, Return, Shut, Take};
 use crate::rights::Keep;
-use crate::flush::FlushPass;
 use crate::table::{BUFFERS, Pass, SlotTable};
 use rp_base::{Item, Items};
 
@@ -103,9 +103,7 @@ impl SlotTable {
         sixteen(&gone);
         let all = all_gone(count, &gone);
         if all {
-            self.table
-                .shared
-                .swap::<Open>(&mut pass.seat, buffer, 0);
+            self.table.shared.swap::<Open>(&mut pass.seat, buffer, 0);
             keep(&mut pass.rights, buffer, Keep::Open);
         }
     }

@@ -17,12 +17,12 @@ pub(crate) fn item(client: u16, seq: u32) -> Item {
     })
 }
 
-/// Tries to put an item, and notes it where it was put.
+/// Tries to put the item of a client and a number, and notes it where it was put.
 pub(crate) fn put_one(
     table: &SlotTable,
     pass: &mut Pass,
     buffer: u8,
-    item: Item,
+    id: (u16, u32),
     done: &mut Items,
 ) -> Result<(), InsertFault>
     requires of { IsPassOf table.now pass.old }
@@ -32,9 +32,9 @@ pub(crate) fn put_one(
     ensures parts { (known_by pass.new).parts ≡ (known_by pass.old).parts }
     ensures room { done.old.spare ≤ done.new.spare + 1 }
 {
-    let answer = table.insert(pass, buffer, item);
+    let answer = table.insert(pass, buffer, item(id.0, id.1));
     if answer.is_ok() {
-        done.push(item);
+        done.push(item(id.0, id.1));
     }
     answer
 }
@@ -54,7 +54,7 @@ pub(crate) fn put_many(
     ensures parts { (known_by result.0).parts ≡ (known_by pass).parts }
 {
     for seq in 0..TRIES {
-        let _ = put_one(table, &mut pass, buffer, item(client, seq), &mut done);
+        let _ = put_one(table, &mut pass, buffer, (client, seq), &mut done);
     }
     (pass, done)
 }

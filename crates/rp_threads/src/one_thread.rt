@@ -17,14 +17,14 @@ fn the_seventeenth_insert_finds_the_buffer_full(rt: HostRuntime) -> Result<(), F
     };
     let mut flush = table.flusher(first, node);
     for seq in 0..16 {
-        let answer = put_one(&table, &mut pass, 3, item(1, seq), &mut put);
+        let answer = put_one(&table, &mut pass, 3, (1, seq), &mut put);
         assert!(rt; answer.is_ok());
     }
-    let answer = put_one(&table, &mut pass, 3, item(1, 16), &mut put);
+    let answer = put_one(&table, &mut pass, 3, (1, 16), &mut put);
     assert!(rt; answer == Err(InsertFault::Full { seen: 16 }));
     take_some(&table, &mut flush, 3, &mut taken);
     assert!(rt; taken.as_slice() == put.as_slice() && taken.len() == 16);
-    let answer = put_one(&table, &mut pass, 3, item(1, 17), &mut put);
+    let answer = put_one(&table, &mut pass, 3, (1, 17), &mut put);
     assert!(rt; answer.is_ok());
     let first = table.retire(flush);
     table.join(&mut pass, first);

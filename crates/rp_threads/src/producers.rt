@@ -28,12 +28,12 @@ fn two_put<R: Threads + Sync>(
     join(
         rt,
         || -> (Pass, Items)
-            requires { IsPassOf table one × (200 ≤ one_done.spare) }
-            ensures { IsPassOf table result.0 × ((known_by result.0).parts ≡ (known_by one).parts) }
+            requires { IsPassOf table.now one × (200 ≤ one_done.spare) }
+            ensures { IsPassOf table.entry.now result.0 × ((known_by result.0).parts ≡ (known_by one).parts) }
         { put_many(table, one, 5, 1, one_done) },
         || -> (Pass, Items)
-            requires { IsPassOf table two × (200 ≤ two_done.spare) }
-            ensures { IsPassOf table result.0 × ((known_by result.0).parts ≡ (known_by two).parts) }
+            requires { IsPassOf table.now two × (200 ≤ two_done.spare) }
+            ensures { IsPassOf table.entry.now result.0 × ((known_by result.0).parts ≡ (known_by two).parts) }
         { put_many(table, two, 5, 2, two_done) },
     )
 }
@@ -58,12 +58,12 @@ fn put_and_take<R: Threads + Sync>(
     join(
         rt,
         || -> (Pass, Items)
-            requires { IsPassOf table one × (200 ≤ one_done.spare) }
-            ensures { IsPassOf table result.0 × ((known_by result.0).parts ≡ (known_by one).parts) }
+            requires { IsPassOf table.now one × (200 ≤ one_done.spare) }
+            ensures { IsPassOf table.entry.now result.0 × ((known_by result.0).parts ≡ (known_by one).parts) }
         { put_many(table, one, 5, 3, one_done) },
         || -> (FlushPass, Items)
-            requires { IsPassOf table flush.pass × (flush.node ≡ 1) × (3200 ≤ taken.spare) }
-            ensures { IsPassOf table result.0.pass
+            requires { IsPassOf table.now flush.pass × (flush.node ≡ 1) × (3200 ≤ taken.spare) }
+            ensures { IsPassOf table.entry.now result.0.pass
                 × ((known_by result.0.pass).parts ≡ (known_by flush.pass).parts) }
         { take_many(table, flush, 5, taken) },
     )
@@ -105,15 +105,15 @@ fn all_four<R: Threads + Sync>(
     join(
         rt,
         || -> ((Pass, Items), (Pass, Items))
-            requires { IsPassOf table one.0 × (200 ≤ one.1.spare) × IsPassOf table two.0 × (200 ≤ two.1.spare) }
-            ensures { IsPassOf table result.0.0 × ((known_by result.0.0).parts ≡ (known_by one.0).parts)
-                × IsPassOf table result.1.0 × ((known_by result.1.0).parts ≡ (known_by two.0).parts) }
+            requires { IsPassOf table.now one.0 × (200 ≤ one.1.spare) × IsPassOf table.now two.0 × (200 ≤ two.1.spare) }
+            ensures { IsPassOf table.entry.now result.0.0 × ((known_by result.0.0).parts ≡ (known_by one.0).parts)
+                × IsPassOf table.entry.now result.1.0 × ((known_by result.1.0).parts ≡ (known_by two.0).parts) }
         { two_put(rt, table, one, two) },
         || -> ((Pass, Items), (FlushPass, Items))
-            requires { IsPassOf table three.0 × (200 ≤ three.1.spare) × IsPassOf table four.0.pass
+            requires { IsPassOf table.now three.0 × (200 ≤ three.1.spare) × IsPassOf table.now four.0.pass
                 × (four.0.node ≡ 1) × (3200 ≤ four.1.spare) }
-            ensures { IsPassOf table result.0.0 × ((known_by result.0.0).parts ≡ (known_by three.0).parts)
-                × IsPassOf table result.1.0.pass
+            ensures { IsPassOf table.entry.now result.0.0 × ((known_by result.0.0).parts ≡ (known_by three.0).parts)
+                × IsPassOf table.entry.now result.1.0.pass
                 × ((known_by result.1.0.pass).parts ≡ (known_by four.0.pass).parts) }
         { put_and_take(rt, table, three, four) },
     )

@@ -10,5 +10,5 @@ returns-clause-found c =
     let word : slice_index (slots_items c.args.closed.now.words) (40 + c.args.place) ≡ c.word-word.result = found (slots_items c.args.closed.now.words) (40 + c.args.place) c.word-word.result 0 c.word-word.ensures in
     let item : slice_index_or (slots_items c.args.closed.now.slots) c.args.place None ≡ c.take-item.result = found (slots_items c.args.closed.now.slots) c.args.place c.take-item.result None c.take-item.ensures.value in
     c.note.ensures.found ∙ ap (λ l. c.args.left.now.list ++ l)
-      (ap (λ (w : ℕ). found_at c.args.place w c.take-item.result) (sym word)
-       ∙ ap (λ (y : Option Item). found_at c.args.place (slice_index (slots_items c.args.closed.now.words) (40 + c.args.place)) y) (sym item))
+    (ap (λ (w : ℕ). found_at c.args.place w c.take-item.result) (sym word)
+    ∙ ap (λ (y : Option Item). found_at c.args.place (slice_index (slots_items c.args.closed.now.words) (40 + c.args.place)) y) (sym item))

@@ -10,7 +10,7 @@ loop-place-init c = let count = c.requires.slots.0 in let room = c.requires.room
   words = refl;
   items = refl;
   count = count;
-  emptied = record { rest = λ k low high. c.requires.slots.1 k (omega arith) (omega (arith, high, count)); gone = λ k low. absurd (omega (arith, low)); };
+  emptied = record { rest = λ k low high. c.requires.slots.1 k (omega arith) (omega (arith, high, count)); gone = λ k low. absurd (omega (arith, low)) };
   room = omega (arith, room);
   found = lying_none _ _ _;
 }
@@ -30,5 +30,5 @@ loop-place-preserved c =
       room = omega (arith, room, more);
       found = lying_next place (slots_items c.args.closed.words) (slots_items c.args.closed.slots) _ _ _ was.found
           (step.found ∙ ap (λ ws. c.loop-place.left.list ++ found_at place (slice_index (slots_items ws) (40 + place)) (slice_index_or (slots_items c.loop-place.closed.slots) place None)) was.words
-           ∙ ap (λ (xs : List (Option Item)). c.loop-place.left.list ++ found_at place (slice_index (slots_items c.args.closed.words) (40 + place)) (slice_index_or xs place None)) was.items);
+          ∙ ap (λ (xs : List (Option Item)). c.loop-place.left.list ++ found_at place (slice_index (slots_items c.args.closed.words) (40 + place)) (slice_index_or xs place None)) was.items);
     }

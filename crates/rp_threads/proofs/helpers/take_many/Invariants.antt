@@ -7,5 +7,5 @@ invariant-loop l = record {
   of : IsPassOf l.fn.table l.flush.pass;
   node : l.flush.node ≡ l.fn.flush.node;
   parts : (known_by l.flush.pass).parts ≡ (known_by l.fn.flush.pass).parts;
-  room : 3200 ≤ l.out.spare + 16 * l.index;
+  room : 3200 ≤ l.out.spare + 16 * l.counter;
 }

@@ -12,6 +12,6 @@ pub returns : goal.returns
 returns c =
     let key = c.args.self.keyed in
     let list : c.empty_all.new.left.list ≡ lying 640 (slots_items c.close_with.result.words) (slots_items c.close_with.result.slots) =
-        c.empty_all.ensures ∙ ap (λ (l : List LeftItem). l ++ lying 640 (slots_items c.close_with.result.words) (slots_items c.close_with.result.slots)) (c.in_ok-make_room.ensures.list ∙ c.new-left.ensures) in
+    c.empty_all.ensures ∙ ap (λ (l : List LeftItem). l ++ lying 640 (slots_items c.close_with.result.words) (slots_items c.close_with.result.slots)) (c.in_ok-make_room.ensures.list ∙ c.new-left.ensures) in
     subst (λ (l : List LeftItem). PutIsTakenOrLeft (known_by c.args.pass) l) (sym list)
-      (settles _ _ _ _ c.requires.all (subst (λ (n : ℕ). Final (Seen (Kept n) c.args.pass.seat.id c.args.pass.seat.me.0) (slots_items c.close_with.result.words) (slots_items c.close_with.result.slots)) key c.close_with.ensures.values.2))
+    (settles _ _ _ _ c.requires.all (subst (λ (n : ℕ). Final (Seen (Kept n) c.args.pass.seat.id c.args.pass.seat.me.0) (slots_items c.close_with.result.words) (slots_items c.close_with.result.slots)) key c.close_with.ensures.values.2))

@@ -22,10 +22,12 @@ compare_exchange-seen-requires c =
     let same = c.from-counter.ensures in
     let told = c.load-loaded.ensures.2 in
     let most = told.0 in
-    let below = c.if-full.false in
-    (c.load-loaded.ensures.0 ∙ c.requires.of, omega (arith, words, low, same),
+    let below = c.if-full.false in (
+      c.load-loaded.ensures.0 ∙ c.requires.of,
+      omega (arith, words, low, same),
       draws _ _ _ _ _ _ (omega (arith, key, low, same)) (omega (arith, most, below)) (ap (λ (v : Hand). v.stage) told.1 ∙ c.args.pass.now.is_idle)
-        (subst (λ (v : Hand). 0 < v.parts) (sym told.1) c.args.pass.now.has_part))
+          (subst (λ (v : Hand). 0 < v.parts) (sym told.1) c.args.pass.now.has_part),
+    )
 
 pub swap-requires : goal.swap-requires
 swap-requires c =
@@ -36,11 +38,12 @@ swap-requires c =
     let same = c.from-counter.ensures in
     let most = c.load-loaded.ensures.2.0 in
     let below = c.if-full.false in
-    let is = ready _ _ _ _ _ _ _ _ c.if-seen-loaded.false c.load-loaded.ensures.2 c.compare_exchange-seen.ensures.2 c.exchange.ensures.3 in
-    (c.exchange.ensures.0 ∙ c.compare_exchange-seen.ensures.0 ∙ c.load-loaded.ensures.0 ∙ c.requires.of,
+    let is = ready _ _ _ _ _ _ _ _ c.if-seen-loaded.false c.load-loaded.ensures.2 c.compare_exchange-seen.ensures.2 c.exchange.ensures.3 in (
+      c.exchange.ensures.0 ∙ c.compare_exchange-seen.ensures.0 ∙ c.load-loaded.ensures.0 ∙ c.requires.of,
       omega (arith, words, low, same, most, below),
       publishes_at _ _ _ _ _ _ _ (omega (arith, key)) (omega (arith, key, slots)) (ap (λ (v : Hand). v.stage) is.0) is.1
-        (subst (λ (v : Hand). 0 < v.parts) (sym is.0) c.args.pass.now.has_part))
+          (subst (λ (v : Hand). 0 < v.parts) (sym is.0) c.args.pass.now.has_part),
+    )
 
 pub invariant_of-pass-2 : goal.invariant_of-pass-2
 invariant_of-pass-2 c =

@@ -11,8 +11,10 @@ swap-requires c =
     let key = c.args.self.now.keyed in
     let words = c.args.self.now.counted.0 in
     let low = c.requires.sweeping.within in
-    let sixteen = c.sixteen.ensures in
-    (c.requires.of, omega (arith, words, low),
+    let sixteen = c.sixteen.ensures in (
+      c.requires.of,
+      omega (arith, words, low),
       reopens _ _ _ _ c.in-Closed.count c.in-Closed.gone _ (omega (arith, key, low)) c.requires.sweeping.carried
-        (ap (λ (rs : List Right). keep_at rs c.args.buffer) (sym c.args.pass.now.same_rights) ∙ sym c.kept.ensures ∙ c.in-Closed.is)
-        (λ p fits low_p. gone_at _ _ p (sym c.all_gone-all.ensures ∙ c.if-all.true) low_p (omega (arith, sixteen, fits))))
+          (ap (λ (rs : List Right). keep_at rs c.args.buffer) (sym c.args.pass.now.same_rights) ∙ sym c.kept.ensures ∙ c.in-Closed.is)
+          (λ p fits low_p. gone_at _ _ p (sym c.all_gone-all.ensures ∙ c.if-all.true) low_p (omega (arith, sixteen, fits))),
+    )

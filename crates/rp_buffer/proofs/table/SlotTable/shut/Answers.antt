@@ -12,16 +12,19 @@ pub swap-count-requires : goal.swap-count-requires
 swap-count-requires c =
     let key = c.args.self.now.keyed in
     let words = c.args.self.now.counted.0 in
-    let low = c.requires.buffer in
-    (c.requires.of, omega (arith, words, low), shuts _ _ _ _ _ (omega (arith, key, low)) c.requires.carried
-      (ap (λ (rs : List Right). keep_at rs c.args.buffer) (sym c.args.pass.now.same_rights) ∙ sym c.kept-before.ensures ∙ c.in-Open.is))
+    let low = c.requires.buffer in (
+      c.requires.of,
+      omega (arith, words, low),
+      shuts _ _ _ _ _ (omega (arith, key, low)) c.requires.carried
+          (ap (λ (rs : List Right). keep_at rs c.args.buffer) (sym c.args.pass.now.same_rights) ∙ sym c.kept-before.ensures ∙ c.in-Open.is),
+    )
 
 pub returns-in-Open-clause-sweeping : goal.returns-in-Open-clause-sweeping
 returns-in-Open-clause-sweeping c =
     let was : IsCarried (right_at c.args.pass.now.rights (c.args.buffer / 8)) = subst (λ (rs : List Right). IsCarried (right_at rs (c.args.buffer / 8))) (sym c.args.pass.now.same_rights) c.requires.carried in
     let now_is : c.keep.new.rights ≡ c.swap-count.new.seat.me.0.rights =
-        c.keep.ensures.all ∙ ap (λ (rs : List Right). with_keep rs c.args.buffer (Closed c.swap-count.result none_gone)) c.args.pass.now.same_rights
-        ∙ sym (ap (λ (v : Hand). v.rights) c.swap-count.ensures.2.1) in
+    c.keep.ensures.all ∙ ap (λ (rs : List Right). with_keep rs c.args.buffer (Closed c.swap-count.result none_gone)) c.args.pass.now.same_rights
+    ∙ sym (ap (λ (v : Hand). v.rights) c.swap-count.ensures.2.1) in
     record {
       within = c.requires.buffer;
       carried = subst (λ (rs : List Right). IsCarried (right_at rs (c.args.buffer / 8))) now_is (c.keep.ensures.carried was);

@@ -17,8 +17,8 @@ returns-clause-told c =
     let past = c.loop-place-test.false in
     let within = c.loop-place.auto.place-end in
     subst (λ (n : ℕ). (items : List Item) × (length items ≤ n) × (c.loop-place.out.list ≡ c.args.out.now.list ++ items)
-        × (c.args.out.now.spare ≤ c.loop-place.out.spare + length items) × Swept c.args.buffer n (known_by c.args.pass.now) items (known_by c.loop-place.pass))
-      (omega (arith, past, within)) c.loop-place.invariant.told
+    × (c.args.out.now.spare ≤ c.loop-place.out.spare + length items) × Swept c.args.buffer n (known_by c.args.pass.now) items (known_by c.loop-place.pass))
+    (omega (arith, past, within)) c.loop-place.invariant.told
 
 pub loop-place-init : goal.loop-place-init
 loop-place-init c = record {

@@ -16,9 +16,11 @@ compare_exchange-seen-requires c =
     let words = c.args.self.now.counted.0 in
     let slots = c.args.self.now.counted.1 in
     let low = c.requires.sweeping.within in
-    let place = c.requires.place in
-    (c.requires.of, omega (arith, words, low, place),
-      takes_at _ _ _ (16 * c.args.buffer + c.args.place) _ _ (omega (arith, key)) (omega (arith, key, slots)) (omega (arith, key, low, place)) c.args.pass.now.has_part)
+    let place = c.requires.place in (
+      c.requires.of,
+      omega (arith, words, low, place),
+      takes_at _ _ _ (16 * c.args.buffer + c.args.place) _ _ (omega (arith, key)) (omega (arith, key, slots)) (omega (arith, key, low, place)) c.args.pass.now.has_part,
+    )
 
 pub exchange-item-requires : goal.exchange-item-requires
 exchange-item-requires c =
@@ -36,7 +38,9 @@ load-requires c =
     let took = subst (λ z. plays.took (step z (40 + (16 * c.args.buffer + c.args.place)) 1 0 maybe.none) c.args.pass.now.seat.me c.compare_exchange-seen.result c.compare_exchange-seen.new.seat.me) slots c.compare_exchange-seen.ensures.2 in
     let out = emptied _ (16 * c.args.buffer + c.args.place) _ _ _ _ _ c.if-seen-ne1.false (omega arith) took c.exchange-item.ensures.2 c.exchange-item.ensures.3 in
     let of = of_buffer c.args.buffer c.args.place (16 * c.args.buffer + c.args.place) _ _ _ (omega arith) place out.2 c.requires.sweeping in
-    let closed = closed_at _ of.1 in
-    (c.exchange-item.ensures.0 ∙ c.compare_exchange-seen.ensures.0 ∙ c.requires.of, omega (arith, words, low, place),
+    let closed = closed_at _ of.1 in (
+      c.exchange-item.ensures.0 ∙ c.compare_exchange-seen.ensures.0 ∙ c.requires.of,
+      omega (arith, words, low, place),
       returns_at _ _ _ (16 * c.args.buffer + c.args.place) _ closed.0 closed.1 _ (omega (arith, key)) (omega (arith, key, slots))
-        (ap (λ (v : Hand). v.stage) out.2) out.3 (subst (λ (v : Hand). 0 < v.parts) (sym out.2) c.args.pass.now.has_part) of.0 closed.2)
+          (ap (λ (v : Hand). v.stage) out.2) out.3 (subst (λ (v : Hand). 0 < v.parts) (sym out.2) c.args.pass.now.has_part) of.0 closed.2,
+    )
