@@ -1,0 +1,11 @@
+pub mod Places
+pub mod Showing
+pub mod Frames
+pub mod Steps
+pub mod Keeping
+pub mod Sweeps
+pub mod Inserting
+pub mod Taking
+pub mod Collecting
+pub mod Ends
+pub mod Closing
