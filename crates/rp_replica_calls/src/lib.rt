@@ -2,6 +2,14 @@
 #![tactic(auto)]
 
 #[cfg(test)]
+mod applies;
+#[cfg(test)]
+mod begins;
+#[cfg(test)]
+mod deliveries;
+#[cfg(test)]
 mod events;
+#[cfg(test)]
+mod samples;
 #[cfg(test)]
 mod turns;
