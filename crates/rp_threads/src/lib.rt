@@ -1,0 +1,5 @@
+//! A slot table, called by one thread and by threads beside one another.
+#![tactic(auto)]
+
+#[cfg(test)]
+mod one_thread;
