@@ -1,3 +1,4 @@
 pub mod Seating
 pub mod Turning
 pub mod Stepping
+pub mod Waiting

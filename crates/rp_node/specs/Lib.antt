@@ -1,3 +1,5 @@
 pub mod Cores
 pub mod Plans
 pub mod Steps
+pub mod Seen
+pub mod Waits

@@ -1,5 +1,5 @@
 //! A node without its buffer end: its replicas, its time, and its lists.
-ghost use Rattle.std.specs.Prelude.{◌≡◌, ◌≤◌, Some, IfOk, MatchOption, length};
+ghost use Rattle.std.specs.Prelude.{◌≡◌, ◌<◌, ◌≤◌, Some, IfOk, MatchOption, length};
 ghost use Rattle.rp_events.specs.Replicas as replicas;
 ghost use Rattle.rp_events.specs.Nodes.{first_node, opened, seat};
 ghost use Rattle.rp_replica.specs.Plans.{planned};
@@ -89,6 +89,7 @@ impl Core {
         ensures node { node_of self.new ≡ node_of self.old }
         ensures plan { IfOk result (λ p. IsPrepared (seat_in self.new.seats range) self.new.logs
             happens self.new.ticks self.new.rounds p) }
+        ensures seat { range < length self.new.seats }
         ensures nodes { self.new.nodes ≡ self.old.nodes }
     {
         let (ticks, rounds) = (self.ticks, self.rounds);

@@ -5,8 +5,10 @@
 mod cores;
 mod logs;
 mod nodes;
+mod rounds;
 mod seats;
 mod steps;
 
 pub use logs::{Journal, Outcomes, Requests, Sent};
 pub use nodes::Node;
+pub use seats::Seen;

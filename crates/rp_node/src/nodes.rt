@@ -1,10 +1,12 @@
 //! A node: how it begins, and what it shows.
 ghost use Rattle.std.specs.Prelude.{◌≡◌, ◌≤◌};
-ghost use Rattle.rp_events.specs.Nodes.{first_node, is_full};
+ghost use Rattle.rp_events.specs.Nodes.{first_node, is_full, seat};
+ghost use Rattle.rp_node.specs.Seen.{Shows};
 
 use crate::cores::Core;
 use crate::logs::{Journal, Outcomes, Requests, Sent};
-use rp_base::NodeId;
+use crate::seats::Seen;
+use rp_base::{NodeId, RangeId};
 use rp_bufcore::BufferEnd;
 use std::alloc::Global;
 use std::marker::Model;
@@ -94,6 +96,13 @@ impl<B: BufferEnd + Drop> Node<B> {
         ensures { result.now.list ≡ self.now.node.outcomes }
     {
         &self.core.logs.outcomes
+    }
+
+    /// What it has of a range.
+    pub fn seen(&self, range: RangeId) -> Seen<'_>
+        ensures { Shows (seat self.now.node range) result }
+    {
+        self.core.seats[usize::from(range.get())].seen()
     }
 
     /// Its buffer end.
