@@ -6,9 +6,9 @@ ghost use Rattle.rp_replica.specs.Plans.{PlanFits};
 ghost use Rattle.rp_request.specs.Applicable.{Fits};
 
 use crate::samples::{answers, attempt, ends, key, node, one_item, put};
-use crate::turns::{alone, happen, proposes};
+use crate::turns::{alone, happen, peek, proposes};
 use rp_apply::ApplyState;
-use rp_base::{Item, Key, Tick};
+use rp_base::{Item, Key, Tick, Value};
 use rp_codec::decode;
 use rp_events::{Effects, EventAnswer, ReplicaEvent};
 use rp_raftlog::Entry;
@@ -86,11 +86,20 @@ fn may_apply(alloc: Global, replica: &Replica) -> bool
 }
 
 /// The next committed entry is applied.
-fn apply(alloc: Global, replica: &mut Replica) -> Option<Effects<Snapshot>> {
+pub(crate) fn apply(alloc: Global, replica: &mut Replica) -> Option<Effects<Snapshot>> {
     if !may_apply(alloc, replica) {
         return None;
     }
     happen(replica, ReplicaEvent::Apply, Tick::new(3))
+}
+
+/// Whether the key holds 5 as of index 1.
+fn holds_five(replica: &mut Replica, a: Key) -> bool {
+    let five = EventAnswer::Value {
+        value: Some(Value::Number(5)),
+        applied: 1,
+    };
+    answers(peek(replica, a), &five)
 }
 
 #[test]
@@ -99,17 +108,9 @@ fn a_put_is_applied(rt: HostRuntime) -> Result<(), Fail> {
     let taken = one_item(rt.alloc(), &Item::Write(attempt(1)))?;
     let replied = Outcome::Success(Reply::Old(None));
     let mut replica = alone(rt.alloc(), one);
-    let proposed = proposes(&mut replica, put(a), taken);
+    let proposed = proposes(&mut replica, put(a), taken) && replica.commit_index() == 1;
     let ended = ends(apply(rt.alloc(), &mut replica), attempt(1), &replied);
-    assert!(rt; proposed && ended && replica.applied().index() == 1);
-    Ok(())
-}
-
-#[test]
-fn nothing_is_left_to_apply(rt: HostRuntime) -> Result<(), Fail> {
-    let one = node(1)?;
-    let mut replica = alone(rt.alloc(), one);
-    assert!(rt; answers(apply(rt.alloc(), &mut replica), &EventAnswer::Nothing));
+    assert!(rt; proposed && ended && holds_five(&mut replica, a));
     Ok(())
 }
 

@@ -1,9 +1,7 @@
-//! How a replica begins, first ticks and messages, and copies of messages.
-use crate::samples::{attempt, key, node, put};
-use crate::turns::{admit, alone};
+//! How a replica begins, and a copy of a message.
+use crate::samples::node;
 use rp_apply::ApplyState;
-use rp_base::{Bytes, LeaseIndex, LeaseSeq, NodeId, Seq, Tick};
-use rp_events::ReplicaEvent;
+use rp_base::{Bytes, LeaseIndex, LeaseSeq, NodeId, Seq};
 use rp_raft::Raft;
 use rp_raftstep::Message;
 use rp_range::{first_desc, first_lease};
@@ -53,23 +51,6 @@ fn is_revived(rt: HostRuntime) -> Result<(), Fail> {
             && replica.first_round().is_none()
             && replica.into_applied().index() == 10
     );
-    Ok(())
-}
-
-/// How many messages and outcomes a removal will hand out.
-fn sizes_of_removal(replica: &mut Replica) -> Option<(usize, usize)> {
-    match replica.plan(ReplicaEvent::Remove, Tick::new(3), 1) {
-        Ok(plan) => Some(plan.sizes()),
-        Err(_) => None,
-    }
-}
-
-#[test]
-fn a_plan_tells_its_sizes(rt: HostRuntime) -> Result<(), Fail> {
-    let (one, a) = (node(1)?, key("a")?);
-    let mut replica = alone(rt.alloc(), one);
-    let admitted = admit(&mut replica, attempt(1), put(a)).is_some();
-    assert!(rt; admitted && sizes_of_removal(&mut replica) == Some((0, 1)));
     Ok(())
 }
 

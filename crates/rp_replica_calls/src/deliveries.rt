@@ -1,5 +1,5 @@
-//! A tick of a leader, and a first message at another node.
-use crate::samples::{answers, node};
+//! A first message at a node that follows.
+use crate::samples::node;
 use crate::turns::happen;
 use rp_base::{NodeId, Seq, Tick};
 use rp_events::{Effects, EventAnswer, ReplicaEvent};
@@ -9,19 +9,6 @@ use rp_snapshot::Snapshot;
 use rp_split::first;
 use std::alloc::Global;
 use std::test::Fail;
-
-/// The first tick of the leader of three nodes.
-fn first_tick(alloc: Global, one: NodeId) -> Option<Effects<Snapshot>> {
-    let mut replica = Replica::start(alloc, one, 3, first(alloc), one, (0, 0));
-    happen(&mut replica, ReplicaEvent::Tick, Tick::new(1))
-}
-
-#[test]
-fn a_leader_is_silent_at_its_first_tick(rt: HostRuntime) -> Result<(), Fail> {
-    let one = node(1)?;
-    assert!(rt; answers(first_tick(rt.alloc(), one), &EventAnswer::Done));
-    Ok(())
-}
 
 /// Another node than the leader hears its first Append, without entries.
 fn first_append(alloc: Global, two: NodeId, one: NodeId) -> Option<Effects<Snapshot>> {

@@ -12,4 +12,6 @@ mod events;
 #[cfg(test)]
 mod samples;
 #[cfg(test)]
+mod ticks;
+#[cfg(test)]
 mod turns;
