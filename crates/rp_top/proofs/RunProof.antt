@@ -17,7 +17,7 @@ use Rattle.rp_top.specs.declared.statuses.Status.{Status}
 use Rattle.rp_top.specs.declared.statuses.Status.TheVariants as statuses
 use Rattle.rp_top.specs.Status.{code_of}
 use Rattle.rp_top.proofs.ReadsSource.{any_script}
-use Rattle.rp_world.specs.Fits.{LineFits}
+use Rattle.rp_alone.specs.Fits.{LineFits}
 use Rattle.rp_worldsafe.specs.Headline.{IsHeadline}
 use Rattle.rp_worldsafe.proofs.HeadlineProof.{headline}
 

@@ -5,7 +5,7 @@ use Rattle.rp_script.specs.Meaning.{meaning}
 use Rattle.rp_script.specs.declared.built.Forms.TheVariants.{OneNode}
 use Rattle.rp_script.specs.declared.faults.ScriptFault.{ScriptFault}
 use Rattle.rp_script.specs.declared.lines.NumberedLine.{NumberedLine}
-use Rattle.rp_world.specs.Views.{view_of}
+use Rattle.rp_alone.specs.Views.{view_of}
 use Rattle.rp_worldsafe.specs.Headline.{node_after}
 
 -- the lines of a script of one node, or the first limit or refusal

@@ -7,10 +7,10 @@ ghost use Rattle.rp_script.specs.declared.built.Forms.TheVariants.{OneNode};
 ghost use Rattle.rp_top.specs.Scripts.{shown_of};
 ghost use Rattle.rp_worldsafe.specs.Headline.{IsHeadline};
 
+use rp_alone::play_lines;
 use rp_base::NoMemory;
 use rp_report::View;
 use rp_script::NumberedLine;
-use rp_world::play_lines;
 use std::alloc::Global;
 
 /// What one node shows that has played the lines of a script.

@@ -16,7 +16,7 @@ use Rattle.rp_refine.specs.Runs.{Run, Outcomes, AllLawful, IsRefusal, begun, pla
 use Rattle.rp_refine.proofs.Telling.{all_carry, applied_is, applied_place_is_told, fold_is, index_within, listed_is_pending, log_recorded, never_ambiguous, none_left_out, once, once_in_log, pending_is_listed, place_is_lawful, refused_has_never, success_is_one_place}
 use Rattle.rp_refine.proofs.Unmade.{unmade_has_no_place}
 use Rattle.rp_script.specs.declared.lines.NumberedLine.{NumberedLine}
-use Rattle.rp_world.specs.Worlds.{World, started}
+use Rattle.rp_alone.specs.Worlds.{World, started}
 use Rattle.rp_worldsafe.specs.Headline.{AppliesAPrefix, IsHeadline, NeverHasAPlace, log_of, node_after}
 use Rattle.rp_worldsafe.specs.Inputs.{all_inputs, run_of}
 use Rattle.rp_worldsafe.specs.Playable.{ArePlayable}

@@ -10,7 +10,7 @@ use Rattle.rp_base.specs.declared.ids.CmdId.{CmdId}
 use Rattle.rp_request.specs.declared.outcomes.Outcome.{Outcome}
 use Rattle.rp_base.proofs.IdLaws.{at_itself, at_other, cmd_total, cmd_equal_is}
 use Rattle.rp_base.specs.Ids.{cmd_cmp}
-use Rattle.rp_world.specs.Worlds.{Outcomes}
+use Rattle.rp_alone.specs.Worlds.{Outcomes}
 
 -- the outcome of an attempt in a list of them
 abbrev pub found : Outcomes → CmdId → Option Outcome

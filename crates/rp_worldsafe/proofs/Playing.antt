@@ -29,10 +29,10 @@ use Rattle.rp_script.specs.declared.built.Forms.TheVariants.{OneNode}
 use Rattle.rp_script.specs.declared.lines.NumberedLine.{NumberedLine}
 use Rattle.rp_script.specs.declared.lines.ScriptLine.{ScriptLine}
 use Rattle.rp_script.specs.declared.lines.ScriptLine.TheVariants as lines
-use Rattle.rp_world.specs.Fits.{Fits, LineFits}
+use Rattle.rp_alone.specs.Fits.{Fits, LineFits}
 use Rattle.rp_report.specs.Notes.{absent_text, full_text}
-use Rattle.rp_world.specs.Playing.{applied, asked, collected, flushed, happens, has_replica, noted, peeked, played, told}
-use Rattle.rp_world.specs.Worlds.{World, started, with_note, with_outcome, took, next_command, counted}
+use Rattle.rp_alone.specs.Playing.{applied, asked, collected, flushed, happens, has_replica, noted, peeked, played, told}
+use Rattle.rp_alone.specs.Worlds.{World, started, with_note, with_outcome, took, next_command, counted}
 use Rattle.rp_worldsafe.specs.Inputs.{input, inputs_of, all_inputs}
 use Rattle.rp_worldsafe.specs.Playable.{ArePlayable}
 use Rattle.rp_worldsafe.proofs.Told.{Along, along_line, play_append, starts_along}

@@ -18,8 +18,8 @@ use Rattle.rp_script.specs.declared.lines.NumberedLine.{NumberedLine}
 use Rattle.rp_script.specs.declared.lines.ScriptLine.{ScriptLine}
 use Rattle.rp_script.specs.declared.lines.ScriptLine.TheVariants as lines
 use Rattle.rp_report.specs.Notes.{absent_text, full_text}
-use Rattle.rp_world.specs.Playing.{applied, asked, collected, flushed, happens, has_replica, noted, peeked, played, played_all, told}
-use Rattle.rp_world.specs.Worlds.{World, started, with_note, with_outcome, took, next_command, counted}
+use Rattle.rp_alone.specs.Playing.{applied, asked, collected, flushed, happens, has_replica, noted, peeked, played, played_all, told}
+use Rattle.rp_alone.specs.Worlds.{World, started, with_note, with_outcome, took, next_command, counted}
 use Rattle.rp_worldsafe.specs.Inputs.{input, inputs_of, all_inputs, run_of}
 
 -- the replica after a list of events

@@ -45,11 +45,11 @@ use Rattle.rp_script.specs.declared.lines.NumberedLine.{NumberedLine}
 use Rattle.rp_script.specs.declared.lines.ScriptLine.{ScriptLine}
 use Rattle.rp_script.specs.declared.lines.ScriptLine.TheVariants as lines
 use Rattle.rp_report.specs.Notes.{absent_text, full_text}
-use Rattle.rp_world.specs.Playing.{applied, asked, collected, has_replica, happens, noted, peeked, played, played_all}
-use Rattle.rp_world.specs.Playing as playing
+use Rattle.rp_alone.specs.Playing.{applied, asked, collected, has_replica, happens, noted, peeked, played, played_all}
+use Rattle.rp_alone.specs.Playing as playing
 use Rattle.rp_base.specs.Ids.{cmd_cmp}
-use Rattle.rp_world.specs.Worlds.{World, Outcomes, counted, ended_in, next_command, started, took, with_note}
-use Rattle.rp_world.specs.Worlds as worlds
+use Rattle.rp_alone.specs.Worlds.{World, Outcomes, counted, ended_in, next_command, started, took, with_note}
+use Rattle.rp_alone.specs.Worlds as worlds
 use Rattle.rp_worldsafe.specs.Inputs.{all_inputs, input, inputs_of, run_of}
 use Rattle.rp_worldsafe.specs.Told.{IsKept, IsTold, IsUnasked}
 use Rattle.rp_worldsafe.proofs.Lookups.{IsRising, each_found, found, put_itself, put_other, put_rising}

@@ -20,8 +20,8 @@ use Rattle.rp_request.specs.States.{first_applied}
 use Rattle.rp_refine.specs.Laws.{payload, IsPlace, IsLawfulPlace, IsTheOnePlace}
 use Rattle.rp_refine.specs.Runs.{IsRefusal}
 use Rattle.rp_script.specs.declared.lines.NumberedLine.{NumberedLine}
-use Rattle.rp_world.specs.Playing.{played_all}
-use Rattle.rp_world.specs.Worlds.{World, started}
+use Rattle.rp_alone.specs.Playing.{played_all}
+use Rattle.rp_alone.specs.Worlds.{World, started}
 use Rattle.rp_worldsafe.specs.Inputs.{run_of}
 use Rattle.rp_worldsafe.specs.Playable.{ArePlayable}
 use Rattle.rp_worldsafe.specs.Sends.{IsSentIn}

@@ -7,8 +7,8 @@ use Rattle.rp_refine.specs.Runs.{Input, Run, begun, play}
 use Rattle.rp_script.specs.declared.lines.NumberedLine.{NumberedLine}
 use Rattle.rp_script.specs.declared.lines.ScriptLine.{ScriptLine}
 use Rattle.rp_script.specs.declared.lines.ScriptLine.TheVariants as lines
-use Rattle.rp_world.specs.Playing.{has_replica, played}
-use Rattle.rp_world.specs.Worlds.{World, started, next_command}
+use Rattle.rp_alone.specs.Playing.{has_replica, played}
+use Rattle.rp_alone.specs.Worlds.{World, started, next_command}
 
 -- an event, with what the buffer gave; there are no ticks and no rounds yet
 abbrev pub input : ReplicaEvent → List Item → Input

@@ -8,7 +8,7 @@ use Rattle.rp_request.specs.declared.outcomes.Outcome.TheVariants.{Refused}
 use Rattle.rp_request.specs.declared.outcomes.Refusal.TheVariants.{NoReplica}
 use Rattle.rp_refine.specs.Runs.{Run}
 use Rattle.rp_base.specs.Ids.{cmd_cmp}
-use Rattle.rp_world.specs.Worlds.{World}
+use Rattle.rp_alone.specs.Worlds.{World}
 
 -- the outcome that the node keeps of an attempt
 abbrev pub outcome_of : World → CmdId → Option Outcome
