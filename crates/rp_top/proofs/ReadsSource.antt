@@ -4,7 +4,6 @@ use Rattle.rp_outside.specs.Devices.{Comes, IsAtEnd, IsAll}
 use Rattle.rp_outside.proofs.Told.{comes_more}
 use Rattle.rp_script.specs.Meaning.{◌>>=◌}
 use Rattle.rp_script.specs.Reading.{Reading, unread, fed_all, finished}
-use Rattle.rp_script.specs.declared.built.Forms.TheVariants.{OneNode}
 use Rattle.rp_script.specs.declared.faults.ScriptFault.{ScriptFault}
 use Rattle.rp_script.specs.declared.lines.NumberedLine.{NumberedLine}
 use Rattle.rp_script.proofs.ReadsLines.{append-nil, reads_meaning, reads_pieces}
@@ -22,17 +21,17 @@ pub came_further : (a b c : Option (List ℕ)) (r s : Reading) (piece : List ℕ
 came_further a b c r s piece h came leads = record {
   bytes = h.bytes ++ piece;
   comes = comes_more a b c h.bytes piece h.comes came;
-  leads = reads_pieces (unread OneNode false) h.bytes piece ∙ ap (λ v. v >>= λ t. fed_all t piece) h.leads ∙ leads;
+  leads = reads_pieces (unread false) h.bytes piece ∙ ap (λ v. v >>= λ t. fed_all t piece) h.leads ∙ leads;
 }
 
-stopped : (bytes piece rest : List ℕ) (r : Reading) (fault : ScriptFault) → fed_all (unread OneNode false) bytes ≡ Ok r → fed_all r piece ≡ Err fault
+stopped : (bytes piece rest : List ℕ) (r : Reading) (fault : ScriptFault) → fed_all (unread false) bytes ≡ Ok r → fed_all r piece ≡ Err fault
     → script_of ((bytes ++ piece) ++ rest) ≡ Err fault
 stopped bytes piece rest r fault leads stops =
-    sym (reads_meaning OneNode false ((bytes ++ piece) ++ rest))
-    ∙ ap (λ v. v >>= λ s. finished s s.line) (reads_pieces (unread OneNode false) (bytes ++ piece) rest
-    ∙ ap (λ v. v >>= λ t. fed_all t rest) (reads_pieces (unread OneNode false) bytes piece ∙ ap (λ v. v >>= λ t. fed_all t piece) leads ∙ stops))
+    sym (reads_meaning false ((bytes ++ piece) ++ rest))
+    ∙ ap (λ v. v >>= λ s. finished s s.line) (reads_pieces (unread false) (bytes ++ piece) rest
+    ∙ ap (λ v. v >>= λ t. fed_all t rest) (reads_pieces (unread false) bytes piece ∙ ap (λ v. v >>= λ t. fed_all t piece) leads ∙ stops))
 
-stopped_here : (bytes piece : List ℕ) (r : Reading) (fault : ScriptFault) → fed_all (unread OneNode false) bytes ≡ Ok r → fed_all r piece ≡ Err fault
+stopped_here : (bytes piece : List ℕ) (r : Reading) (fault : ScriptFault) → fed_all (unread false) bytes ≡ Ok r → fed_all r piece ≡ Err fault
     → script_of (bytes ++ piece) ≡ Err fault
 stopped_here bytes piece r fault leads stops = ap (script_of) (sym (append-nil (bytes ++ piece))) ∙ stopped bytes piece [] r fault leads stops
 
@@ -64,5 +63,5 @@ came_whole a b c r res h came end gives =
       all.bytes,
       whole a c all.bytes all.comes end,
       (let P : Result (List NumberedLine) ScriptFault → Type 0 = λ v. Gives res v in
-          subst P (sym (ap (λ v. v >>= λ s. finished s s.line) all.leads) ∙ reads_meaning OneNode false all.bytes) gives),
+          subst P (sym (ap (λ v. v >>= λ s. finished s s.line) all.leads) ∙ reads_meaning false all.bytes) gives),
     )

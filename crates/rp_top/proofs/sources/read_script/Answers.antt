@@ -15,6 +15,5 @@ returns-in-Err-clause-script g c = came_stopped _ _ _ _ _ c.in-Err.stop c.loop-n
 pub loop-n-preserved : goal.loop-n-preserved
 loop-n-preserved g c = record {
   came = came_further _ _ _ _ _ _ c.loop-n.invariant.came c.in-Ok.ensures.comes c.in-Ok-feed.ensures.gives;
-  forms = c.in-Ok-feed.ensures.forms ∙ c.loop-n.invariant.forms;
   calm = c.in-Ok.ensures.calm ∙ c.loop-n.invariant.calm;
 }

@@ -1,15 +1,12 @@
--- The rules of a script refuse no line as not built.
+-- The rules of a script refuse by kinds of their own.
 use Rattle.std.proofs.Common.{◌≡◌, ◌⊎◌, inl, inr, ℕ, zero, suc, ◌+◌, Bool, true, false, List, [], ◌∷◌, Option, Some, None, Result, Ok, Err, refl, ap, sym, subst}
 use Rattle.std.specs.Prelude.{IfErr, if◌then◌else◌}
 use Rattle.rp_request.specs.Words.{words_of}
 use Rattle.rp_script.specs.Keywords.{keyword_of}
 use Rattle.rp_script.specs.Wanted.{Wanted, Number, CommandNumber, KeyName, ValueWord, Expected, EndFrom, RequestName}
 use Rattle.rp_script.specs.Seen.{Seen, limit_of, bad_byte_of, begins_comment, placed, skipped, unless_bad, said, at_line, unless_limited, judged}
-use Rattle.rp_script.specs.Built.{unbuilt_in}
-use Rattle.rp_script.specs.Meaning.{◌>>=◌, unless_unbuilt, built_at, judged_in}
-use Rattle.rp_script.specs.Causes.{IsWrong, IsRefusedAt, IsRule, IsRefusal, IsOfRules, IsFaultOfRules, KindsOfRules, IsUnbuilt, not_built, NotBuiltExactly}
+use Rattle.rp_script.specs.Causes.{IsWrong, IsRefusedAt, IsRule, IsRefusal, IsOfRules, IsFaultOfRules, KindsOfRules}
 use Rattle.rp_script.proofs.Rules.{refused_exactly}
-use Rattle.rp_script.specs.declared.built.Forms.{Forms}
 use Rattle.rp_script.specs.declared.faults.BadWord.{BadWord}
 use Rattle.rp_script.specs.declared.faults.Excess.{Excess}
 use Rattle.rp_script.specs.declared.faults.LineKind.{LineKind}
@@ -20,37 +17,29 @@ use Rattle.rp_script.specs.declared.keywords.Keyword.{Keyword}
 use Rattle.rp_script.specs.declared.lines.ScriptLine.{ScriptLine}
 
 by_rule : (s : Seen) (k : Keyword) (kind : LineKind) → IsRule s k kind → IsOfRules kind
-by_rule s k kinds.NotBuilt h = h
 by_rule s k kinds.NotJson h = h
 by_rule s k kinds.NotReport h = h
 by_rule s k kind h = tt
 
 by_wrong : (w : Wanted) (kind : LineKind) (word : List ℕ) → IsWrong w kind word → IsOfRules kind
-by_wrong (Number low high) kinds.NotBuilt word h = h
 by_wrong (Number low high) kinds.NotJson word h = h
 by_wrong (Number low high) kinds.NotReport word h = h
 by_wrong (Number low high) kind word h = tt
-by_wrong (CommandNumber count) kinds.NotBuilt word h = h
 by_wrong (CommandNumber count) kinds.NotJson word h = h
 by_wrong (CommandNumber count) kinds.NotReport word h = h
 by_wrong (CommandNumber count) kind word h = tt
-by_wrong KeyName kinds.NotBuilt word h = h
 by_wrong KeyName kinds.NotJson word h = h
 by_wrong KeyName kinds.NotReport word h = h
 by_wrong KeyName kind word h = tt
-by_wrong ValueWord kinds.NotBuilt word h = h
 by_wrong ValueWord kinds.NotJson word h = h
 by_wrong ValueWord kinds.NotReport word h = h
 by_wrong ValueWord kind word h = tt
-by_wrong Expected kinds.NotBuilt word h = h
 by_wrong Expected kinds.NotJson word h = h
 by_wrong Expected kinds.NotReport word h = h
 by_wrong Expected kind word h = tt
-by_wrong (EndFrom start) kinds.NotBuilt word h = h
 by_wrong (EndFrom start) kinds.NotJson word h = h
 by_wrong (EndFrom start) kinds.NotReport word h = h
 by_wrong (EndFrom start) kind word h = tt
-by_wrong RequestName kinds.NotBuilt word h = h
 by_wrong RequestName kinds.NotJson word h = h
 by_wrong RequestName kinds.NotReport word h = h
 by_wrong RequestName kind word h = tt
@@ -103,29 +92,3 @@ limited_ruled None k (Err e) h = h
 pub kinds_of_rules : KindsOfRules
 unfolding judged
 kinds_of_rules s line = limited_ruled (limit_of s line) (s.lines + 1) (said s (words_of line)) (said_ruled s (words_of line))
-
--- a line that the rules take
-abbrev refusal : ℕ → ℕ → Result (Option ScriptLine) ScriptFault
-refusal k word = Err (Refused k word kinds.NotBuilt)
-
-to_refusal : (forms : Forms) (k word : ℕ) (r : Result (Option ScriptLine) ScriptFault) → IsUnbuilt forms word r → (r >>= built_at k forms) ≡ refusal k word
-to_refusal forms k word (Ok (Some line)) h = ap (λ o. unless_unbuilt k o line) h
-to_refusal forms k word (Ok None) h = absurd h
-to_refusal forms k word (Err fault) h = absurd h
-
-word_of : (k word : ℕ) (line : ScriptLine) (o : Option ℕ) → unless_unbuilt k o line ≡ refusal k word → o ≡ Some word
-word_of k word line None e = absurd (cc)
-word_of k word line (Some at) e = cc
-
-from_refusal : (forms : Forms) (k word : ℕ) (r : Result (Option ScriptLine) ScriptFault) → IfErr r IsFaultOfRules
-    → (r >>= built_at k forms) ≡ refusal k word → IsUnbuilt forms word r
-from_refusal forms k word (Ok (Some line)) ruled e = word_of k word line (unbuilt_in forms line) e
-from_refusal forms k word (Ok None) ruled e = absurd (cc)
-from_refusal forms k word (Err fault) ruled e =
-    subst (λ (r : Result (Option ScriptLine) ScriptFault). IfErr r IsFaultOfRules) e ruled
-
-pub not_built_exactly : NotBuiltExactly
-not_built_exactly forms s line word = (
-  from_refusal forms (s.lines + 1) word (judged s line) (kinds_of_rules s line),
-  to_refusal forms (s.lines + 1) word (judged s line),
-)
