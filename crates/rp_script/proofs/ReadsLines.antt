@@ -115,7 +115,7 @@ same_number k n e = grind (arith, nat_tests)
 other_number : (k n : ℕ) → (k == n) ≡ false → ¬ (k ≡ n)
 other_number k n e = grind (arith, nat_tests)
 
-reads_end : → ReadsFrom []
+reads_end : ReadsFrom []
 reads_end s t [] short h = closed_at-front (s.lines + 1) t (unended s)
 reads_end s t (c ∷ w) short h =
     line_step s t (c ∷ w) [] closed (λ said. closed_at-front ((after s said).lines + 1) (t ++ numbered (s.lines + 1) said) (unended (after s said)))

@@ -9,7 +9,6 @@ use Rattle.rp_script.specs.Readers.{bad_word}
 use Rattle.rp_script.specs.Requests.{request}
 use Rattle.rp_script.specs.Wanted.{Wanted, Number, CommandNumber, KeyName, ValueWord, Expected, EndFrom, RequestName, nth, request as wanted_request, wants}
 use Rattle.rp_script.specs.Seen.{Seen, begins_comment, bad_byte_of, placed, said, judged}
-use Rattle.rp_script.specs.Meaning.{judged_in}
 use Rattle.rp_script.specs.declared.faults.BadWord.{BadWord}
 use Rattle.rp_script.specs.declared.faults.LineKind.{LineKind}
 use Rattle.rp_script.specs.declared.faults.LineKind.TheVariants as kinds
