@@ -6,7 +6,6 @@ use Rattle.rp_bufcore.specs.Buffers.{Buffer, buffer_of, fresh, given}
 use Rattle.rp_request.specs.Applied.{AppliedState}
 use Rattle.rp_events.specs.declared.answers.EventAnswer.{EventAnswer}
 use Rattle.rp_events.specs.declared.answers.EventAnswer.TheVariants as answers
-use Rattle.rp_events.specs.declared.journals.JournalEntry.{JournalEntry}
 use Rattle.rp_events.specs.declared.node_events.Event.{Event}
 use Rattle.rp_events.specs.declared.world_events.WorldEvent.{WorldEvent}
 use Rattle.rp_events.specs.declared.world_events.WorldEvent.TheVariants as events
@@ -15,6 +14,7 @@ use Rattle.rp_events.specs.Worlds.{World, node_of, event_of, Happening, Admit, A
 use Rattle.rp_events.specs.Lawful.{is_lawful}
 use Rattle.rp_events.specs.Buffered.{Buffered, buffered_step, buffers_at, has_live}
 use Rattle.rp_events.specs.MaySteps.{MayStep}
+use Rattle.rp_book.specs.Books.{last_of}
 use Rattle.rp_node.specs.Steps.{Held}
 use Rattle.rp_node.specs.Several.{held_at}
 use Rattle.rp_journals.specs.Growth.{Grows}
@@ -72,38 +72,44 @@ happening_of b (events.Publish node range place item) = None
 abbrev pub node_event : Buffered → WorldEvent → Option (Event AppliedState)
 node_event b e = option_and_then (event_of b.nodes) (happening_of b e)
 
--- an event of a node that is lawful, and that the node may take
-pub record Comes (b : Buffered) (e : WorldEvent) : Type 0 where
-  pub what : Happening
-  pub happens : happening_of b e ≡ Some what
-  pub lawful : IsTrue (is_lawful b.nodes (record { node = node_in e; what = what }))
-  pub node : Node
-  pub has : node_of b.nodes (node_in e) ≡ Some node
+-- something that happens at the node is lawful, and the node may take it
+pub record ComesAs (b : Buffered) (node : ℕ) (what : Happening) : Type 0 where
+  pub lawful : IsTrue (is_lawful b.nodes (record { node = node; what = what }))
+  pub at : Node
+  pub has : node_of b.nodes node ≡ Some at
   pub event : Event AppliedState
   pub is : event_of b.nodes what ≡ Some event
-  pub may : MayStep node event
+  pub may : MayStep at event
 
--- the last one of a list
-abbrev pub last_in : List JournalEntry → Option JournalEntry
-last_in xs = slice_get xs (length xs - 1)
+abbrev pub ComesBy : Buffered → (node : ℕ) → Option Happening → Type 0
+ComesBy b node None = ⊥
+ComesBy b node (Some what) = ComesAs b node what
+
+-- an event of a node may come
+pub record Comes (b : Buffered) (e : WorldEvent) : Type 0 where
+  pub comes : ComesBy b (node_in e) (happening_of b e)
 
 -- what the node answered to its last event
 abbrev pub answer_in : World → (node : ℕ) → EventAnswer
 answer_in w node =
-    option_map_or (λ n. option_map_or (λ e. e.answer) (last_in n.journal) answers.Done)
+    option_map_or (λ n. option_map_or (λ e. e.answer) (last_of n.journal) answers.Done)
     (node_of w node) answers.Done
 
--- the event happened at its node: what it leaves of the nodes, and what was answered; the node's lists
--- have grown, and the other nodes stayed
-pub record Happens (old : List (Held (List Buffer))) (e : WorldEvent) (new : List (Held (List Buffer)))
-    (answer : EventAnswer) : Type 0 where
-  pub step : buffered_of new ≡ buffered_step (buffered_of old) e
-  pub answer_is : answer ≡ answer_in (buffered_of new).nodes (node_in e)
+-- an event happened at a node, and left this of the nodes and buffers: what was answered stands in the
+-- node's journal, its lists have grown, and the other nodes stayed
+pub record HappensAt (old : List (Held (List Buffer))) (node : ℕ) (left : Buffered)
+    (new : List (Held (List Buffer))) (answer : EventAnswer) : Type 0 where
+  pub left_is : buffered_of new ≡ left
+  pub answer_is : answer ≡ answer_in (buffered_of new).nodes node
   pub before : Held (List Buffer)
-  pub was : held_at old (node_in e) ≡ Some before
+  pub was : held_at old node ≡ Some before
   pub after : Held (List Buffer)
   pub grows : Grows before.node after.node
-  pub leaves : new ≡ slice_set old (node_in e - 1) after
+  pub leaves : new ≡ slice_set old (node - 1) after
+
+abbrev pub Happens : (old : List (Held (List Buffer))) → WorldEvent
+    → (new : List (Held (List Buffer))) → EventAnswer → Type 0
+Happens old e new answer = HappensAt old (node_in e) (buffered_step (buffered_of old) e) new answer
 
 -- the world has this node
 abbrev pub HasNode : World → (node : ℕ) → Type 0

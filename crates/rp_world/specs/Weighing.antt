@@ -1,17 +1,13 @@
 -- What messages weigh, as it is counted along the way.
-use Rattle.std.specs.Prelude.{◌≡◌, ℕ, ◌-◌, ◌^◌, min, map, sum_by, length, List}
+use Rattle.std.specs.Prelude.{◌≡◌, ℕ, min, map, sum_by, length, List}
 use Rattle.rp_base.specs.Limits.{buffer_capacity}
 use Rattle.rp_request.specs.Applied.{AppliedState}
 use Rattle.rp_bufcore.specs.Buffers.{Buffer, buffer_of, fresh}
 use Rattle.rp_events.specs.declared.parcels.Parcel.{Parcel}
 use Rattle.rp_events.specs.Buffered.{Buffered, buffers_at}
-use Rattle.rp_lines.specs.Players.{weight_of, weight}
+use Rattle.rp_lines.specs.Players.{weight_of, weight, most_count}
 use Rattle.rp_node.specs.Steps.{Held}
 use Rattle.rp_world.specs.Comes.{buffered_of}
-
--- the greatest count
-abbrev pub most_count : ℕ
-most_count = 2 ^ 64 - 1
 
 -- a count ends there
 abbrev pub capped : ℕ → ℕ
