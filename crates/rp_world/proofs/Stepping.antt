@@ -19,12 +19,12 @@ use Rattle.rp_events.specs.Worlds.{World, Scene, node_of, with_node, sent_by, de
 use Rattle.rp_events.specs.Lawful.{is_lawful, happens_if}
 use Rattle.rp_events.specs.Buffered.{Buffered, at_node, buffered_step, buffers_at, changed, collected, collects, has_live, is_live}
 use Rattle.rp_book.specs.Books.{last_of}
-use Rattle.rp_journals.specs.Growth.{Grows}
-use Rattle.rp_journals.proofs.Growing.{step_grows, with_same}
+use Rattle.rp_journals.proofs.Growing.{with_same}
 use Rattle.rp_journals.proofs.Lists.{get_end}
 use Rattle.rp_node.specs.Steps.{Held, IsLeft, Collected, Taken, Steps}
 use Rattle.rp_node.specs.Several.{StepsAt, held_at}
-use Rattle.rp_world.specs.Comes.{Comes, ComesAs, ComesBy, Happens, answer_in, buffered_of, happening_of, node_event, node_in, taken_at}
+use Rattle.rp_lawful.specs.Comings.{Comes, ComesAs, ComesBy, happening_of, node_in, scene_at, taken_at}
+use Rattle.rp_world.specs.Comes.{Happens, answer_in, buffered_of, node_event}
 use Rattle.rp_world.proofs.Places.{get_map, index_of, set_stays}
 
 abbrev Ends : Type 0
@@ -99,17 +99,16 @@ step_answer n e taken =
     (last_push (acted n e taken).node.journal (record { event = past_of n e taken; answer = (acted n e taken).answer }))
 
 -- what is had of an event at one of the nodes
-pub record Came (old : Ends) (node : ℕ) (what : Happening) (new : Ends) (answer : EventAnswer) (before after : Held (List Buffer)) : Type 0 where
+pub record Came (old : Ends) (node : ℕ) (what : Happening) (new : Ends) (answer : EventAnswer) : Type 0 where
   pub nodes : (buffered_of new).nodes
       ≡ happens_if (is_lawful (buffered_of old).nodes (record { node = node; what = what })) (buffered_of old).nodes (record { node = node; what = what })
   pub answer_is : answer ≡ answer_in (buffered_of new).nodes node
-  pub grows : Grows before.node after.node
 
 pub came : (old : Ends) (node : ℕ) (what : Happening) (ev : Event AppliedState) (taken : List Item) (new : Ends) (answer : EventAnswer) (before after : Held (List Buffer))
     → IsTrue (is_lawful (buffered_of old).nodes (record { node = node; what = what })) → event_of (buffered_of old).nodes what ≡ Some ev
     → held_at old node ≡ Some before → new ≡ set old (node - 1) after → taken_in what ≡ taken
     → step before.node ev taken ≡ record { node = after.node; answer = answer }
-    → Came old node what new answer before after
+    → Came old node what new answer
 came old node what ev taken new answer before after lawful is has leaves takes does =
     let left : (step before.node ev (taken_in what)).node ≡ after.node = ap (λ t. (step before.node ev t).node) takes ∙ ap (λ d. d.node) does in
     let told : (step before.node ev taken).answer ≡ answer = ap (λ d. d.answer) does in
@@ -124,87 +123,81 @@ came old node what ev taken new answer before after lawful is has leaves takes d
           ∙ sym (step_answer before.node ev taken)
           ∙ ap (λ (n : Node). option_map_or (λ (x : JournalEntry). x.answer) (last_of n.journal) answers.Done) (ap (λ d. d.node) does)
           ∙ sym (ap (λ o. option_map_or (λ (n : Node). option_map_or (λ (x : JournalEntry). x.answer) (last_of n.journal) answers.Done) o answers.Done) found);
-      grows = subst (Grows before.node) (ap (λ d. d.node) does) (step_grows before.node ev taken);
     }
 
 same_buffered : (a b : Buffered) → a.nodes ≡ b.nodes → a.buffers ≡ b.buffers → a ≡ b
 same_buffered a b n e = ap (λ w. record { nodes = w; buffers = a.buffers }) n ∙ ap (λ l. record { nodes = b.nodes; buffers = l }) e
 
+-- what is left of the nodes and the buffers, and what was answered
+pub record Left (old : Ends) (node : ℕ) (left_as : Buffered) (new : Ends) (answer : EventAnswer) : Type 0 where
+  pub left : buffered_of new ≡ left_as
+  pub told : answer ≡ answer_in (buffered_of new).nodes node
+
 -- an event that asks no buffer
 plain : (old : Ends) (node : ℕ) (what : Happening) (ev : Event AppliedState) (new : Ends) (answer : EventAnswer) → ComesAs (buffered_of old) node what
     → event_of (buffered_of old).nodes what ≡ Some ev → taken_in what ≡ []
     → (s : StepsAt Collects old node ev new answer) → IsLeft s.before.end s.steps.taken s.after.end
-    → HappensAt old node (at_node (buffered_of old) node what) new answer
+    → Left old node (at_node (buffered_of old) node what) new answer
 plain old node what ev new answer may is none_taken s gave =
-    let c : Came old node what new answer s.before s.after =
-      came old node what ev s.steps.taken new answer s.before s.after may.lawful is s.has s.leaves (none_taken ∙ sym gave.nothing) s.steps.does in
+    let c : Came old node what new answer =
+      came old node what ev s.steps.taken new answer s.before s.after may.lawful.lawful is s.has s.leaves (none_taken ∙ sym gave.nothing) s.steps.does in
     record {
-      left_is = same_buffered (buffered_of new) (at_node (buffered_of old) node what) c.nodes
+      left = same_buffered (buffered_of new) (at_node (buffered_of old) node what) c.nodes
           (ap (λ l. (buffered_of l).buffers) s.leaves ∙ same_ends old node s.before s.after s.has gave.same);
-      answer_is = c.answer_is;
-      before = s.before;
-      was = s.has;
-      after = s.after;
-      grows = c.grows;
-      leaves = s.leaves;
+      told = c.answer_is;
     }
 
 -- a collect at a live replica
 collect_live : (old : Ends) (node range : ℕ) (new : Ends) (answer : EventAnswer) → ComesAs (buffered_of old) node (Collect range (taken_at (buffered_of old) node range))
     → has_live (buffered_of old).nodes node range ≡ true
     → (s : StepsAt Collects old node (node_events.Collect range) new answer) → Collects s.before.end range s.steps.taken s.after.end
-    → HappensAt old node (collected (buffered_of old) node range) new answer
+    → Left old node (collected (buffered_of old) node range) new answer
 collect_live old node range new answer may live s gave =
     let b : Buffered = buffered_of old in
     let g : List Item = given (buffer_of (buffers_at b node) range) in
     let end : buffers_at b node ≡ s.before.end = held_end old node s.before s.has in
     let takes : taken_at b node range ≡ g = ap (λ t. cond t g []) live in
     let lawful : IsTrue (is_lawful b.nodes (record { node = node; what = Collect range g })) =
-      subst (λ t. IsTrue (is_lawful b.nodes (record { node = node; what = Collect range t }))) takes may.lawful in
-    let c : Came old node (Collect range g) new answer s.before s.after =
+      subst (λ t. IsTrue (is_lawful b.nodes (record { node = node; what = Collect range t }))) takes may.lawful.lawful in
+    let c : Came old node (Collect range g) new answer =
       came old node (Collect range g) (node_events.Collect range) s.steps.taken new answer s.before s.after lawful refl s.has s.leaves
       (ap (λ l. given (buffer_of l range)) end ∙ sym gave.items_are) s.steps.does in
     let left : collected b node range ≡ changed (at_node b node (Collect range g)) node range after_collect =
       ap (λ t. cond t (collects b node range g) (at_node b node (Collect range []))) live
       ∙ ap (λ t. cond t (changed (at_node b node (Collect range g)) node range after_collect) b) lawful in
     record {
-      left_is = same_buffered (buffered_of new) (changed (at_node b node (Collect range g)) node range after_collect) c.nodes
+      left = same_buffered (buffered_of new) (changed (at_node b node (Collect range g)) node range after_collect) c.nodes
           (ap (λ l. (buffered_of l).buffers) s.leaves
           ∙ with_ends old node s.before s.after
           ∙ ap (λ l. set b.buffers (node - 1) l) (gave.buffers_are ∙ ap (λ l. with_buffer l range (after_collect (buffer_of l range))) (sym end)))
           ∙ sym left;
-      answer_is = c.answer_is;
-      before = s.before;
-      was = s.has;
-      after = s.after;
-      grows = c.grows;
-      leaves = s.leaves;
+      told = c.answer_is;
     }
 
 -- a collect where there is none
 collect_none : (old : Ends) (node range : ℕ) (new : Ends) (answer : EventAnswer) → ComesAs (buffered_of old) node (Collect range (taken_at (buffered_of old) node range))
     → has_live (buffered_of old).nodes node range ≡ false
     → (s : StepsAt Collects old node (node_events.Collect range) new answer) → IsLeft s.before.end s.steps.taken s.after.end
-    → HappensAt old node (collected (buffered_of old) node range) new answer
+    → Left old node (collected (buffered_of old) node range) new answer
 collect_none old node range new answer may live s gave =
     let b : Buffered = buffered_of old in
     let g : List Item = given (buffer_of (buffers_at b node) range) in
     let takes : taken_at b node range ≡ [] = ap (λ t. cond t g []) live in
     let left : collected b node range ≡ at_node b node (Collect range []) =
       ap (λ t. cond t (collects b node range g) (at_node b node (Collect range []))) live in
-    subst (λ l. HappensAt old node l new answer) (sym left)
+    subst (λ l. Left old node l new answer) (sym left)
     (plain old node (Collect range []) (node_events.Collect range) new answer (subst (λ t. ComesAs b node (Collect range t)) takes may) refl refl s gave)
 
 collect_at : (old : Ends) (node range : ℕ) (new : Ends) (answer : EventAnswer) → ComesAs (buffered_of old) node (Collect range (taken_at (buffered_of old) node range))
     → (s : StepsAt Collects old node (node_events.Collect range) new answer)
-    → HappensAt old node (collected (buffered_of old) node range) new answer
+    → Left old node (collected (buffered_of old) node range) new answer
 collect_at old node range new answer may s = go (seat s.before.node range) refl s.steps.gave where
   live_is : (status : Status) → seat s.before.node range ≡ status → has_live (buffered_of old).nodes node range ≡ is_live status
   live_is status e =
       ap (λ o. option_map_or (λ (n : Node). is_live (seat n range)) o false) (held_node old node s.before s.has) ∙ ap is_live e
 
   go : (status : Status) → seat s.before.node range ≡ status → Collected Collects status s.before.end range s.steps.taken s.after.end
-      → HappensAt old node (collected (buffered_of old) node range) new answer
+      → Left old node (collected (buffered_of old) node range) new answer
   go Absent e gave = collect_none old node range new answer may (live_is Absent e) s gave
   go (Live r) e gave = collect_live old node range new answer may (live_is (Live r) e) s gave
   go (Removed applied) e gave = collect_none old node range new answer may (live_is (Removed applied) e) s gave
@@ -218,7 +211,7 @@ moved old node a b new answer e s = subst (λ k. StepsAt Collects old node k new
 
 deliver_at : (old : Ends) (node from number : ℕ) (ev : Event AppliedState) (new : Ends) (answer : EventAnswer) → ComesAs (buffered_of old) node (Deliver from number)
     → (o : Option (Parcel AppliedState)) → parcel_of (sent_by (buffered_of old).nodes from) number ≡ o → option_map (delivery from number) o ≡ Some ev
-    → StepsAt Collects old node ev new answer → HappensAt old node (at_node (buffered_of old) node (Deliver from number)) new answer
+    → StepsAt Collects old node ev new answer → Left old node (at_node (buffered_of old) node (Deliver from number)) new answer
 deliver_at old node from number ev new answer may None sent is s = absurd (nothing is) where
   nothing : ◌≡◌ {A = Option (Event AppliedState)} None (Some ev) → ⊥
   nothing e = cc
@@ -227,45 +220,51 @@ deliver_at old node from number ev new answer may (Some p) sent is s =
     plain old node (Deliver from number) (delivery from number p) new answer may (ap (option_map (delivery from number)) sent) refl m m.steps.gave
 
 -- an event at one of the nodes is the event of the world
-pub stepped : (old : Ends) (e : WorldEvent) (ev : Event AppliedState) (new : Ends) (answer : EventAnswer) → Comes (buffered_of old) e → node_event (buffered_of old) e ≡ Some ev
-    → StepsAt Collects old (node_in e) ev new answer → Happens old e new answer
-stepped old (events.Admit node range id request) ev new answer c is s =
+step_left : (old : Ends) (e : WorldEvent) (ev : Event AppliedState) (new : Ends) (answer : EventAnswer) → Comes (buffered_of old) e → node_event (buffered_of old) e ≡ Some ev
+    → StepsAt Collects old (node_in e) ev new answer → Left old (node_in e) (buffered_step (buffered_of old) e) new answer
+step_left old (events.Admit node range id request) ev new answer c is s =
     let m : StepsAt Collects old node (node_events.Admit range id request) new answer = moved old node (node_events.Admit range id request) ev new answer is s in
     plain old node (Admit range id request) (node_events.Admit range id request) new answer c.comes refl refl m m.steps.gave
-stepped old (events.Ask node range) ev new answer c is s =
+step_left old (events.Ask node range) ev new answer c is s =
     let m : StepsAt Collects old node (node_events.Ask range) new answer = moved old node (node_events.Ask range) ev new answer is s in
     plain old node (Ask range) (node_events.Ask range) new answer c.comes refl refl m m.steps.gave
-stepped old (events.Transfer node range to) ev new answer c is s =
+step_left old (events.Transfer node range to) ev new answer c is s =
     let m : StepsAt Collects old node (node_events.Transfer range to) new answer = moved old node (node_events.Transfer range to) ev new answer is s in
     plain old node (Transfer range to) (node_events.Transfer range to) new answer c.comes refl refl m m.steps.gave
-stepped old (events.Collect node range) ev new answer c is s =
+step_left old (events.Collect node range) ev new answer c is s =
     let m : StepsAt Collects old node (node_events.Collect range) new answer = moved old node (node_events.Collect range) ev new answer is s in
     collect_at old node range new answer c.comes m
-stepped old (events.Flush node range) ev new answer c is s =
+step_left old (events.Flush node range) ev new answer c is s =
     let m : StepsAt Collects old node (node_events.Flush range) new answer = moved old node (node_events.Flush range) ev new answer is s in
     plain old node (Flush range) (node_events.Flush range) new answer c.comes refl refl m m.steps.gave
-stepped old (events.Tick node) ev new answer c is s =
+step_left old (events.Tick node) ev new answer c is s =
     let m : StepsAt Collects old node (node_events.Tick) new answer = moved old node (node_events.Tick) ev new answer is s in
     plain old node (Tick) (node_events.Tick) new answer c.comes refl refl m m.steps.gave
-stepped old (events.Deliver node from number) ev new answer c is s =
+step_left old (events.Deliver node from number) ev new answer c is s =
     deliver_at old node from number ev new answer c.comes (parcel_of (sent_by (buffered_of old).nodes from) number) refl is s
-stepped old (events.Apply node range) ev new answer c is s =
+step_left old (events.Apply node range) ev new answer c is s =
     let m : StepsAt Collects old node (node_events.Apply range) new answer = moved old node (node_events.Apply range) ev new answer is s in
     plain old node (Apply range) (node_events.Apply range) new answer c.comes refl refl m m.steps.gave
-stepped old (events.Cut node range) ev new answer c is s =
+step_left old (events.Cut node range) ev new answer c is s =
     let m : StepsAt Collects old node (node_events.Cut range) new answer = moved old node (node_events.Cut range) ev new answer is s in
     plain old node (Cut range) (node_events.Cut range) new answer c.comes refl refl m m.steps.gave
-stepped old (events.Remove node range) ev new answer c is s =
+step_left old (events.Remove node range) ev new answer c is s =
     let m : StepsAt Collects old node (node_events.Remove range) new answer = moved old node (node_events.Remove range) ev new answer is s in
     plain old node (Remove range) (node_events.Remove range) new answer c.comes refl refl m m.steps.gave
-stepped old (events.Peek node range key) ev new answer c is s =
+step_left old (events.Peek node range key) ev new answer c is s =
     let m : StepsAt Collects old node (node_events.Peek range key) new answer = moved old node (node_events.Peek range key) ev new answer is s in
     plain old node (Peek range key) (node_events.Peek range key) new answer c.comes refl refl m m.steps.gave
-stepped old (events.Restart node) ev new answer c is s =
+step_left old (events.Restart node) ev new answer c is s =
     let m : StepsAt Collects old node (node_events.Restart) new answer = moved old node (node_events.Restart) ev new answer is s in
     plain old node (Restart) (node_events.Restart) new answer c.comes refl refl m m.steps.gave
-stepped old (events.Round node) ev new answer c is s =
+step_left old (events.Round node) ev new answer c is s =
     let m : StepsAt Collects old node (node_events.Round) new answer = moved old node (node_events.Round) ev new answer is s in
     plain old node (Round) (node_events.Round) new answer c.comes refl refl m m.steps.gave
-stepped old (events.Draw node range) ev new answer c is s = absurd c.comes
-stepped old (events.Publish node range place item) ev new answer c is s = absurd c.comes
+step_left old (events.Draw node range) ev new answer c is s = absurd c.comes
+step_left old (events.Publish node range place item) ev new answer c is s = absurd c.comes
+
+pub stepped : (old : Ends) (e : WorldEvent) (ev : Event AppliedState) (new : Ends) (answer : EventAnswer) → Comes (buffered_of old) e → node_event (buffered_of old) e ≡ Some ev
+    → StepsAt Collects old (node_in e) ev new answer → Happens old e new answer
+stepped old e ev new answer c is s =
+    let l : Left old (node_in e) (buffered_step (buffered_of old) e) new answer = step_left old e ev new answer c is s in
+    record { left = l.left; told = l.told }

@@ -3,7 +3,8 @@ ghost use Rattle.std.specs.Prelude.{◌≡◌, Some, IfOk, IsSome, OnErr, map};
 ghost use Rattle.std.specs.Option.{option_map};
 ghost use Rattle.rp_events.specs.Nodes.{parcel_of};
 ghost use Rattle.rp_events.specs.Worlds.{delivery, sent_by};
-ghost use Rattle.rp_world.specs.Comes.{Comes, Happens, buffered_of, node_event, node_in};
+ghost use Rattle.rp_lawful.specs.Comings.{Comes, node_in};
+ghost use Rattle.rp_world.specs.Comes.{Happens, buffered_of, node_event};
 
 use rp_base::{NoMemory, NodeId};
 use rp_bufcore::PlainEnd;

@@ -4,7 +4,8 @@ ghost use Rattle.rp_bufcore.specs.Buffers.{buffer_of, draw_answer, publish_answe
 ghost use Rattle.rp_events.specs.Buffered.{buffered_step, buffers_at, first_buffered};
 ghost use Rattle.rp_events.specs.declared.world_events.WorldEvent.TheVariants as events;
 ghost use Rattle.rp_lines.specs.Players.{weight};
-ghost use Rattle.rp_world.specs.Comes.{Comes, HasNode, answer_in, buffered_of, first_held, node_in};
+ghost use Rattle.rp_lawful.specs.Comings.{Comes, node_in};
+ghost use Rattle.rp_world.specs.Comes.{HasNode, answer_in, buffered_of, first_held};
 ghost use Rattle.rp_world.specs.Weighing.{capped};
 
 use crate::scenes::{happen, node_of, sent_by};

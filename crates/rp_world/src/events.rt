@@ -1,0 +1,170 @@
+//! Events of a world, counted and weighed.
+ghost use Rattle.std.specs.Prelude.{◌≡◌, ◌==◌, false, length, IfOk, OnOk};
+ghost use Rattle.rp_events.specs.declared.world_events.WorldEvent.TheVariants as events;
+ghost use Rattle.rp_events.specs.Lawful.{IsReached};
+ghost use Rattle.rp_lawful.specs.Comings.{Comes, node_in};
+ghost use Rattle.rp_lines.specs.Commands.{asks, buffer_at};
+ghost use Rattle.rp_lines.specs.Players.{did, last_answer, most_events, weighed, with_booking};
+ghost use Rattle.rp_world.specs.Comes.{HasNode, IsNoAdmission, answer_in};
+ghost use Rattle.rp_world.specs.Keeping.{told_all};
+ghost use Rattle.rp_world.specs.Plays.{Does, admission, happened, place_in, unspent};
+
+use crate::faults::PlayFault;
+use crate::scenes::node_of;
+use crate::worlds::World;
+use rp_base::{CmdId, Item, NoMemory, NodeId, RangeId, Which};
+use rp_book::{Book, Booked};
+use rp_events::{Ended, EventAnswer, WorldEvent};
+use rp_request::Outcome;
+
+/// How many events may come.
+const MOST_EVENTS: u64 = 4_194_304;
+
+/// What all messages may weigh.
+const MOST_WEIGHT: u64 = 2_097_152;
+
+/// What ended is told to the book.
+fn tell_all(book: &mut Book, ends: &[Ended])
+    ensures { book.new ≡ told_all ends.now book.old }
+{
+    for end in ends {
+        book.tell(end.id, end.outcome);
+    }
+}
+
+impl World {
+    /// The limit of events is met where as many as may come have come.
+    fn unspent(&self) -> Result<(), PlayFault>
+        ensures { Does result self.now (unspent self.now) }
+    {
+        if self.events == MOST_EVENTS {
+            return Err(PlayFault::Limit {
+                which: Which::Events,
+                count: MOST_EVENTS,
+            });
+        }
+        Ok(())
+    }
+
+    /// The limit of weight is met where all messages weigh more than they may.
+    fn weighed(&self) -> Result<(), PlayFault>
+        ensures { Does result self.now (weighed self.now) }
+    {
+        let count = self.stage.weight();
+        if count > MOST_WEIGHT {
+            return Err(PlayFault::Limit {
+                which: Which::Weight,
+                count,
+            });
+        }
+        Ok(())
+    }
+
+    /// An event of a node happens, and what it ended is told to the book.
+    fn happen(&mut self, event: &WorldEvent) -> Result<EventAnswer, NoMemory>
+        requires reached { IsReached (length self.old.world.nodes) self.old.world.nodes }
+        requires comes { Comes self.old.world event.now }
+        requires old { IsNoAdmission event.now }
+        requires few { (self.old.events == most_events) ≡ false }
+        ensures ok { OnOk result (self.new ≡ happened event.now self.old) }
+        ensures answer { IfOk result (λ answer. answer
+            ≡ answer_in self.new.world.nodes (node_in event.now)) }
+    {
+        let node = node_of(event);
+        let before = self.stage.ended(node).len();
+        let answer = self.stage.step(event)?;
+        tell_all(&mut self.book, &self.stage.ended(node)[before..]);
+        self.events += 1;
+        Ok(answer)
+    }
+
+    /// An event of a node that asks for no admission.
+    pub(crate) fn event(&mut self, event: &WorldEvent) -> Result<EventAnswer, PlayFault>
+        requires reached { IsReached (length self.old.world.nodes) self.old.world.nodes }
+        requires comes { Comes self.old.world event.now }
+        requires old { IsNoAdmission event.now }
+        ensures does { Does result self.new (did event.now self.old) }
+        ensures answer { IfOk result (λ answer. answer
+            ≡ last_answer self.new (node_in event.now)) }
+    {
+        self.unspent()?;
+        let answer = self.happen(event)?;
+        self.weighed()?;
+        Ok(answer)
+    }
+
+    /// An attempt asks to be admitted, and stands in the book.
+    fn admit(&mut self, id: CmdId, booked: &Booked) -> Result<EventAnswer, NoMemory>
+        requires reached { IsReached (length self.old.world.nodes) self.old.world.nodes }
+        requires comes { Comes self.old.world (admission id booked.now) }
+        requires few { (self.old.events == most_events) ≡ false }
+        ensures ok { OnOk result (self.new
+            ≡ happened (admission id booked.now) (with_booking id booked.now self.old)) }
+        ensures answer { IfOk result (λ answer. answer
+            ≡ answer_in self.new.world.nodes booked.now.node) }
+    {
+        self.book.make_room(1)?;
+        let answer = self.stage.step(&admission(id, booked))?;
+        self.book.put(id, *booked);
+        if let EventAnswer::Refused(refusal) = answer {
+            self.book.tell(id, Outcome::Refused(refusal));
+        }
+        self.events += 1;
+        Ok(answer)
+    }
+
+    /// An attempt that was not asked before asks to be admitted, and stands in the book.
+    pub(crate) fn ask(&mut self, id: CmdId, booked: &Booked) -> Result<EventAnswer, PlayFault>
+        requires reached { IsReached (length self.old.world.nodes) self.old.world.nodes }
+        requires comes { Comes self.old.world (admission id booked.now) }
+        ensures does { Does result self.new (asks id booked.now self.old) }
+        ensures answer { IfOk result (λ answer. answer ≡ last_answer self.new booked.now.node) }
+    {
+        self.unspent()?;
+        let answer = self.admit(id, booked)?;
+        self.weighed()?;
+        Ok(answer)
+    }
+
+    /// A place is drawn in the buffer of a node and a range: `None` where there is none.
+    pub(crate) fn draw(&mut self, node: NodeId, range: RangeId) -> Result<Option<u8>, PlayFault>
+        requires { HasNode self.old.world.nodes node }
+        ensures does { Does result self.new (did (events.Draw node range) self.old) }
+        ensures place { IfOk result (λ place. place ≡ place_in (buffer_at self.old node range)) }
+    {
+        self.unspent()?;
+        let place = self.stage.draw(node, range).ok();
+        self.events += 1;
+        self.weighed()?;
+        Ok(place)
+    }
+
+    /// An item is published at a place of the buffer of a node and a range.
+    pub(crate) fn publish(
+        &mut self,
+        node: NodeId,
+        range: RangeId,
+        place: u8,
+        item: Item,
+    ) -> Result<(), PlayFault>
+        requires { HasNode self.old.world.nodes node }
+        ensures { Does result self.new (did (events.Publish node range place item) self.old) }
+    {
+        self.unspent()?;
+        let _published = self.stage.publish(node, range, place, item);
+        self.events += 1;
+        self.weighed()
+    }
+}
+
+/// An attempt's admission as an event.
+fn admission(id: CmdId, booked: &Booked) -> WorldEvent
+    ensures { result ≡ admission id booked.now }
+{
+    WorldEvent::Admit {
+        node: booked.node,
+        range: booked.range,
+        id,
+        request: booked.request,
+    }
+}
