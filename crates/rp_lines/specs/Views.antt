@@ -94,10 +94,15 @@ pub record ShowsRanges (w : World) (ranges : List RangeView) : Type 0 where
       → (v : RangeView) × (Contains ranges v × (v.desc.id ≡ range))
   pub ascending : AreAscending ranges
 
--- what a world shows, with the notes of the lines that it played
-pub record IsViewOf (w : World) (notes : List Note) (v : View) : Type 0 where
+-- what a world shows beside these replies and notes
+pub record IsViewWith (w : World) (replies : List ReplyLine) (notes : List Note) (v : View)
+    : Type 0 where
   pub nodes : v.nodes ≡ length w
   pub notes_are : v.notes ≡ notes
-  pub replies : v.replies ≡ replies_of w
+  pub replies_are : v.replies ≡ replies
   pub ranges : ShowsRanges w v.ranges
   pub messages : v.messages ≡ sum_by (λ n. length n.sent) w
+
+-- what a world shows, with the notes of the lines that it played: beside them the outcomes of all attempts
+abbrev pub IsViewOf : World → List Note → View → Type 0
+IsViewOf w notes v = IsViewWith w (replies_of w) notes v
