@@ -22,6 +22,11 @@ abbrev pub nodes_in : List NumberedLine → ℕ
 nodes_in [] = 0
 nodes_in (l ∷ ls) = nodes_by l.line
 
+-- the lines behind the first
+abbrev pub behind_first : List NumberedLine → List NumberedLine
+behind_first [] = []
+behind_first (l ∷ ls) = ls
+
 -- the lines played one after another, from the nodes' start
 abbrev pub play_of : List NumberedLine → Played
 play_of lines = played_all (first_player (nodes_in lines)) lines
