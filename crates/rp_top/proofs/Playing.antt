@@ -1,5 +1,5 @@
 -- The lines of a script, played one after another.
-use Rattle.std.proofs.Common.{◌≡◌, ℕ, suc, ◌+◌, ◌<◌, ◌≤◌, false, List, [], ◌∷◌, ◌++◌, length, take, drop, Result, Ok, Err, refl, ap, ◌∙◌, sym, subst, arith, length-append, append_assoc}
+use Rattle.std.proofs.Common.{◌≡◌, ℕ, suc, ◌+◌, ◌<◌, ◌≤◌, false, List, [], ◌∷◌, ◌++◌, length, take, drop, Option, Some, Result, Ok, Err, refl, ap, ◌∙◌, sym, subst, arith, length-append, append_assoc}
 use Rattle.std.proofs.lemmas.List.{take-append-drop}
 use Rattle.std.proofs.Math.Seq.{take-suc}
 use Rattle.std.specs.Prelude.{get_or, IsTrue}
@@ -10,7 +10,7 @@ use Rattle.rp_script.specs.declared.lines.ScriptLine.{ScriptLine}
 use Rattle.rp_script.specs.declared.lines.ScriptLine.TheVariants as lines
 use Rattle.rp_lines.specs.Players.{Limit, Player, Played, first_player, and_then}
 use Rattle.rp_lines.specs.Scripts.{played, played_all}
-use Rattle.rp_try.specs.Playable.{CanPlay, IsFront, cluster_at}
+use Rattle.rp_lawful.specs.Playable.{CanPlay, IsFront, cluster_at}
 
 same_then : (r : Played) (f g : Player → Played) → ((p : Player) → f p ≡ g p) → and_then r f ≡ and_then r g
 same_then (Ok p) f g h = h p
@@ -59,6 +59,7 @@ front_of_front nodes xs ys h = record {
 -- a script begins with its cluster line, and the others are its front
 named : (l : ScriptLine) → IsFirst l → (n : ℕ) × (l ≡ lines.Cluster n) × IsFromTo 1 5 n
 named (lines.Cluster n) h = (n, refl, h)
+named line h = absurd h
 
 pub front_of : (ls : List NumberedLine) → IsScript ls → length ls ≤ 65536
     → (n : ℕ) × (number : ℕ) × (rest : List NumberedLine) × (ls ≡ cluster_at number n ∷ rest) × IsFromTo 1 5 n × IsFront n rest
@@ -71,3 +72,20 @@ front_of (l ∷ ls) script few =
       follow = subst (λ (x : NumberedLine). AllFollow (unseen false) (x ∷ ls)) same script.follow;
       few = omega (arith, few);
     })
+
+-- the next of these lines may be played where those before it led here
+pub next_may_be_played : (nodes : ℕ) (ls : List NumberedLine) (i : ℕ) (d : NumberedLine) (p : Player) → IsFront nodes ls → i < length ls
+    → played_all (first_player nodes) (take i ls) ≡ Ok p → CanPlay nodes p (get_or ls i d)
+next_may_be_played nodes ls i d p front within led = record {
+  lines = take i ls;
+  played = led;
+  front = subst (λ (xs : List NumberedLine). IsFront nodes xs) (take-suc ls i d within)
+      (front_of_front nodes (take (suc i) ls) (drop (suc i) ls)
+      (subst (λ (xs : List NumberedLine). IsFront nodes xs) (sym (take-append-drop (suc i) ls)) front));
+}
+
+-- and leads on
+pub led_further : (ls : List NumberedLine) (i : ℕ) (d : NumberedLine) (p q r : Player) → i < length ls → played_all p (take i ls) ≡ Ok q
+    → played (get_or ls i d).number (get_or ls i d).line q ≡ Ok r → played_all p (take (suc i) ls) ≡ Ok r
+led_further ls i d p q r within led next =
+    ap (played_all p) (take-suc ls i d within) ∙ leads_further p q r (take i ls) (get_or ls i d) led next
