@@ -1,5 +1,5 @@
 -- What several nodes have of a range.
-use Rattle.std.specs.Prelude.{◌≡◌, ℕ, ◌+◌, ◌≤◌, ⊥, List, [], ◌∷◌, ◌++◌, map, length, Option, None, Some}
+use Rattle.std.specs.Prelude.{◌≡◌, ℕ, ◌+◌, ◌≤◌, nat_lt, if◌then◌else◌, List, [], ◌∷◌, ◌++◌, fold, map, length, Option, None, Some}
 use Rattle.rp_request.specs.History.{Piece, History}
 use Rattle.rp_request.specs.declared.items.Record.{Record}
 use Rattle.rp_events.specs.Nodes.{seat}
@@ -10,6 +10,16 @@ use Rattle.rp_node.specs.Steps.{Held}
 -- the world of several nodes, whatever their buffer ends
 abbrev pub world_of : {B : Type 0} → List (Held B) → World
 world_of nodes = map (λ h. h.node) nodes
+
+-- the one of two histories that goes further, the first where they end alike
+abbrev pub further : Option History → Option History → Option History
+further None second = second
+further (Some h) None = Some h
+further (Some h) (Some k) = if nat_lt h.index k.index then Some k else Some h
+
+-- what has been applied of a range by the node that has applied most of it
+abbrev pub furthest_of : World → (range : ℕ) → Option History
+furthest_of w range = fold further None (map (λ n. history_in (seat n range)) w)
 
 -- one node has applied this of the range, and none has applied more
 pub record IsFurthest (w : World) (range : ℕ) (h : History) : Type 0 where

@@ -2,7 +2,8 @@
 ghost use Rattle.std.specs.Prelude.{◌≡◌, ◌+◌, IfOk, length};
 ghost use Rattle.rp_events.specs.Lawful.{IsReached};
 ghost use Rattle.rp_events.specs.Lists.{base_of, IsOneList};
-ghost use Rattle.rp_chronicle.specs.Worlds.{world_of};
+ghost use Rattle.rp_chronicle.specs.Worlds.{world_of, ListEndsAt};
+ghost use Rattle.rp_recorded.specs.Recorded.{HasOneList};
 
 use crate::pieces::{base_of, records_to};
 use crate::seats::furthest;
@@ -19,6 +20,17 @@ pub struct RangeList {
     pub records: Seq<Record>,
 }
 
+/// The index at which the list of a range ends: the greatest that any node has applied.
+fn last_index<B: BufferEnd + Drop>(nodes: &[Node<B>], range: RangeId) -> u64
+    requires { HasOneList (world_of nodes.now) range }
+    ensures { ListEndsAt (world_of nodes.now) range result }
+{
+    match furthest(nodes, range) {
+        Some(state) => state.index(),
+        None => base_of(range),
+    }
+}
+
 /// The one list of a range: a record for each index up to the greatest that any node has applied, out
 /// of all that nodes keep, also where a replica was removed.
 pub fn assemble<B: BufferEnd + Drop>(
@@ -30,11 +42,10 @@ pub fn assemble<B: BufferEnd + Drop>(
     ensures first { IfOk result (λ list. list.first ≡ base_of range + 1) }
     ensures list { IfOk result (λ list. IsOneList (world_of nodes.now) range list.records) }
 {
-    let base = base_of(range);
-    let last = furthest(nodes, range).map_or(base, |state| state.index());
+    let last = last_index(nodes, range);
     let records = records_to(alloc, nodes, range, last)?;
     Ok(RangeList {
-        first: base + 1,
+        first: base_of(range) + 1,
         records,
     })
 }

@@ -1,8 +1,9 @@
 //! The records of a range, out of all pieces that nodes keep.
 ghost use Rattle.std.specs.Prelude.{◌≡◌, ◌+◌, ◌-◌, ◌≤◌, ◌++◌, ◌∷◌, [], length, IfOk};
+ghost use Rattle.std.specs.Option.{option_map};
 ghost use Rattle.rp_events.specs.Lists.{base_of, IsOneList};
 ghost use Rattle.rp_chronicle.specs.Filling.{pasted, FillsAll, HasPieces};
-ghost use Rattle.rp_chronicle.specs.Worlds.{world_of, pieces_of, ListEndsAt};
+ghost use Rattle.rp_chronicle.specs.Worlds.{world_of, pieces_in, pieces_of, ListEndsAt};
 
 use crate::seats::applied_at;
 use rp_apply::ApplyState;
@@ -40,7 +41,7 @@ fn fill(records: &mut [Record], base: u64, before: u64, piece: &[Record])
     }
 }
 
-/// Fills in all records that a node keeps of a range.
+/// Fills in all records that a node keeps.
 fn fill_all(records: &mut [Record], base: u64, kept: &ApplyState)
     requires { HasPieces base (kept.now.history.earlier ++ kept.now.history.records ∷ []) records.old }
     ensures { FillsAll base (kept.now.history.earlier ++ kept.now.history.records ∷ []) records.old records.new }
@@ -51,6 +52,16 @@ fn fill_all(records: &mut [Record], base: u64, kept: &ApplyState)
     fill(records, base, kept.before(), kept.records());
 }
 
+/// Fills in all records that a node keeps, where it has any.
+fn fill_any(records: &mut [Record], base: u64, kept: Option<&ApplyState>)
+    requires { HasPieces base (pieces_in (option_map (λ s. s.now.history) kept.entry)) records.old }
+    ensures { FillsAll base (pieces_in (option_map (λ s. s.now.history) kept.entry)) records.old records.new }
+{
+    if let Some(kept) = kept {
+        fill_all(records, base, kept);
+    }
+}
+
 /// Fills in all records that some nodes keep of a range.
 fn fill_from<B: BufferEnd + Drop>(records: &mut [Record], range: RangeId, nodes: &[Node<B>])
     requires { HasPieces (base_of range) (pieces_of (world_of nodes.now) range) records.old }
@@ -58,9 +69,7 @@ fn fill_from<B: BufferEnd + Drop>(records: &mut [Record], range: RangeId, nodes:
 {
     let base = base_of(range);
     for node in nodes {
-        if let Some(kept) = applied_at(node, range) {
-            fill_all(records, base, kept);
-        }
+        fill_any(records, base, applied_at(node, range));
     }
 }
 

@@ -1,9 +1,9 @@
 //! What a world shows.
-ghost use Rattle.std.specs.Prelude.{◌≡◌, ◌≤◌, ℕ, List, length, sum_by, All, IfOk};
+ghost use Rattle.std.specs.Prelude.{◌≡◌, ◌≤◌, ◌<◌, ◌^◌, length, sum_by, All, IfOk, Some};
 ghost use Rattle.rp_events.specs.Lawful.{IsReached};
 ghost use Rattle.rp_lines.specs.Views.{IsRangeView, IsViewWith, ShowsRanges};
 ghost use Rattle.rp_report.specs.Shown.{IsShownAnswer, IsShownView};
-ghost use Rattle.rp_chronicle.specs.Worlds.{world_of, IsFurthest};
+ghost use Rattle.rp_chronicle.specs.Worlds.{furthest_of, world_of};
 
 use crate::pieces::{base_of, records_to};
 use crate::replicas::replica_views;
@@ -11,9 +11,11 @@ use crate::seats::furthest;
 use rp_apply::ApplyState;
 use rp_base::{NoMemory, RangeId, Seq};
 use rp_bufcore::BufferEnd;
+use rp_events::Parcel;
 use rp_node::Node;
 use rp_report::{RangeView, View};
 use rp_request::{Notes, Replies};
+use rp_snapshot::Snapshot;
 use std::alloc::Global;
 
 /// A range, where this is what the node has applied that has applied most of it.
@@ -24,7 +26,7 @@ fn range_view<B: BufferEnd + Drop>(
     state: &ApplyState,
 ) -> Result<RangeView, NoMemory>
     requires reached { IsReached (length nodes.now) (world_of nodes.now) }
-    requires furthest { IsFurthest (world_of nodes.now) range state.now.history }
+    requires furthest { furthest_of (world_of nodes.now) range ≡ Some state.now.history }
     ensures { IfOk result (IsRangeView (world_of nodes.now) range) }
 {
     let records = records_to(alloc, nodes, range, state.index())?;
@@ -56,14 +58,22 @@ fn range_views<B: BufferEnd + Drop>(
     Ok(Seq::from_vec(views))
 }
 
+/// How many messages these are.
+fn count_of(sent: &[Parcel<Snapshot>]) -> u64
+    ensures count { result ≡ length sent.now }
+    ensures few { result < 2 ^ 61 }
+{
+    sent.len() as u64
+}
+
 /// How many messages the nodes have sent.
 fn messages<B: BufferEnd + Drop>(nodes: &[Node<B>]) -> u64
-    requires { IsReached (length nodes.now) (world_of nodes.now) }
+    requires { length nodes.now ≤ 5 }
     ensures { result ≡ sum_by (λ n. length n.sent) (world_of nodes.now) }
 {
     let mut count = 0;
     for node in nodes {
-        count += node.sent().len() as u64;
+        count += count_of(node.sent().as_slice());
     }
     count
 }

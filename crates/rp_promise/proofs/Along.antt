@@ -16,7 +16,7 @@ use Rattle.rp_seats.specs.Scenes.{raft_events}
 use Rattle.rp_bound.specs.Bounds.{Stands}
 use Rattle.rp_bound.proofs.Along.{first_stands, stands_next}
 use Rattle.rp_bound.proofs.Onward.{onward_itself, onward_further}
-use Rattle.rp_promise.specs.Beside.{StandsWith}
+use Rattle.rp_promise.specs.Beside.{IsBeside, StandsWith}
 use Rattle.rp_promise.proofs.First.{first_records}
 use Rattle.rp_promise.proofs.Made.{first_admitted, admitted_on}
 use Rattle.rp_promise.proofs.Opened.{all_now}
@@ -95,8 +95,14 @@ module _ (lists : OneList AppliedState) (nodes : ℕ) where
         };
   })
 
-  reached_keeps : (w : World) → IsReached nodes w → Promise w
-  reached_keeps w r =
+  -- a reached world, with all that stands beside it
+  record Reaches (w : World) : Type 0 where
+    ranges : Ranges
+    events : ℕ → List raft.Event
+    carried : Carried w ranges events
+
+  reaches : (w : World) → IsReached nodes w → Reaches w
+  reaches w r =
       let few : nodes ≤ 5 = leb-true nodes 5 r.few in
       let f = first_stands lists nodes (ltb-true 0 nodes r.some) few in
       let b = f.stands.bound in
@@ -110,7 +116,13 @@ module _ (lists : OneList AppliedState) (nodes : ℕ) where
         };
       } in
       let z = all_scenes r.schedule (first_world nodes) f.ranges f.seen c r.lawful in
-      subst Promise r.reached (keeps (run (first_world nodes) r.schedule) z.ranges z.events z.carried)
+      subst Reaches r.reached (record { ranges = z.ranges; events = z.events; carried = z.carried })
+
+  reached_keeps : (w : World) → IsReached nodes w → Promise w
+  reached_keeps w r = let z = reaches w r in keeps w z.ranges z.events z.carried
+
+  pub reached_beside : (w : World) → IsReached nodes w → IsBeside lists w
+  reached_beside w r = let z = reaches w r in record { ranges = z.ranges; seen = z.events; stands = z.carried.beside }
 
 pub kept_by_reached : (nodes : ℕ) (w : World) → IsReached nodes w → Promise w
 kept_by_reached nodes w r = reached_keeps (one_list_holds AppliedState) nodes w r

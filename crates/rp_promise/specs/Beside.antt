@@ -30,6 +30,12 @@ pub record StandsWith (lists : OneList AppliedState) (w : World) (m : Ranges)
   pub records : AllRecords w m
   pub admitted : AreAdmitted w m
 
+-- with some ranges and some events of Raft
+pub record IsBeside (lists : OneList AppliedState) (w : World) : Type 0 where
+  pub ranges : Ranges
+  pub seen : ℕ → List raft.Event
+  pub stands : StandsWith lists w ranges seen
+
 -- beside a later world the machine has gone on lawfully, and Raft in each range by further events
 pub record GoesOn (lists : OneList AppliedState) (m : Ranges) (seen : ℕ → List raft.Event)
     (later : World) : Type 0 where

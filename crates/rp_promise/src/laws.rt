@@ -12,7 +12,7 @@ ghost use Rattle.rp_events.specs.Worlds.{World, Scene, first_world, happens};
 ghost use Rattle.rp_seats.specs.Standing.{Bound};
 ghost use Rattle.rp_journals.specs.Alike.{AllKeepSame};
 ghost use Rattle.rp_promise.specs.Records.{AllRecords};
-ghost use Rattle.rp_promise.specs.Beside.{AreAdmitted, IsPromising};
+ghost use Rattle.rp_promise.specs.Beside.{AreAdmitted, IsBeside, IsPromising};
 
 /// In the first world no node keeps a record, none has applied an entry, and no attempt was made.
 pub fn the_first_world_keeps_no_record()
@@ -44,6 +44,13 @@ pub fn each_scene_admits_what_it_makes()
         → (n : Ranges) (further : ℕ → List raft.Event) → Bound lists (happens w x) n further
         → AreLater m n → (nodes : ℕ) → IsReached nodes w → AreAdmitted w m
         → AreAdmitted (happens w x) n }
+{}
+
+/// Every reached world stands beside ranges of the machine and events of Raft, with the records that
+/// its nodes keep and the admissions that their journals have.
+pub fn every_reached_world_stands_beside()
+    ensures { (lists : OneList AppliedState) (nodes : ℕ) (w : World) → IsReached nodes w
+        → IsBeside lists w }
 {}
 
 /// A reached world keeps the promise where the machine and Raft's events stand beside it, now and

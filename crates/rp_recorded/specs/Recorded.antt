@@ -1,12 +1,10 @@
 -- What the nodes of a world have recorded of a range.
-use Rattle.std.specs.Prelude.{◌≡◌, ℕ, ◌+◌, ◌<◌, ◌⊎◌, List, [], length}
-use Rattle.rp_base.specs.Keys.{IsShown}
+use Rattle.std.specs.Prelude.{◌≡◌, ℕ, ◌+◌, ◌<◌, List, length}
 use Rattle.rp_base.specs.declared.ranges.Desc.{Desc}
 use Rattle.rp_request.specs.History.{History}
 use Rattle.rp_request.specs.declared.items.Record.{Record}
 use Rattle.rp_report.specs.Shown.{IsShownDesc}
-use Rattle.rp_events.specs.Nodes.{Node}
-use Rattle.rp_events.specs.Worlds.{World, node_of}
+use Rattle.rp_events.specs.Worlds.{World}
 use Rattle.rp_events.specs.Lists.{base_of, HasApplied, IsOneList}
 
 -- the range has one list of records
