@@ -1,7 +1,6 @@
 pub mod Buffers
 pub mod Worlds
 pub mod Books
-pub mod Receivers
 pub mod Coming
 pub mod Keeping
 pub mod Events
