@@ -209,3 +209,9 @@ comes_buffers b e c node range same live = subst (λ (f : WorldEvent). (buffered
     collected_is =
         ap (λ v. (cond v (collects b node range items) (at_node b node (worlds.Collect range []))).buffers) live
         ∙ ap (λ v. (cond v (changed (at_node b node (worlds.Collect range items)) node range after_collect) b).buffers) lawful
+
+-- what is for nobody is skipped
+pub nobody_skipped : (b : Buffered) (node sender number : ℕ) → node_of b.nodes node ≡ None → buffered_step b (events.Deliver node sender number) ≡ b
+nobody_skipped b node sender number none =
+    let out : is_lawful b.nodes (scene_at node (worlds.Deliver sender number)) ≡ false = ap (λ o. option_map_or (λ (n : Node). not (is_full n) && is_allowed b.nodes node (worlds.Deliver sender number)) o false) none in
+    ap (λ (v : Bool). record b { nodes = happens_if v b.nodes (scene_at node (worlds.Deliver sender number)) }) out

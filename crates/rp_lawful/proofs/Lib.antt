@@ -1,7 +1,6 @@
 pub mod Buffers
 pub mod Worlds
 pub mod Books
-pub mod Receivers
 pub mod Coming
 pub mod Keeping
 pub mod Events
@@ -10,3 +9,8 @@ pub mod Asks
 pub mod Nexts
 pub mod Lines
 pub mod Playing
+pub mod Addressed
+pub mod Homes
+pub mod HomeHands
+pub mod HomeStates
+pub mod Receivers

@@ -18,7 +18,8 @@ use Rattle.rp_events.specs.declared.world_events.WorldEvent.TheVariants as event
 use Rattle.rp_events.specs.Nodes.{Node, parcel_of, range_numbers}
 use Rattle.rp_events.specs.Worlds as worlds
 use Rattle.rp_events.specs.Worlds.{World, Happening, Scene, sent_by}
-use Rattle.rp_events.specs.Buffered.{Buffered, changed, buffered_step, has_live}
+use Rattle.rp_events.specs.Buffered.{Buffered, at_node, changed, buffered_step, has_live}
+use Rattle.rp_events.specs.Lawful.{is_lawful, happens_if}
 use Rattle.rp_journals.proofs.Asking.{Admitting}
 use Rattle.rp_journals.proofs.Growing.{later_refl, world_refl}
 use Rattle.rp_journals.proofs.Lists.{all_push, all_weaker}
@@ -36,12 +37,11 @@ use Rattle.rp_lawful.specs.Comings.{Comes, ComesAs, ComesBy, IsPlain, scene_at, 
 use Rattle.rp_lawful.specs.Onward.{IsBookedAs, LeadsOn}
 use Rattle.rp_lawful.proofs.Buffers.{changed_sound, drawn_run, published_run}
 use Rattle.rp_lawful.proofs.Books.{by_attempt_had}
-use Rattle.rp_lawful.proofs.Coming.{plain_comes, message_comes}
+use Rattle.rp_lawful.proofs.Coming.{plain_comes}
 use Rattle.rp_lawful.proofs.Keeping.{Keeps, leads_refl, leads_trans, kept_ok, then_keeps, if_keeps, each_keeps, repeated_keeps, all_of, all_at}
 use Rattle.rp_lawful.proofs.Events.{Counted, counted_is, NodesOn}
 use Rattle.rp_lawful.proofs.Beside.{beside_leads, event_leads, event_keeps, draw_leads, handled_leads}
 use Rattle.rp_lawful.proofs.Nexts.{room}
-use Rattle.rp_lawful.proofs.Receivers.{receiver}
 
 -- something that admits
 abbrev is_admit : Happening → Bool
@@ -128,14 +128,33 @@ module _ (k : ℕ) where
       subst (LeadsOn k p) (sym c.is)
       (event_leads k p s nothing_happens (changed p.world node range (λ buffer. after_publish buffer place item)) (buffer_on p s node range (λ buffer. after_publish buffer place item) (published_run place item)) tick_admits_nothing c.left c.weighs)
 
+  -- an event that is skipped
+  skipped_on : (p : Player) → Sound k p → (node : ℕ) (what : Happening) → is_lawful p.world.nodes (scene_at node what) ≡ false → NodesOn p nothing_happens (at_node p.world node what)
+  skipped_on p s node what l = subst (λ (w : World). NodesOn p nothing_happens (record p.world { nodes = w })) (sym (ap (λ v. happens_if v p.world.nodes (scene_at node what)) l)) (record {
+    later = later_refl p.world.nodes;
+    size = refl;
+    grows = world_refl p.world.nodes;
+    reached = s.reached;
+    events = let few = s.journals in omega (arith, few);
+    buffers = s.buffers;
+    refused = λ id is. is;
+    asked = λ id is. inl is;
+  })
+
   -- a message comes
+  deliver_keeps : (p : Player) → Sound k p → (node sender number : ℕ) → Keeps k p (did (events.Deliver node sender number) p)
+  deliver_keeps p s node sender number = go (is_lawful p.world.nodes (scene_at node (worlds.Deliver sender number))) refl where
+    go : (v : Bool) → is_lawful p.world.nodes (scene_at node (worlds.Deliver sender number)) ≡ v → Keeps k p (did (events.Deliver node sender number) p)
+    go true l = event_keeps k p s (events.Deliver node sender number) (worlds.Deliver sender number) refl (record { lawful = l; widths = tt }) (λ id a. admitting_admits id (worlds.Deliver sender number) a refl)
+    go false l = λ q ok.
+        let c : Counted (events.Deliver node sender number) p q = counted_is (events.Deliver node sender number) p q ok in
+        subst (LeadsOn k p) (sym c.is) (event_leads k p s nothing_happens (at_node p.world node (worlds.Deliver sender number)) (skipped_on p s node (worlds.Deliver sender number) l) tick_admits_nothing c.left c.weighs)
+
   pub comes_keeps : (p : Player) → Sound k p → (sender number : ℕ) (parcel : Parcel AppliedState) → parcel_of (sent_by p.world.nodes sender) number ≡ Some parcel → Keeps k p (comes sender number parcel p)
   comes_keeps p s sender number parcel is =
       let q : Player = with_handled sender number p in
       let l : LeadsOn k p q = handled_leads k p s sender number parcel is in
-      let c : Comes p.world (events.Deliver parcel.to sender number) =
-      message_comes (length p.world.nodes) p.world s.reached (room k p s) s.buffers sender number parcel is (receiver (length p.world.nodes) p.world.nodes s.reached sender number parcel is) in
-      behind p q (comes sender number parcel p) l (event_keeps k q l.sound (events.Deliver parcel.to sender number) (worlds.Deliver sender number) refl c.comes.lawful (λ id a. admitting_admits id (worlds.Deliver sender number) a refl))
+      behind p q (comes sender number parcel p) l (deliver_keeps q l.sound parcel.to sender number)
 
   -- an attempt draws, and is published
   pub draws_keep : (p : Player) → Sound k p → (line : ℕ) (id : CmdId) (b : Booked) → IsBookedAs p id b → Keeps k p (draws line id b p)
