@@ -1,5 +1,5 @@
 //! Laws of what an event of a node tells and leaves. No program calls these functions.
-ghost use Rattle.std.specs.Prelude.{◌≡◌, ◌||◌, ℕ, ◌+◌, ◌-◌, ◌<◌, ◌≤◌, Bool, true, false, IsTrue, List, [], ◌++◌, map, length, filter, count_by, sum_by, slice_set, is_some, Option, None, Some};
+ghost use Rattle.std.specs.Prelude.{◌≡◌, ◌||◌, ℕ, ◌+◌, ◌-◌, ◌<◌, ◌≤◌, Bool, true, false, List, [], ◌++◌, map, length, filter, count_by, sum_by, slice_set, is_some, Option, None, Some};
 ghost use Rattle.std.specs.List.{AllByRecursion};
 ghost use Rattle.rp_base.specs.Ids.{same_id};
 ghost use Rattle.rp_base.specs.declared.ids.CmdId.{CmdId};
@@ -29,7 +29,7 @@ pub fn an_event_changes_its_node_alone()
     ensures others { (w : World) (x : Scene) (k : ℕ) → (k ≡ x.node → ⊥)
         → node_of (happens w x) k ≡ node_of w k }
     ensures size { (w : World) (x : Scene) → length (happens w x) ≡ length w }
-    ensures turns { (w : World) (x : Scene) → IsTrue (is_lawful w x) → (n : Node) × (now : Node)
+    ensures turns { (w : World) (x : Scene) → Lawful w x → (n : Node) × (now : Node)
         × Turns w x n now }
     ensures grows { (w : World) (x : Scene) (n : Node) (now : Node) → Turns w x n now → Grows n now }
     ensures left { (w : World) (x : Scene) (n : Node) (now : Node) → Turns w x n now
@@ -70,7 +70,7 @@ pub fn an_event_tells_its_answer_and_its_ends()
     ensures outcomes { (nodes : ℕ) (w : World) → IsReached nodes w → (x : Scene) (n : Node)
         → (now : Node) → Turns w x n now → (id : CmdId) → outcome_of (happens w x) id
         ≡ retold id (behind n.outcomes now.outcomes)
-            (begun id x.what (answer_of now) (outcome_of w id)) }
+        (begun id x.what (answer_of now) (outcome_of w id)) }
     ensures once { (nodes : ℕ) (w : World) → IsReached nodes w → (x : Scene) (n : Node)
         → (now : Node) → Turns w x n now → (id : CmdId)
         → count_by (λ e. same_id e.id id) (behind n.outcomes now.outcomes) ≤ 1 }
