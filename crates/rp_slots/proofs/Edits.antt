@@ -1,8 +1,8 @@
 -- What an edit of slots and of their numbers makes of the list that is shown.
-use Rattle.std.proofs.Common.{◌≡◌, ◌≢◌, ℕ, zero, suc, ◌+◌, ◌-◌, ◌<◌, ◌≤◌, Bool, true, false, cond, ◌==◌, nat_lt, List, [], ◌∷◌, ◌++◌, length, get_or, take, drop, set, map, refl, sym, ap, subst, ◌∙◌, arith}
+use Rattle.std.proofs.Common.{◌≡◌, ◌≢◌, ℕ, zero, suc, ◌+◌, ◌<◌, ◌≤◌, cond, ◌==◌, List, [], ◌∷◌, ◌++◌, length, get_or, take, drop, set, map, refl, sym, ap, subst, ◌∙◌, arith}
 use Rattle.std.proofs.lemmas.Bool.Decides.{nat_tests}
 use Rattle.std.proofs.lemmas.List.Sums.{sum_by-cons, sum_by-take-le}
-use Rattle.std.proofs.lemmas.List.{drop_more, take_more, drop-append-le, length-map, get_or-map, get_or-set_same, get_or-set_other, get_or_append_left, get_or_push, length-set, length_push, length-take-le, length-drop, take-map, drop-map, set_split, take-append-le, append_assoc, take-take, set-get_or, get_or-take, get_or_default, length-append, take_min}
+use Rattle.std.proofs.lemmas.List.{drop_more, length-map, get_or-map, get_or-set_same, get_or-set_other, get_or_append_left, get_or_push, length-set, length_push, length-take-le, take-map, drop-map, set_split, take-append-le, append_assoc, take-take, set-get_or, get_or-take}
 use Rattle.std.specs.List.{insert, remove}
 use Rattle.rp_slots.specs.Slots.{shown, AreSlots}
 use Rattle.rp_slots.proofs.Numbers.{times, Below, below, below_at, below_front, below_take, below_drop, at_most_once, alone, none_take, last_once, last_below}
@@ -179,16 +179,3 @@ module _ {X : Type 0} (items : List X) (ks : List ℕ) (n : ℕ) (live : n ≤ l
       let once = at_most_once (length items) ks s slots in
       let fewer = sum_by-take-le (λ k. cond (k == s) 1 0) ks n in
       shown_set items (take n ks) p s x low_live (let m = length-take-le n ks (omega arith) in omega arith) (is ∙ sym (get_or-take n ks p s l)) (omega arith)
-
--- a run of a list, one item longer
-pub run_more : {X : Type 0} (xs : List X) (from p : ℕ) (x : X) → from ≤ p → p < length xs → x ≡ get_or xs p x → drop from (take (p + 1) xs) ≡ drop from (take p xs) ++ x ∷ []
-run_more xs from p x l w e =
-    let n = length-take-le p xs (omega arith) in
-    ap (drop from) (take_more xs p x w ∙ ap (λ y. take p xs ++ y ∷ []) (sym e))
-    ∙ drop-append-le from (take p xs) (x ∷ []) (omega arith)
-
-pub run_none : {X : Type 0} (xs : List X) (from : ℕ) → drop from (take from xs) ≡ []
-run_none [] zero = refl
-run_none [] (suc from) = refl
-run_none (x ∷ xs) zero = refl
-run_none (x ∷ xs) (suc from) = run_none xs from

@@ -1,5 +1,5 @@
 -- The numbers of slots, each once: what an edit makes of them.
-use Rattle.std.proofs.Common.{◌≡◌, ℕ, zero, suc, ◌+◌, ◌-◌, ◌<◌, ◌≤◌, Bool, true, false, cond, ◌==◌, nat_lt, List, [], ◌∷◌, ◌++◌, length, get_or, take, drop, refl, sym, ap, ◌∙◌, arith}
+use Rattle.std.proofs.Common.{◌≡◌, ℕ, zero, suc, ◌+◌, ◌<◌, ◌≤◌, cond, ◌==◌, nat_lt, List, [], ◌∷◌, ◌++◌, length, get_or, take, drop, sym, ap, ◌∙◌, arith}
 use Rattle.std.proofs.lemmas.Bool.Decides.{nat_tests}
 use Rattle.std.proofs.lemmas.List.Sums.{sum_by-cons, sum_by-append, sum_by_push, sum_by-take-le, sum_by-insert, sum_by-remove}
 use Rattle.std.specs.List.{count_by, insert, remove}
@@ -68,9 +68,7 @@ alone ks m s h l is =
     (omega arith, omega arith)
 
 pub none_take : (s m : ℕ) (ks : List ℕ) → times s ks ≡ 0 → times s (take m ks) ≡ 0
-none_take s m ks h = let l = sym_take s m ks in omega arith where
-  sym_take : (s m : ℕ) (ks : List ℕ) → times s (take m ks) ≤ times s ks
-  sym_take s m ks = sum_by-take-le (λ x. cond (x == s) 1 0) ks m
+none_take s m ks h = let l = sum_by-take-le (λ x. cond (x == s) 1 0) ks m in omega arith
 
 -- a number behind the others is none of them
 pub last_once : (n : ℕ) (ks : List ℕ) (s : ℕ) → AreSlots n (ks ++ s ∷ []) → times s ks ≡ 0

@@ -1,4 +1,4 @@
-use Rattle.std.proofs.Common.{ℕ, ◌-◌, ◌<◌, ◌≤◌, length}
+use Rattle.std.proofs.Common.{◌-◌, ◌<◌, ◌≤◌, length}
 use Rattle.std.specs.List.{AllWithin}
 use Rattle.rp_latch.specs.declared.index.Latch.{Latch}
 use Rattle.rp_latch.proofs.index.place_of.Given as goal

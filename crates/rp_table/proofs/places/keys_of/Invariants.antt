@@ -1,4 +1,4 @@
-use Rattle.std.proofs.Common.{◌≡◌, ◌-◌, ◌≤◌, ◌+◌, ℕ, map, take, drop}
+use Rattle.std.proofs.Common.{◌≡◌, ◌≤◌, ◌+◌, ℕ, map, take, drop}
 use Rattle.std.specs.Vec.{vec_len, vec_capacity}
 use Rattle.rp_base.specs.declared.values.Value.{Value}
 use Rattle.rp_table.proofs.places.keys_of.Given as goal

@@ -1,4 +1,4 @@
-use Rattle.std.proofs.Common.{◌≡◌, ◌+◌, cond, length, ap, ◌∙◌, subst, sym, arith}
+use Rattle.std.proofs.Common.{◌+◌, cond, length, ap, ◌∙◌, subst, sym, arith}
 use Rattle.std.proofs.lemmas.List.Sums.{sum_by-remove}
 use Rattle.std.proofs.lemmas.List.Quantifiers.{all_pairs_remove}
 use Rattle.std.specs.List.{remove, count_by}

@@ -1,4 +1,4 @@
-use Rattle.std.proofs.Common.{◌≡◌, ◌<◌, length, ap, sym, ◌∙◌, get_or, arith}
+use Rattle.std.proofs.Common.{length, ap, ◌∙◌, get_or, arith}
 use Rattle.rp_slots.proofs.Edits.{long, slot_low, read}
 use Rattle.rp_slots.proofs.slotted.Slotted.at.Goals as goal
 

@@ -1,4 +1,4 @@
-use Rattle.std.proofs.Common.{◌≡◌, ◌<◌, ◌≤◌, ◌+◌, List, ◌∷◌, ◌++◌, [], length, take, set, ap, sym, subst, ◌∙◌, rules, arith}
+use Rattle.std.proofs.Common.{◌≡◌, ◌<◌, ◌+◌, ◌∷◌, ◌++◌, [], length, take, set, ap, sym, subst, ◌∙◌, rules, arith}
 use Rattle.std.proofs.lemmas.List.{length_push, length-set}
 use Rattle.std.proofs.lemmas.List.Edits.{length-insert}
 use Rattle.std.specs.List.{insert}
@@ -29,7 +29,7 @@ invariant_of-self g c =
     let longer : length c.push_reserved.new.self.items ≡ length items + 1 = ap length c.push_reserved.ensures.items ∙ length_push items c.args.item in
     let more : length c.insert.new.self.items ≡ length ks + 1 = ap length put ∙ length-insert ks c.args.place c.self.inside.len (omega (arith, c.self.invariant.live, c.self.invariant.whole)) in
     let numbers : AreSlots (length items + 1) (insert ks c.args.place c.self.inside.len) =
-        subst (λ m. AreSlots (length items + 1) (insert ks c.args.place m)) (sym full) (slots_new (length items) ks c.args.place c.self.invariant.slots) in
+    subst (λ m. AreSlots (length items + 1) (insert ks c.args.place m)) (sym full) (slots_new (length items) ks c.args.place c.self.invariant.slots) in
     record {
       live = omega arith;
       few = omega arith;

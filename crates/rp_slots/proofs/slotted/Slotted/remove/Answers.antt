@@ -1,4 +1,4 @@
-use Rattle.std.proofs.Common.{◌≡◌, ◌<◌, ◌-◌, List, ◌∷◌, ◌++◌, [], length, take, get_or, ap, ◌∙◌, rules, arith}
+use Rattle.std.proofs.Common.{◌≡◌, ◌-◌, ◌∷◌, ◌++◌, [], length, take, get_or, ap, ◌∙◌, rules, arith}
 use Rattle.std.specs.List.{remove}
 use Rattle.rp_slots.specs.Slots.{shown}
 use Rattle.rp_slots.proofs.Edits.{long, taken}

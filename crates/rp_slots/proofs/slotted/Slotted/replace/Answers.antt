@@ -1,4 +1,4 @@
-use Rattle.std.proofs.Common.{◌≡◌, ◌<◌, length, ap, ◌∙◌, set, arith}
+use Rattle.std.proofs.Common.{length, ap, ◌∙◌, set, arith}
 use Rattle.rp_slots.proofs.Edits.{long, slot_low, replaced}
 use Rattle.rp_slots.proofs.slotted.Slotted.replace.Goals as goal
 
