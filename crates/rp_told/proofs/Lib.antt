@@ -9,3 +9,4 @@ pub mod Sorting
 pub mod Replying
 pub mod Passing
 pub mod Looking
+pub mod Latests
