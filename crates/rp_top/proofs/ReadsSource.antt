@@ -1,5 +1,5 @@
 -- A script read from a source piece after piece.
-use Rattle.std.proofs.Common.{◌≡◌, ℕ, false, List, [], ◌++◌, Option, Some, None, Result, Ok, Err, refl, ap, ◌∙◌, sym, subst, append_assoc}
+use Rattle.std.proofs.Common.{◌≡◌, ℕ, ◌≤◌, length, inl, false, List, [], ◌++◌, Option, Some, None, Result, Ok, Err, refl, ap, ◌∙◌, sym, subst, append_assoc}
 use Rattle.rp_outside.specs.Devices.{Comes, IsAtEnd, IsAll}
 use Rattle.rp_outside.proofs.Told.{comes_more}
 use Rattle.rp_script.specs.Meaning.{◌>>=◌}
@@ -8,7 +8,8 @@ use Rattle.rp_script.specs.declared.faults.ScriptFault.{ScriptFault}
 use Rattle.rp_script.specs.declared.lines.NumberedLine.{NumberedLine}
 use Rattle.rp_script.proofs.ReadsLines.{append-nil, reads_meaning, reads_pieces}
 use Rattle.rp_top.specs.Scripts.{script_of}
-use Rattle.rp_top.specs.Gives.{Gives, HasCome}
+use Rattle.rp_base.specs.declared.lists.Seq.{Seq}
+use Rattle.rp_top.specs.Gives.{Gives, HasCome, HasStopped}
 use Rattle.rp_top.specs.declared.stops.Stop.{Stop}
 use Rattle.rp_top.specs.declared.stops.Stop.TheVariants as stops
 
@@ -65,3 +66,27 @@ came_whole a b c r res h came end gives =
       (let P : Result (List NumberedLine) ScriptFault → Type 0 = λ v. Gives res v in
           subst P (sym (ap (λ v. v >>= λ s. finished s s.line) all.leads) ∙ reads_meaning false all.bytes) gives),
     )
+
+-- what a stop of the reading says of the source: nothing was read behind this piece
+no_further : (a b c : Option (List ℕ)) (r : Reading) (piece : List ℕ) (fault : ScriptFault) → HasCome a b r → Comes b piece c → length piece ≤ 4096
+    → fed_all r piece ≡ Err fault → HasStopped a c fault
+no_further a b c r piece fault h came few stops = record {
+  before = h.bytes;
+  piece = piece;
+  few = few;
+  comes = comes_more a b c h.bytes piece h.comes came;
+  reading = r;
+  goes_on = h.leads;
+  ends = inl stops;
+}
+
+pub came_no_further : (a b c : Option (List ℕ)) (r : Reading) (piece : List ℕ) (stop : Stop) → HasCome a b r → Comes b piece c → length piece ≤ 4096
+    → Gives {X = Reading} (Err stop) (fed_all r piece) → (fault : ScriptFault)
+    → ◌≡◌ {A = Result (Seq NumberedLine) Stop} (Err stop) (Err (stops.Judged fault)) → HasStopped a c fault
+came_no_further a b c r piece (stops.Judged first) h came few gives fault same =
+    subst (λ (f : ScriptFault). HasStopped a c f) (judged same) (no_further a b c r piece first h came few gives)
+  where
+    judged : ◌≡◌ {A = Result (Seq NumberedLine) Stop} (Err (stops.Judged first)) (Err (stops.Judged fault)) → first ≡ fault
+    judged e = cc
+came_no_further a b c r piece stops.NoMemory h came few gives fault same = absurd (cc)
+came_no_further a b c r piece stops.ReadFault h came few gives fault same = absurd (cc)

@@ -1,5 +1,5 @@
 -- A run that ended well.
-use Rattle.std.specs.Prelude.{◌≡◌, ◌⊎◌, ℕ, List, Option, None, Some, Ok, Err}
+use Rattle.std.specs.Prelude.{◌≡◌, ℕ, List, Option, None, Some, Result, Ok, Err}
 use Rattle.rp_events.specs.Lawful.{IsReached}
 use Rattle.rp_events.specs.Promises.{Promise}
 use Rattle.rp_lines.specs.Players.{Player}
@@ -9,10 +9,9 @@ use Rattle.rp_outside.specs.Devices.{Adds, IsAll, IsAtEnd}
 use Rattle.rp_report.specs.declared.views.View.{View}
 use Rattle.rp_script.specs.declared.lines.NumberedLine.{NumberedLine}
 use Rattle.rp_script.specs.declared.faults.ScriptFault.{ScriptFault}
-use Rattle.rp_top.specs.Answers.{fault_status, written}
+use Rattle.rp_top.specs.Answers.{written}
 use Rattle.rp_top.specs.Gives.{HasStopped}
 use Rattle.rp_top.specs.Scripts.{script_of, run_of, nodes_in, play_of}
-use Rattle.rp_top.specs.Status.{code_of}
 use Rattle.rp_words.specs.Asked.{asked_of}
 use Rattle.rp_words.specs.declared.asks.Asked.{Asked}
 use Rattle.rp_words.specs.declared.asks.Asked.TheVariants as asks
@@ -44,12 +43,16 @@ EndsAsked (Some (asks.Gen number size)) bytes old new left = Adds old (generated
 abbrev pub EndsWell : List (List ℕ) → List ℕ → (old new left : Option (List ℕ)) → Type 0
 EndsWell words bytes old new left = EndsAsked (asked_of words) bytes old new left
 
--- a script was not played to its end: at this refusal or limit, which ended the reading, and nothing
--- was read behind its piece; or at a limit of the play, behind a source that was read to its end
-pub record EndsEarly (code : ℕ) (old new : Option (List ℕ)) : Type 0 where
+-- how far the source was read of a script that was not played to its end: where its lines were read, it
+-- was the play that ended, behind the whole source; else nothing was read behind the piece with the
+-- refusal or the limit
+abbrev pub StopsAs : Result (List NumberedLine) ScriptFault → (old new : Option (List ℕ)) → ScriptFault → Type 0
+StopsAs (Ok lines) old new fault = IsAtEnd new
+StopsAs (Err first) old new fault = HasStopped old new fault
+
+-- this refusal or limit is the first of the bytes, or that of their play
+pub record EndsEarly (fault : ScriptFault) (old new : Option (List ℕ)) : Type 0 where
   pub bytes : List ℕ
   pub all : IsAll old bytes
-  pub fault : ScriptFault
   pub meant : run_of bytes ≡ Err fault
-  pub status : code ≡ code_of (fault_status fault)
-  pub stopped : IsAtEnd new ⊎ HasStopped old new fault
+  pub stopped : StopsAs (script_of bytes) old new fault

@@ -10,7 +10,6 @@ ghost use Rattle.rp_script.specs.declared.faults.LineKind.{LineKind};
 ghost use Rattle.rp_script.specs.declared.faults.ScriptFault.{ScriptFault};
 ghost use Rattle.rp_script.specs.declared.faults.ScriptFault.TheVariants.{Refused, Limit};
 ghost use Rattle.rp_top.specs.Answers.{Answers, Writes, IsTextDue, IsUnused, IsRunAsked, fault_line, fault_status, status_of, status_due, usage_line};
-ghost use Rattle.rp_top.specs.Gives.{Gives, HasStopped};
 ghost use Rattle.rp_top.specs.Runs.{EndsEarly, EndsWell, IsShownRun};
 ghost use Rattle.rp_top.specs.Scripts.{by_play, nodes_in, play_of, run_of, script_of};
 ghost use Rattle.rp_top.specs.Status.{code_of};
@@ -65,9 +64,9 @@ fn put_fault<K: Sink>(alloc: Global, sink: &mut K, fault: ScriptFault) -> Status
 }
 
 /// Writes what a world shows that has played a script to its end.
-fn put_report<K: Sink>(alloc: Global, sink: &mut K, world: &World, form: Form) -> Status
-    requires { (nodes : ℕ) × IsReached nodes world.now.world.nodes }
-    ensures answers { Answers result form (Ok world.now) (K.held sink.old) (K.held sink.new) }
+fn put_report<K: Sink>(alloc: Global, sink: &mut K, world: World, form: Form) -> Status
+    requires { (nodes : ℕ) × IsReached nodes world.world.nodes }
+    ensures answers { Answers result form (Ok world) (K.held sink.old) (K.held sink.new) }
     ensures faults { K.faults sink.old ≤ K.faults sink.new }
     ensures cause { result ≡ Status.WriteFault → Rose (K.faults sink.old) (K.faults sink.new) }
     ensures calm { result ≢ Status.WriteFault → K.faults sink.new ≡ K.faults sink.old }
@@ -96,7 +95,7 @@ fn put_run<K: Sink>(alloc: Global, sink: &mut K, lines: &[NumberedLine], form: F
     ensures reads { result ≢ Status.ReadFault }
 {
     match play_script(alloc, lines) {
-        Ok(world) => put_report(alloc, sink, &world, form),
+        Ok(world) => put_report(alloc, sink, world, form),
         Err(Stop::Judged { fault }) => put_fault(alloc, sink, fault),
         Err(_) => Status::NoMemory,
     }
@@ -109,8 +108,8 @@ fn call<S: Source, K: Sink>(alloc: Global, source: &mut S, sink: &mut K, form: F
         × Answers result form (run_of bytes) (K.held sink.old) (K.held sink.new) }
     ensures headline { result ≡ Status.Ok → (bytes : List ℕ) × IsAll (S.left source.old) bytes
         × IsShownRun form bytes (K.held sink.old) (K.held sink.new) }
-    ensures stops { (fault : ScriptFault) → result ≡ fault_status fault
-        → IsAtEnd (S.left source.new) ⊎ HasStopped (S.left source.old) (S.left source.new) fault }
+    ensures early { (fault : ScriptFault) → result ≡ fault_status fault
+        → EndsEarly fault (S.left source.old) (S.left source.new) }
     ensures end { result ≡ Status.Ok → IsAtEnd (S.left source.new) }
     ensures source { S.faults source.old ≤ S.faults source.new }
     ensures sink { K.faults sink.old ≤ K.faults sink.new }
@@ -152,14 +151,9 @@ pub fn run_call<S: Source, K: Sink>(
     // with the refusal or the limit.
     ensures usage { result ≢ Status.Usage }
     ensures refused { (line word : ℕ) (kind : LineKind) → result ≡ Status.Refused line word kind
-        → ((bytes : List ℕ) × IsAll (S.left source.old) bytes
-        × (script_of bytes ≡ Err (Refused line word kind)))
-        × HasStopped (S.left source.old) (S.left source.new) (Refused line word kind) }
+        → EndsEarly (Refused line word kind) (S.left source.old) (S.left source.new) }
     ensures limit { (which : Which) (count : ℕ) → result ≡ Status.Limit which count
-        → ((bytes : List ℕ) × IsAll (S.left source.old) bytes
-        × (run_of bytes ≡ Err (Limit which count)))
-        × (IsAtEnd (S.left source.new)
-        ⊎ HasStopped (S.left source.old) (S.left source.new) (Limit which count)) }
+        → EndsEarly (Limit which count) (S.left source.old) (S.left source.new) }
     ensures source { S.faults source.old ≤ S.faults source.new }
     ensures sink { K.faults sink.old ≤ K.faults sink.new }
     ensures read_fault { result ≡ Status.ReadFault
@@ -238,8 +232,9 @@ pub fn top_call<S: Source, K: Sink>(
     ensures usage { result ≡ 2 → IsUnused (asked_of (map string_bytes words.now)) }
     ensures unread { ¬ (IsRunAsked (asked_of (map string_bytes words.now)))
         → S.left source.new ≡ S.left source.old }
-    ensures early { (result ≡ 3) ⊎ (result ≡ 4)
-        → EndsEarly result (S.left source.old) (S.left source.new) }
+    ensures early { (result ≡ 3) ⊎ (result ≡ 4) → (fault : ScriptFault)
+        × (result ≡ code_of (fault_status fault))
+        × EndsEarly fault (S.left source.old) (S.left source.new) }
     ensures source { S.faults source.old ≤ S.faults source.new }
     ensures sink { K.faults sink.old ≤ K.faults sink.new }
     ensures read_fault { result ≡ 5 → Rose (S.faults source.old) (S.faults source.new) }
@@ -256,7 +251,9 @@ pub fn top_call<S: Source, K: Sink>(
     match read_words(alloc, words) {
         Ok(Asked::Run(form)) => run_call(alloc, source, sink, form).code(),
         Ok(Asked::Gen { number, size }) => gen_call(alloc, sink, number, size).code(),
-        Ok(Asked::Race(_)) | Err(WordsFault::Usage) => put_usage(sink).code(),
+        // No race is played yet.
+        Ok(Asked::Race(_)) => put_usage(sink).code(),
+        Err(WordsFault::Usage) => put_usage(sink).code(),
         Err(WordsFault::NoMemory) => Status::NoMemory.code(),
     }
 }
