@@ -3,11 +3,13 @@
 #![tactic(auto)]
 
 mod cores;
+mod events;
 mod logs;
 mod nodes;
 mod rounds;
 mod seats;
 mod steps;
+mod ticks;
 
 pub use logs::{Journal, Outcomes, Requests, Sent};
 pub use nodes::Node;
