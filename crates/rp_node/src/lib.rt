@@ -2,9 +2,12 @@
 //! planned for as much memory as it may want, and then done.
 #![tactic(auto)]
 
+mod collects;
 mod cores;
+mod deliveries;
 mod logs;
 mod nodes;
+mod producers;
 mod rounds;
 mod seats;
 mod steps;
