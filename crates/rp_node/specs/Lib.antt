@@ -4,3 +4,4 @@ pub mod Steps
 pub mod Seen
 pub mod Waits
 pub mod Ticks
+pub mod Asked

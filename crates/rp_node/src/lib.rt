@@ -2,10 +2,13 @@
 //! planned for as much memory as it may want, and then done.
 #![tactic(auto)]
 
+mod collects;
 mod cores;
 mod events;
+mod deliveries;
 mod logs;
 mod nodes;
+mod producers;
 mod rounds;
 mod seats;
 mod steps;
