@@ -4,3 +4,5 @@ pub mod Stepping
 pub mod Waiting
 pub mod Collecting
 pub mod Coming
+pub mod Ticking
+pub mod Happening

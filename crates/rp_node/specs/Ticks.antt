@@ -1,5 +1,5 @@
 -- An event of every live replica of a node: planned at all of them, before any takes its turn.
-use Rattle.std.specs.Prelude.{◌≡◌, ℕ, ◌+◌, ◌≤◌, List, length, slice_index_or, sum_by, Option, None, Some}
+use Rattle.std.specs.Prelude.{◌≡◌, ℕ, ◌+◌, ◌<◌, ◌≤◌, List, length, slice_index_or, sum_by, Option, None, Some}
 use Rattle.rp_raft.specs.Plans as rafts
 use Rattle.rp_request.specs.Applied.{AppliedState}
 use Rattle.rp_events.specs.declared.replica_events.ReplicaEvent.{ReplicaEvent}
@@ -66,8 +66,9 @@ plan_in plans range = slice_index_or plans range None
 pub record AllReady
     (seats : List Seat) (e : ReplicaEvent AppliedState) (ticks rounds : ℕ)
     (plans : List (Option ReplicaPlan)) : Type 0 where
-  pub each : (range : ℕ) → SeatReady (seat_in seats range) e ticks rounds (plan_in plans range)
   pub many : length plans ≡ length seats
+  pub each : (range : ℕ) → range < length plans
+    → SeatReady (seat_in seats range) e ticks rounds (plan_in plans range)
 
 -- and there is room for all that they hand out together
 pub record ArePrepared

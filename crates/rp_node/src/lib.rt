@@ -4,8 +4,8 @@
 
 mod collects;
 mod cores;
-mod events;
 mod deliveries;
+mod events;
 mod logs;
 mod nodes;
 mod producers;
