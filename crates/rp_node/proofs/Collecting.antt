@@ -43,7 +43,7 @@ pub filled_ready : {B : Type 0} (gives : B → ℕ → List Item → B → Type 
 filled_ready gives seats.Absent ticks rounds sends ends range p q old new taken ready f = tt
 filled_ready gives (seats.Live held) ticks rounds sends ends range None q old new taken ready f = absurd ready
 filled_ready gives (seats.Live held) ticks rounds sends ends range (Some p) q old new taken ready f =
-    subst (λ (x : Option ReplicaPlan). TurnReady (seats.Live held) x sends ends) (sym f.plan) (record {
+    subst (λ (x : Option ReplicaPlan). TurnReady (seats.Live held) x sends ends) (sym f.stands) (record {
       fits = f.few;
       room = collect_room held.room p f.items (ready.collect refl) ready.room;
       sends_fit = omega arith;
@@ -56,7 +56,7 @@ filled_turn : {B : Type 0} (gives : B → ℕ → List Item → B → Type 0) (n
 filled_turn gives n range seats.Absent p q old new taken ready f = refl
 filled_turn gives n range (seats.Live held) None q old new taken ready f = absurd ready
 filled_turn gives n range (seats.Live held) (Some p) q old new taken ready f =
-    ap (λ (x : Option ReplicaPlan). turned n range x (seats.Live held)) f.plan
+    ap (λ (x : Option ReplicaPlan). turned n range x (seats.Live held)) f.stands
     ∙ ap (λ (l : List Item). by_status n range at_replica.Collect l (Live held.replica)) f.list
 filled_turn gives n range (seats.Removed kept) p q old new taken ready f = refl
 
@@ -71,7 +71,7 @@ filled_gave gives (seats.Removed kept) ticks rounds range (Some p) q old new tak
 
 -- a collect that was prepared, filled and committed is the node's collect of what was given
 pub collect_steps : {B : Type 0} (gives : B → ℕ → List Item → B → Type 0) (n : Node) (prepared after : Core) (logs : Logs) (range : ℕ) (p q : Option ReplicaPlan) (old new : B) (kept taken : List Item) (answer : EventAnswer) → node_of prepared ≡ n → SeatReady (seat_in prepared.seats range) at_replica.Collect prepared.ticks prepared.rounds p → Filled gives p old range q kept new → taken ≡ kept → answered (node_of after) answer ≡ turned (node_of prepared) range q (seat_in prepared.seats range) → logs.journal.list ≡ after.logs.journal.list ++ record { event = past.Collect range taken; answer = answer } ∷ [] → logs.sent ≡ after.logs.sent → logs.outcomes ≡ after.logs.outcomes → logs.requests ≡ after.logs.requests → Steps gives (record { node = n; end = old }) (events.Collect range) (record { node = node_of (record after { logs = logs }); end = new }) answer
-collect_steps {B} gives n prepared after logs range p q old new kept taken answer same ready filled is turn journal sent outcomes requests = record {
+collect_steps gives n prepared after logs range p q old new kept taken answer same ready filled is turn journal sent outcomes requests = record {
   taken = taken;
   gave = subst (λ (s : Status). Collected gives s old range taken new) here
       (filled_gave gives (seat_in prepared.seats range) prepared.ticks prepared.rounds range p q old new taken ready given);

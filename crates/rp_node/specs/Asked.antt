@@ -19,13 +19,13 @@ pub record IsFilled {B : Type 0} (gives : B → ℕ → List Item → B → Type
   pub items : Kept Item
   pub list : items.list ≡ taken
   pub few : length items.list ≤ buffer_capacity
-  pub plan : plan ≡ Some (Collects items)
+  pub stands : plan ≡ Some (Collects items)
   pub gave : gives old range taken new
 
 -- without a plan nothing is asked
 pub record IsUnasked {B : Type 0}
     (old : B) (plan : Option ReplicaPlan) (taken : List Item) (new : B) : Type 0 where
-  pub plan : plan ≡ None
+  pub planned : plan ≡ None
   pub left : IsLeft old taken new
 
 -- the plan of a collect, before and after the end was asked for what it takes
