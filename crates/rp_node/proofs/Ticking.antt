@@ -1,9 +1,9 @@
 -- An event of every live replica: its plans, one turn after another, make what the event makes.
-use Rattle.std.proofs.Common.{◌≡◌, ◌<◌, ◌≤◌, ◌≢◌, ℕ, zero, suc, ◌+◌, List, ◌∷◌, [], ◌++◌, length, map, drop, get_or, slice_index_or, slice_set, sum_by, Option, None, Some, MatchOption, refl, sym, ap, subst, ◌∙◌, arith, below_more, length-append}
-use Rattle.std.proofs.Math.ListN.{get_or-set_other, get_or-append}
+use Rattle.std.proofs.Common.{◌≡◌, ◌<◌, ◌≤◌, ◌≢◌, ℕ, zero, suc, ◌+◌, List, ◌∷◌, [], ◌++◌, length, map, drop, take, get_or, slice_index_or, slice_set, sum_by, Option, None, Some, MatchOption, refl, sym, ap, subst, ◌∙◌, arith, below_more, length-append, get_or-set_other}
+use Rattle.std.proofs.Math.ListN.{get_or-append}
 use Rattle.std.proofs.Math.Seq.{get_or-append_seam, map-set_same}
 use Rattle.std.proofs.lemmas.List.{get_or-set_same}
-use Rattle.std.proofs.lemmas.List.Sums.{sum_by-cons}
+use Rattle.std.proofs.lemmas.List.Sums.{sum_by-cons, sum_by_more}
 use Rattle.rp_request.specs.Applied.{AppliedState}
 use Rattle.rp_request.specs.States.{first_applied}
 use Rattle.rp_events.specs.Replicas as replicas
@@ -12,10 +12,12 @@ use Rattle.rp_events.specs.ReplicaEvents.{event}
 use Rattle.rp_events.specs.MaySteps.{SeatAllows}
 use Rattle.rp_events.specs.declared.answers.Effects.{Effects}
 use Rattle.rp_events.specs.declared.answers.EventAnswer.{EventAnswer}
+use Rattle.rp_events.specs.declared.answers.EventAnswer.TheVariants as answers
+use Rattle.rp_events.specs.declared.journals.PastEvent.{PastEvent}
 use Rattle.rp_events.specs.declared.replica_events.ReplicaEvent.{ReplicaEvent}
 use Rattle.rp_events.specs.declared.replica_events.ReplicaEvent.TheVariants as at_replica
-use Rattle.rp_events.specs.Nodes.{Node, NodeDone, Status, Absent, Live, Removed, seat, with_seat, opened, opened_by, range_numbers}
-use Rattle.rp_events.specs.NodeEvents.{by_status, live_turn, all_turns, after_replica}
+use Rattle.rp_events.specs.Nodes.{Node, NodeDone, Status, Absent, Live, Removed, seat, with_seat, opened, opened_by, range_numbers, written}
+use Rattle.rp_events.specs.NodeEvents.{by_status, live_turn, all_turns, after_replica, done}
 use Rattle.rp_replica.specs.Plans.{Left, planned, right_in}
 use Rattle.rp_replica.specs.declared.plans.ReplicaPlan.{ReplicaPlan}
 use Rattle.rp_replica.specs.declared.plans.ReplicaPlan.TheVariants.{Answers, Admits, Asks, Collects, Applies, HandsOver, Cuts, Removes, Restarts}
@@ -27,10 +29,10 @@ use Rattle.rp_node.specs.declared.ticks.NodeWide.{NodeWide}
 use Rattle.rp_node.specs.declared.ticks.NodeWide.TheVariants.{Tick, Restart}
 use Rattle.rp_node.specs.Cores.{AreAlike, node_of, seat_in, status_of}
 use Rattle.rp_node.specs.Plans.{SeatReady, StaysLive, TurnReady, PlanReady, answered, effects_by, handed_out, refused, turned, turned_by, with_left}
-use Rattle.rp_node.specs.Ticks.{AllReady, ArePrepared, OpensNothing, TurnedAt, ends_of, event_of, plan_in, seat_ends, seat_sends, sends_of}
+use Rattle.rp_node.specs.Ticks.{AllReady, ArePrepared, OpensNothing, TurnedAt, ends_of, event_of, plan_in, seat_ends, seat_sends, sends_of, with_ticks}
 use Rattle.rp_node.proofs.Seating.{alike_node, seat_is}
 use Rattle.rp_node.proofs.Stepping.{seat_at}
-use Rattle.rp_node.proofs.Turning.{ready_turn, some_same}
+use Rattle.rp_node.proofs.Turning.{ready_turn, some_same, written_node}
 
 -- what a plan hands out does not hang on the replica
 pub sends_are : (r : replicas.Replica) (p : ReplicaPlan) → length (planned r p).messages ≡ sends_of p
@@ -73,7 +75,7 @@ set_stays xs i k new other = get_or-set_other xs i k new seats.Absent other
 
 -- without a plan nothing changes, and where no replica takes it at most a seat
 pub none_stays : (c : Core) (range : ℕ) (o : Option ReplicaPlan) → o ≡ None → TurnedAt range o c c
-none_stays c range o none = subst (λ (x : Option ReplicaPlan). TurnedAt range x c c) (sym none) (record {
+none_stays c range o nothing = subst (λ (x : Option ReplicaPlan). TurnedAt range x c c) (sym nothing) (record {
   sent = omega arith;
   outcomes = omega arith;
   others = λ (opens : Unit {0}) (k : ℕ) (other : ¬ (k ≡ range)). refl;
@@ -87,9 +89,9 @@ seat_stays c range i o new at = record {
 }
 
 -- the lists once messages and outcomes are kept
-pub record TakeSpare (messages outcomes : ℕ) (old new : Logs) : Type 0 where
-  pub sent : old.sent.spare ≤ new.sent.spare + messages
-  pub outcomes : old.outcomes.spare ≤ new.outcomes.spare + outcomes
+pub record TakeSpare (sends ends : ℕ) (old new : Logs) : Type 0 where
+  pub sent : old.sent.spare ≤ new.sent.spare + sends
+  pub outcomes : old.outcomes.spare ≤ new.outcomes.spare + ends
 
 spare_stays : (s : Seat) (p q : ReplicaPlan) (e : Effects AppliedState) (old new : Logs) → Some e ≡ effects_by s q → ((r : replicas.Replica) → planned r q ≡ planned r p) → TakeSpare (length e.messages) (length e.outcomes) old new → TakeSpare (sends_of p) (ends_of p) old new
 spare_stays s p q e old new out does take =
@@ -113,7 +115,7 @@ opened_stays c new range old p q o right e logs some opens out does take same =
     subst (λ (x : Option ReplicaPlan). TurnedAt range x c new) (sym some) (record {
       sent = spare.sent;
       outcomes = spare.outcomes;
-      others = λ (none : right_in p ≡ None) (k : ℕ) (other : ¬ (k ≡ range)). absurd (no_right right (opens ∙ none));
+      others = λ (nothing : right_in p ≡ None) (k : ℕ) (other : ¬ (k ≡ range)). absurd (no_right right (opens ∙ nothing));
     })
   where
     no_right : (s : AppliedState) → ◌≡◌ {A = Option AppliedState} (Some s) None → ⊥
@@ -129,10 +131,10 @@ stays_live Tick = tt
 stays_live Restart = tt
 
 ready_opens : (w : NodeWide) (s : Seat) (ticks rounds : ℕ) (o : Option ReplicaPlan) → SeatReady s (event_of w) ticks rounds o → OpensNothing o
-ready_opens w seats.Absent ticks rounds o none = subst OpensNothing (sym none) tt
+ready_opens w seats.Absent ticks rounds o nothing = subst OpensNothing (sym nothing) tt
 ready_opens w (seats.Live held) ticks rounds None ready = tt
 ready_opens w (seats.Live held) ticks rounds (Some p) ready = ready.plan.right ∙ opens_nothing w held.replica ticks rounds
-ready_opens w (seats.Removed kept) ticks rounds o none = subst OpensNothing (sym none) tt
+ready_opens w (seats.Removed kept) ticks rounds o nothing = subst OpensNothing (sym nothing) tt
 
 -- a seat's turn may be taken
 pub ready_fits : (s : Seat) (e : ReplicaEvent AppliedState) (ticks rounds sends ends : ℕ) (o : Option ReplicaPlan) → SeatReady s e ticks rounds o → seat_sends o ≤ sends → seat_ends o ≤ ends → TurnReady s o sends ends
@@ -188,6 +190,10 @@ may_turn w start number now p left t =
     (let sum : sum_by seat_sends (p ∷ left) ≡ seat_sends p + sum_by seat_sends left = sum_by-cons seat_sends p left in omega (arith, t.sent))
     (let sum : sum_by seat_ends (p ∷ left) ≡ seat_ends p + sum_by seat_ends left = sum_by-cons seat_ends p left in omega (arith, t.outcomes))
 
+-- a range is left
+pub within_eight : (w : NodeWide) (start : Node) (number : ℕ) (now : Core) (p : Option ReplicaPlan) (left : List (Option ReplicaPlan)) → TurnsLeft w start number now (p ∷ left) → number ≤ 7
+within_eight w start number now p left t = omega (arith, t.many)
+
 -- the next range
 next_number : (number : ℕ) → number < 8 → drop number range_numbers ≡ number ∷ drop (number + 1) range_numbers
 next_number zero within = refl
@@ -212,8 +218,6 @@ turn_more w start number now new p left answer t does at journal nodes = record 
   turns = turns;
 }
   where
-    e : ReplicaEvent AppliedState
-    e = event_of w
     here : SeatReady (seat_in now.seats number) (event_of w) now.ticks now.rounds p
     here = first_ready w start number now p left t
     ticks : new.ticks ≡ now.ticks
@@ -239,11 +243,11 @@ turn_more w start number now new p left answer t does at journal nodes = record 
 
 -- all turns are taken
 pub turns_end : (w : NodeWide) (start : Node) (number : ℕ) (now : Core) (left : List (Option ReplicaPlan)) → TurnsLeft w start number now left → length left ≡ 0 → node_of now ≡ all_turns (event_of w) start range_numbers
-turns_end w start number now left t none =
+turns_end w start number now left t nothing =
     ap (λ (l : List ℕ). all_turns (event_of w) (node_of now) l) (ap (λ (k : ℕ). drop k range_numbers) (let e : 8 ≡ number = omega (arith, t.many) in e))
     ∙ t.turns
 
--- and none at first
+-- and nothing at first
 pub turns_begin : (w : NodeWide) (c : Core) (ticks : ℕ) (plans : List (Option ReplicaPlan)) → length c.seats ≡ 8 → c.nodes ≤ 5 → ArePrepared c.seats c.logs (event_of w) ticks c.rounds plans → TurnsLeft w (node_of (record c { ticks = ticks })) 0 (record c { ticks = ticks }) plans
 turns_begin w c ticks plans eight nodes p = record {
   many = omega (arith, p.ready.many, eight);
@@ -254,6 +258,29 @@ turns_begin w c ticks plans eight nodes p = record {
   outcomes = p.spare.outcomes;
   turns = refl;
 }
+
+-- the same with what is left as another list, and at a range that is this number
+pub left_is : (w : NodeWide) (start : Node) (number : ℕ) (now : Core) (left same : List (Option ReplicaPlan)) → left ≡ same → TurnsLeft w start number now left → TurnsLeft w start number now same
+left_is w start number now left same is t = subst (λ (l : List (Option ReplicaPlan)). TurnsLeft w start number now l) is t
+
+pub may_turn_at : (w : NodeWide) (start : Node) (number range : ℕ) (now : Core) (p : Option ReplicaPlan) (left : List (Option ReplicaPlan)) → range ≡ number → TurnsLeft w start number now (p ∷ left) → TurnReady (seat_in now.seats range) p now.logs.sent.spare now.logs.outcomes.spare
+may_turn_at w start number range now p left at t =
+    subst (λ (k : ℕ). TurnReady (seat_in now.seats k) p now.logs.sent.spare now.logs.outcomes.spare) (sym at) (may_turn w start number now p left t)
+
+pub turn_more_at : (w : NodeWide) (start : Node) (number range next : ℕ) (now new : Core) (p : Option ReplicaPlan) (left : List (Option ReplicaPlan)) (answer : EventAnswer) → range ≡ number → next ≡ number + 1 → TurnsLeft w start number now (p ∷ left) → answered (node_of new) answer ≡ turned (node_of now) range p (seat_in now.seats range) → TurnedAt range p now new → new.logs.journal ≡ now.logs.journal → new.nodes ≡ now.nodes → TurnsLeft w start next new left
+turn_more_at w start number range next now new p left answer at up t does stays journal nodes =
+    subst (λ (k : ℕ). TurnsLeft w start k new left) (sym up)
+    (turn_more w start number now new p left answer t
+    (subst (λ (k : ℕ). answered (node_of new) answer ≡ turned (node_of now) k p (seat_in now.seats k)) at does)
+    (subst (λ (k : ℕ). TurnedAt k p now new) at stays)
+    journal nodes)
+
+-- all turns are taken, and the event is written down
+pub all_node : (w : NodeWide) (old prepared after : Core) (logs : Logs) (ticks number : ℕ) (past : PastEvent) (left : List (Option ReplicaPlan)) → node_of prepared ≡ node_of old → TurnsLeft w (node_of (record prepared { ticks = ticks })) number after left → length left ≡ 0 → logs.journal.list ≡ after.logs.journal.list ++ record { event = past; answer = answers.Done } ∷ [] → logs.sent ≡ after.logs.sent → logs.outcomes ≡ after.logs.outcomes → logs.requests ≡ after.logs.requests → answered (node_of (record after { logs = logs })) answers.Done ≡ written past (done (all_turns (event_of w) (with_ticks (node_of old) ticks) range_numbers))
+all_node w old prepared after logs ticks number past left same t ended journal sent outcomes requests =
+    written_node after logs past answers.Done journal sent outcomes requests
+    ∙ ap (λ (n : Node). written past (answered n answers.Done)) (turns_end w (node_of (record prepared { ticks = ticks })) number after left t ended)
+    ∙ ap (λ (n : Node). written past (done (all_turns (event_of w) (with_ticks n ticks) range_numbers))) same
 
 -- what the first seats plan, each in the state of its own seat
 pub record PlansSoFar (e : ReplicaEvent AppliedState) (ticks rounds : ℕ) (start now : List Seat) (i : ℕ) (plans : List (Option ReplicaPlan)) : Type 0 where
@@ -268,11 +295,15 @@ may_plan e ticks rounds start now i old plans allows p within is =
     (ap (λ (l : List Status). slice_index_or l i Absent) (sym p.same) ∙ seat_at now i ∙ ap status_of (seat_is now i old within is))
     (allows i)
 
+-- and stays as it was, room aside
+pub seats_stay : (start now : List Seat) (i : ℕ) (old new : Seat) → old ≡ get_or now i old → status_of new ≡ status_of old → map status_of now ≡ map status_of start → map status_of (slice_set now i new) ≡ map status_of start
+seats_stay start now i old new is status same = map-set_same status_of now i new old (status ∙ ap status_of is) ∙ same
+
 -- one seat more has planned
 pub plan_more : (e : ReplicaEvent AppliedState) (ticks rounds : ℕ) (start now : List Seat) (i : ℕ) (old new : Seat) (plans : List (Option ReplicaPlan)) (p : Option ReplicaPlan) → PlansSoFar e ticks rounds start now i plans → i < length now → old ≡ get_or now i old → status_of new ≡ status_of old → SeatReady new e ticks rounds p → PlansSoFar e ticks rounds start (slice_set now i new) (i + 1) (plans ++ p ∷ [])
 plan_more e ticks rounds start now i old new plans p so_far within is status ready = record {
   many = omega (arith, length-append plans (p ∷ []), so_far.many);
-  same = map-set_same status_of now i new old (status ∙ ap status_of is) ∙ so_far.same;
+  same = seats_stay start now i old new is status so_far.same;
   each = λ (k : ℕ) (less : k < i + 1). below_more (λ (j : ℕ). SeatReady (seat_in (slice_set now i new) j) e ticks rounds (plan_in (plans ++ p ∷ []) j)) i below here k less;
 }
   where
@@ -305,12 +336,19 @@ planned_node c now logs same alike =
 pub sizes_fit : (o : Option ReplicaPlan) (sends ends : ℕ) → MatchOption o (Unit {0}) (λ (p : ReplicaPlan). (r : replicas.Replica) → (sends ≡ length (planned r p).messages) × (ends ≡ length (planned r p).outcomes)) → (seat_sends o ≤ sends) × (seat_ends o ≤ ends)
 sizes_fit None sends ends is = (omega arith, omega arith)
 sizes_fit (Some p) sends ends is = (
-  subst (λ (n : ℕ). n ≤ sends) (sends_are any p) (subst (λ (n : ℕ). n ≤ sends) (is any).0 (omega arith)),
-  subst (λ (n : ℕ). n ≤ ends) (ends_are any p) (subst (λ (n : ℕ). n ≤ ends) (is any).1 (omega arith)),
+  subst (λ (n : ℕ). n ≤ sends) (sends_are some p) (subst (λ (n : ℕ). n ≤ sends) (is some).0 (omega arith)),
+  subst (λ (n : ℕ). n ≤ ends) (ends_are some p) (subst (λ (n : ℕ). n ≤ ends) (is some).1 (omega arith)),
 )
   where
-    any : replicas.Replica
-    any = started 1 1 1 0 0 first_applied
+    some : replicas.Replica
+    some = started 1 1 1 0 0 first_applied
+
+-- one plan more in a sum
+pub sum_more : (size : Option ReplicaPlan → ℕ) (xs : List (Option ReplicaPlan)) (i : ℕ) (o : Option ReplicaPlan) (total more new : ℕ) → sum_by size (take i xs) ≤ total → i < length xs → o ≡ get_or xs i o → size o ≤ more → new ≡ total + more → sum_by size (take (i + 1) xs) ≤ new
+sum_more size xs i o total more new so_far within is fits adds =
+    let step : sum_by size (take (i + 1) xs) ≡ sum_by size (take i xs) + size (get_or xs i o) = sum_by_more size xs i o within in
+    let same : size (get_or xs i o) ≡ size o = ap size (sym is) in
+    omega arith
 
 -- a restart is allowed everywhere
 pub may_restart : (s : Status) (ticks : ℕ) → SeatAllows s at_replica.Restart ticks

@@ -1,5 +1,5 @@
 //! An event of every live replica of a node: a tick, and the node's restart.
-ghost use Rattle.std.specs.Prelude.{◌≡◌, ℕ, ◌+◌, ◌<◌, ◌≤◌, ◌^◌, IfOk, OnOk, OnErr, map, slice_index_or, sum_by};
+ghost use Rattle.std.specs.Prelude.{◌≡◌, ℕ, ◌+◌, ◌≤◌, IfOk, OnErr, length, map, slice_index_or, sum_by};
 ghost use Rattle.rp_events.specs.MaySteps.{MayTick, SeatAllows};
 ghost use Rattle.rp_events.specs.NodeEvents.{all_turns, done};
 ghost use Rattle.rp_events.specs.Nodes.{Absent, range_numbers, seat, written};
@@ -59,6 +59,13 @@ fn plan_all(
     Ok(plans)
 }
 
+/// The sum; want of memory where no number holds it.
+fn add(left: usize, right: usize) -> Result<usize, NoMemory>
+    ensures { IfOk result (λ sum. sum ≡ left + right) }
+{
+    left.checked_add(right).ok_or(NoMemory)
+}
+
 /// How many messages and outcomes plans will hand out; want of memory where no number holds them.
 fn sum_sizes(plans: &[Option<ReplicaPlan>]) -> Result<(usize, usize), NoMemory>
     ensures { IfOk result (λ sum. (sum_by seat_sends plans.now ≤ sum.0) × (sum_by seat_ends plans.now ≤ sum.1)) }
@@ -66,8 +73,8 @@ fn sum_sizes(plans: &[Option<ReplicaPlan>]) -> Result<(usize, usize), NoMemory>
     let (mut sends, mut ends) = (0usize, 0usize);
     for plan in plans {
         let (more_sends, more_ends) = sizes(plan);
-        sends = sends.checked_add(more_sends).ok_or(NoMemory)?;
-        ends = ends.checked_add(more_ends).ok_or(NoMemory)?;
+        sends = add(sends, more_sends)?;
+        ends = add(ends, more_ends)?;
     }
     Ok((sends, ends))
 }
@@ -85,6 +92,7 @@ impl Core {
         ensures plans { IfOk result (λ plans. ArePrepared self.new.seats self.new.logs (event_of happens)
             ticks self.new.rounds plans.items) }
         ensures nodes { self.new.nodes ≡ self.old.nodes }
+        ensures seats { length self.new.seats ≡ 8 }
     {
         let plans = plan_all(self.alloc, &mut self.seats, happens, ticks, self.rounds)?;
         let (sends, ends) = sum_sizes(&plans)?;
