@@ -1,11 +1,7 @@
 -- What the buffer end gave a collect stands in its plan, and the plan does the collect.
-use Rattle.std.proofs.Common.{◌≡◌, ◌≤◌, ℕ, zero, List, ◌∷◌, [], ◌++◌, Option, None, Some, refl, sym, ap, subst, ◌∙◌, arith}
-use Rattle.rp_base.specs.Kept.{Kept}
+use Rattle.std.proofs.Common.{◌≡◌, ℕ, List, ◌∷◌, [], ◌++◌, Option, None, Some, refl, sym, ap, subst, ◌∙◌}
 use Rattle.rp_base.specs.declared.items.Item.{Item}
-use Rattle.rp_replica.specs.Plans.{HasRoom, IsCollect}
-use Rattle.rp_replica.specs.Rooms as rooms
 use Rattle.rp_replica.specs.declared.plans.ReplicaPlan.{ReplicaPlan}
-use Rattle.rp_replica.specs.declared.plans.ReplicaPlan.TheVariants.{Answers, Admits, Asks, Collects, Applies, HandsOver, Cuts, Removes, Restarts}
 use Rattle.rp_events.specs.declared.answers.EventAnswer.{EventAnswer}
 use Rattle.rp_events.specs.declared.node_events.Event.TheVariants as events
 use Rattle.rp_events.specs.declared.journals.PastEvent.TheVariants as past
@@ -18,38 +14,13 @@ use Rattle.rp_node.specs.declared.seats.Seat.{Seat}
 use Rattle.rp_node.specs.declared.seats.Seat.TheVariants as seats
 use Rattle.rp_node.specs.Asked.{Filled}
 use Rattle.rp_node.specs.Cores.{status_of, seat_in, node_of}
-use Rattle.rp_node.specs.Plans.{SeatReady, TurnReady, turned, answered}
+use Rattle.rp_node.specs.Plans.{SeatReady, turned, answered}
 use Rattle.rp_node.specs.Steps.{Held, Collected, Steps}
 use Rattle.rp_node.proofs.Stepping.{seat_at}
 use Rattle.rp_node.proofs.Turning.{written_node}
 
--- a collect's plan needs the same room whatever it takes
-collect_room : (room : rooms.Room) (p : ReplicaPlan) (items : Kept Item) → IsCollect p → HasRoom room p → HasRoom room (Collects items)
-collect_room room (Answers answer) items c h = absurd c
-collect_room room (Admits p) items c h = absurd c
-collect_room room (Asks ask) items c h = absurd c
-collect_room room (Collects taken) items c h = h
-collect_room room (Applies a) items c h = absurd c
-collect_room room (HandsOver a) items c h = absurd c
-collect_room room (Cuts p) items c h = absurd c
-collect_room room (Removes outcomes) items c h = absurd c
-collect_room room (Restarts outcomes) items c h = absurd c
-
 none_left : (p : ReplicaPlan) → ◌≡◌ {A = Option ReplicaPlan} (Some p) None → ⊥
 none_left p e = cc
-
--- the plan may be committed
-pub filled_ready : {B : Type 0} (gives : B → ℕ → List Item → B → Type 0) (s : Seat) (ticks rounds sends ends range : ℕ) (p q : Option ReplicaPlan) (old new : B) (taken : List Item) → SeatReady s at_replica.Collect ticks rounds p → Filled gives p old range q taken new → TurnReady s q sends ends
-filled_ready gives seats.Absent ticks rounds sends ends range p q old new taken ready f = tt
-filled_ready gives (seats.Live held) ticks rounds sends ends range None q old new taken ready f = absurd ready
-filled_ready gives (seats.Live held) ticks rounds sends ends range (Some p) q old new taken ready f =
-    subst (λ (x : Option ReplicaPlan). TurnReady (seats.Live held) x sends ends) (sym f.stands) (record {
-      fits = f.few;
-      room = collect_room held.room p f.items (ready.collect refl) ready.room;
-      sends_fit = omega arith;
-      ends_fit = omega arith;
-    })
-filled_ready gives (seats.Removed kept) ticks rounds sends ends range p q old new taken ready f = tt
 
 -- it does the collect
 filled_turn : {B : Type 0} (gives : B → ℕ → List Item → B → Type 0) (n : Node) (range : ℕ) (s : Seat) (p q : Option ReplicaPlan) (old new : B) (taken : List Item) → SeatReady s at_replica.Collect n.ticks n.rounds p → Filled gives p old range q taken new → turned n range q s ≡ by_status n range at_replica.Collect taken (status_of s)
@@ -76,15 +47,16 @@ collect_steps gives n prepared after logs range p q old new kept taken answer sa
   gave = subst (λ (s : Status). Collected gives s old range taken new) here
       (filled_gave gives (seat_in prepared.seats range) prepared.ticks prepared.rounds range p q old new taken ready given);
   does = sym (
-    written_node after logs (past.Collect range taken) answer journal sent outcomes requests
-    ∙ ap (λ (d : NodeDone). written (past.Collect range taken) d) (
-    turn
-    ∙ filled_turn gives (node_of prepared) range (seat_in prepared.seats range) p q old new taken ready given
-    ∙ ap (λ (s : Status). by_status (node_of prepared) range at_replica.Collect taken s) (sym (seat_at prepared.seats range))
-    ∙ ap (λ (m : Node). by_replica m range at_replica.Collect taken) same));
+      written_node after logs (past.Collect range taken) answer journal sent outcomes requests
+      ∙ ap (λ (d : NodeDone). written (past.Collect range taken) d) (
+      turn
+      ∙ filled_turn gives (node_of prepared) range (seat_in prepared.seats range) p q old new taken ready given
+      ∙ ap (λ (s : Status). by_status (node_of prepared) range at_replica.Collect taken s) (sym (seat_at prepared.seats range))
+      ∙ ap (λ (m : Node). by_replica m range at_replica.Collect taken) same));
 }
   where
     given : Filled gives p old range q taken new
     given = subst (λ (l : List Item). Filled gives p old range q l new) (sym is) filled
+
     here : status_of (seat_in prepared.seats range) ≡ seat n range
     here = sym (seat_at prepared.seats range) ∙ ap (λ (m : Node). seat m range) same

@@ -13,9 +13,9 @@ use Rattle.rp_node.specs.declared.cores.Core.{Core}
 use Rattle.rp_node.specs.declared.logs.Logs.{Logs}
 use Rattle.rp_node.specs.declared.seats.Seat.{Seat}
 use Rattle.rp_node.specs.declared.seats.Seat.TheVariants as seats
-use Rattle.rp_node.specs.Cores.{status_of, seat_in, node_of, is_absent, AreAlike}
+use Rattle.rp_node.specs.Cores.{status_of, seat_in, node_of, is_absent}
 use Rattle.rp_node.specs.Plans.{SeatReady, turned, answered}
-use Rattle.rp_node.proofs.Seating.{alike_node, seat_is, with_status}
+use Rattle.rp_node.proofs.Seating.{seat_is, with_status}
 use Rattle.rp_node.proofs.Stepping.{seat_at}
 use Rattle.rp_node.proofs.Turning.{ready_turn}
 
@@ -31,12 +31,6 @@ same_nothing seats.Absent = refl
 same_nothing (seats.Live held) = refl
 same_nothing (seats.Removed kept) = refl
 
-nothing_there : (s : Status) → has_nothing s ≡ true → s ≡ Absent
-unfolding has_nothing
-nothing_there Absent e = refl
-nothing_there (Live r) e = absurd cc
-nothing_there (Removed applied) e = absurd cc
-
 -- the seat of a range, by what the code saw of it
 seat_seen : (c : Core) (range i : ℕ) (s : Seat) (b : Bool) → i ≡ range → i < length c.seats → s ≡ get_or c.seats i s → is_absent s ≡ b → has_nothing (seat (node_of c) range) ≡ b
 seat_seen c range i s b at within is seen =
@@ -51,12 +45,6 @@ absent_node c range i from message new logs answer at is answers sent journal ou
     with_status c i new
     ∙ ap (λ (s : Status). with_seat (node_of c) i s) is
     ∙ ap (λ (k : ℕ). with_seat (node_of c) k (seat_by_message (node_of c) from message)) at))
-
-pub comes_absent : (c : Core) (range i from : ℕ) (message : Message AppliedState) (s : Seat) (room : Logs) (after : Node) → i ≡ range → i < length c.seats → s ≡ get_or c.seats i s → is_absent s ≡ true → AreAlike c.logs room → after ≡ answered_absent (node_of (record c { logs = room })) range from message → after ≡ delivered (node_of c) from range message (seat (node_of c) range)
-comes_absent c range i from message s room after at within is empty alike done =
-    done
-    ∙ ap (λ (n : Node). answered_absent n range from message) (alike_node c room alike)
-    ∙ ap (λ (x : Status). delivered (node_of c) from range message x) (sym (nothing_there (seat (node_of c) range) (seat_seen c range i s true at within is empty)))
 
 -- a message where there is a replica or a tombstone
 there_turn : (n : Node) (range from : ℕ) (message : Message AppliedState) (p : Option ReplicaPlan) (s : Seat) → has_nothing (status_of s) ≡ false → SeatReady s (at_replica.Deliver from message) n.ticks n.rounds p → (turned n range p s).node ≡ delivered n from range message (status_of s)

@@ -72,7 +72,8 @@ impl Core {
         ask(&mut plan, end, range, taken, &mut kept);
         let answer = self.turn(range, plan);
         let taken = to_keep(self.alloc, kept);
-        self.logs.write(PastEvent::Collect { range, taken }, &answer);
+        self.logs
+            .write(PastEvent::Collect { range, taken }, &answer);
         Ok(answer)
     }
 }

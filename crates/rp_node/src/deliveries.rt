@@ -21,10 +21,7 @@ use rp_snapshot::Snapshot;
 
 /// What a node that has nothing of the range answers: an Append finds no log, and a snapshot is
 /// taken in.
-fn absent_answer(
-    from: NodeId,
-    message: &Message<Snapshot>,
-) -> Option<(NodeId, Message<Snapshot>)>
+fn absent_answer(from: NodeId, message: &Message<Snapshot>) -> Option<(NodeId, Message<Snapshot>)>
     ensures { option_to_list result ≡ absent_answer from message.now }
 {
     let (term, ok, index) = match message {
