@@ -220,21 +220,26 @@ turn_more w start number now new p left answer t does at journal nodes = record 
   where
     here : SeatReady (seat_in now.seats number) (event_of w) now.ticks now.rounds p
     here = first_ready w start number now p left t
+
     ticks : new.ticks ≡ now.ticks
     ticks = ap (λ (d : NodeDone). d.node.ticks) does ∙ (turn_time (node_of now) number p (seat_in now.seats number)).0
+
     rounds : new.rounds ≡ now.rounds
     rounds = ap (λ (d : NodeDone). d.node.rounds) does ∙ (turn_time (node_of now) number p (seat_in now.seats number)).1
+
     ready : (k range : ℕ) → range ≡ number + 1 + k → k < length left → SeatReady (seat_in new.seats range) (event_of w) new.ticks new.rounds (plan_in left k)
     ready k range is within =
         subst (λ (s : Seat). SeatReady s (event_of w) new.ticks new.rounds (plan_in left k)) (sym (at.others (ready_opens w (seat_in now.seats number) now.ticks now.rounds p here) range (λ (same : range ≡ number). omega arith)))
         (subst (λ (x : ℕ). SeatReady (seat_in now.seats range) (event_of w) x new.rounds (plan_in left k)) (sym ticks)
         (subst (λ (x : ℕ). SeatReady (seat_in now.seats range) (event_of w) now.ticks x (plan_in left k)) (sym rounds)
         (t.ready (suc k) range (omega arith) (omega arith))))
+
     turn : node_of new ≡ live_turn (event_of w) (node_of now) number (seat (node_of now) number)
     turn =
         ap (λ (d : NodeDone). d.node) (does ∙ ready_turn (node_of now) number (event_of w) p (seat_in now.seats number) here (stays_live w))
         ∙ status_turn (node_of now) number (event_of w) (status_of (seat_in now.seats number))
         ∙ ap (λ (s : Status). live_turn (event_of w) (node_of now) number s) (sym (seat_at now.seats number))
+
     turns : all_turns (event_of w) (node_of new) (drop (number + 1) range_numbers) ≡ all_turns (event_of w) start range_numbers
     turns =
         ap (λ (n : Node). all_turns (event_of w) n (drop (number + 1) range_numbers)) turn
@@ -312,8 +317,10 @@ plan_more e ticks rounds start now i old new plans p so_far within is status rea
         subst (λ (s : Seat). SeatReady s e ticks rounds (plan_in (plans ++ p ∷ []) k)) (sym (get_or-set_other now i k new seats.Absent (λ (same : k ≡ i). omega arith)))
         (subst (λ (o : Option ReplicaPlan). SeatReady (seat_in now k) e ticks rounds o) (sym (get_or-append plans (p ∷ []) None k (omega (arith, so_far.many))))
         (so_far.each k less))
+
     last : plan_in (plans ++ p ∷ []) i ≡ p
     last = ap (λ (k : ℕ). plan_in (plans ++ p ∷ []) k) (sym so_far.many) ∙ get_or-append_seam plans p [] None
+
     here : SeatReady (seat_in (slice_set now i new) i) e ticks rounds (plan_in (plans ++ p ∷ []) i)
     here =
         subst (λ (s : Seat). SeatReady s e ticks rounds (plan_in (plans ++ p ∷ []) i)) (sym (get_or-set_same now i new seats.Absent within))

@@ -68,7 +68,7 @@ pub record AllReady
     (plans : List (Option ReplicaPlan)) : Type 0 where
   pub many : length plans ≡ length seats
   pub each : (range : ℕ) → range < length plans
-    → SeatReady (seat_in seats range) e ticks rounds (plan_in plans range)
+      → SeatReady (seat_in seats range) e ticks rounds (plan_in plans range)
 
 -- and there is room for all that they hand out together
 pub record ArePrepared

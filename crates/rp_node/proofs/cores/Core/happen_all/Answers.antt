@@ -32,7 +32,7 @@ pub unwrap-requires : goal.unwrap-requires
 unwrap-requires c =
     let start = node_of (record c.prepare_all.new.self { ticks = c.args.ticks }) in
     let within : c.loop-plan.number ≤ 7 = within_eight c.args.happens start c.loop-plan.number c.loop-plan.self c.in-Some.plan c.next.new.self.rest.items
-        (left_is c.args.happens start c.loop-plan.number c.loop-plan.self c.loop-plan.plan-iterator.rest.items _ c.in-Some.ensures.steps.0 c.loop-plan.invariant) in
+    (left_is c.args.happens start c.loop-plan.number c.loop-plan.self c.loop-plan.plan-iterator.rest.items _ c.in-Some.ensures.steps.0 c.loop-plan.invariant) in
     search rules
 
 pub turn-requires-clause-nodes : goal.turn-requires-clause-nodes
