@@ -1,8 +1,9 @@
 -- Nodes with buffers as a world, and what an event of theirs leaves.
-use Rattle.std.specs.Prelude.{◌≡◌, ℕ, ◌≤◌, List, map, length, option_and_then, Option}
+use Rattle.std.specs.Prelude.{◌≡◌, ℕ, ◌≤◌, List, [], map, length, option_and_then, Option}
 use Rattle.std.specs.Option.{option_map_or}
 use Rattle.rp_bufcore.specs.Buffers.{Buffer, fresh}
 use Rattle.rp_request.specs.Applied.{AppliedState}
+use Rattle.rp_events.specs.declared.answers.Ended.{Ended}
 use Rattle.rp_events.specs.declared.answers.EventAnswer.{EventAnswer}
 use Rattle.rp_events.specs.declared.answers.EventAnswer.TheVariants as answers
 use Rattle.rp_events.specs.declared.node_events.Event.{Event}
@@ -37,6 +38,10 @@ abbrev pub answer_in : World → (node : ℕ) → EventAnswer
 answer_in w node =
     option_map_or (λ n. option_map_or (λ e. e.answer) (last_of n.journal) answers.Done)
     (node_of w node) answers.Done
+
+-- how attempts ended that a node admitted: nothing where the world lacks it
+abbrev pub ended_by : World → (node : ℕ) → List Ended
+ended_by w node = option_map_or (λ n. n.outcomes) (node_of w node) []
 
 -- an event happened at its node: what it left of the nodes and the buffers, and what was answered
 pub record Happens (old : List (Held (List Buffer))) (e : WorldEvent)
