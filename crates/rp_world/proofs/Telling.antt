@@ -9,7 +9,7 @@ use Rattle.rp_request.specs.declared.outcomes.Outcome.{Outcome}
 use Rattle.rp_request.specs.declared.outcomes.Outcome.TheVariants as outcomes
 use Rattle.rp_request.specs.declared.requests.Request.{Request}
 use Rattle.rp_book.specs.declared.bookings.Booked.{Booked}
-use Rattle.rp_book.specs.Books.{BookState, booked, booking_of}
+use Rattle.rp_book.specs.Books.{BookState, booked, booking_of, told_of}
 use Rattle.rp_events.specs.declared.answers.Ended.{Ended}
 use Rattle.rp_events.specs.declared.answers.EventAnswer.{EventAnswer}
 use Rattle.rp_events.specs.Nodes.{Node}
@@ -18,7 +18,7 @@ use Rattle.rp_events.specs.Lawful.{IsReached}
 use Rattle.rp_told.specs.Turns.{Turns, answer_of, behind}
 use Rattle.rp_told.specs.Outcomes.{EndsPending, asks, begun, begun_request, first_outcome, retold}
 use Rattle.rp_world.specs.Keeping.{IsBookOf, told_after}
-use Rattle.rp_world.proofs.Laws.{asked_after, booked_here, booked_other, ends_none, ends_pending, outcome_after, request_after}
+use Rattle.rp_world.proofs.Below.{asked_after, booked_here, booked_other, ends_none, ends_pending, outcome_after, request_after}
 
 -- what ends was known
 abbrev Known : CmdId → Option Outcome → Ended → Type 0
@@ -32,18 +32,18 @@ all_known id a b goes (e ∷ es) h = (λ same. goes (h.0 same), all_known id a b
 pub told_is_retold : (id : CmdId) (es : List Ended) (before : Option Outcome) → AllByRecursion (Known id before) es → told_after es id before ≡ retold id es before
 told_is_retold id [] before h = refl
 told_is_retold id (e ∷ es) before h =
-    ap (λ b. told_after es id (cond b (option_map (λ _. e.outcome) before) before)) (same_back id e.id) ∙ go (same_id e.id id) h.0 before refl
+    ap (λ b. told_after es id (cond b (option_map (λ _. e.outcome) before) before)) (same_back id e.id)
+    ∙ go (same_id e.id id) h.0 (told_is_retold id es (Some e.outcome) (all_known id before (Some e.outcome) (λ _. refl) es h.1)) (told_is_retold id es before h.1)
   where
     at_some : (o : Option Outcome) → is_some o ≡ true → option_map (λ (_ : Outcome). e.outcome) o ≡ Some e.outcome
     at_some None h = absurd cc
     at_some (Some x) h = refl
 
-    go : (b : Bool) → (b ≡ true → is_some before ≡ true) → (o : Option Outcome) → before ≡ o
+    go : (b : Bool) → (b ≡ true → is_some before ≡ true)
+        → told_after es id (Some e.outcome) ≡ retold id es (Some e.outcome) → told_after es id before ≡ retold id es before
         → told_after es id (cond b (option_map (λ _. e.outcome) before) before) ≡ retold id es (cond b (Some e.outcome) before)
-    go true known o is =
-        ap (told_after es id) (at_some before (known refl))
-        ∙ told_is_retold id es (Some e.outcome) (all_known id before (Some e.outcome) (λ _. refl) es h.1)
-    go false known o is = told_is_retold id es before h.1
+    go true known here there = ap (told_after es id) (at_some before (known refl)) ∙ here
+    go false known here there = there
 
 -- what was pending is known
 pending_known : (w : World) (id : CmdId) (es : List Ended) → AllByRecursion (EndsPending w) es → AllByRecursion (Known id (outcome_of w id)) es
@@ -59,7 +59,7 @@ pub record Quiet (what : Happening) : Type 0 where
 
 -- the book stays that of the nodes
 pub still_book : (k : ℕ) (w : World) (x : Scene) (n now : Node) → IsReached k w → Turns w x n now → Quiet x.what
-    → (s t : BookState) → t.entries ≡ s.entries → ((id : CmdId) → t.told id ≡ told_after (behind n.outcomes now.outcomes) id (s.told id))
+    → (s t : BookState) → t.entries ≡ s.entries → ((id : CmdId) → told_of id t.told ≡ told_after (behind n.outcomes now.outcomes) id (told_of id s.told))
     → IsBookOf w s → IsBookOf (happens w x) t
 still_book k w x n now reached turns quiet s t entries told b = record {
   asked = λ id.
@@ -86,7 +86,7 @@ asking node range id request = record { node = node; what = Admit range id reque
 pub new_book : (k : ℕ) (w : World) (node range : ℕ) (id : CmdId) (request : Request) (n now : Node) → IsReached k w
     → Turns w (asking node range id request) n now
     → (s t : BookState) (b : Booked) → b.request ≡ request → t.entries ≡ booked id b s.entries
-    → ((other : CmdId) → t.told other ≡ with_first id (first_outcome (answer_of now)) s.told other)
+    → ((other : CmdId) → told_of other t.told ≡ with_first id (first_outcome (answer_of now)) (λ i. told_of i s.told) other)
     → IsBookOf w s → IsBookOf (happens w (asking node range id request)) t
 new_book k w node range id request n now reached turns s t b asks_for entries told book = record {
   asked = λ other. by_asked other (same_id other id) refl;
@@ -125,8 +125,8 @@ new_book k w node range id request n now reached turns s t b asks_for entries to
         ∙ ap (λ es. retold other es (begun other (Admit range id request) (answer_of now) (outcome_of w other))) (ends_none w (asking node range id request) n now turns id (same_itself id))
 
     by_told : (other : CmdId) (c : Bool) → same_id other id ≡ c
-        → with_first id (first_outcome (answer_of now)) s.told other ≡ begun other (Admit range id request) (answer_of now) (outcome_of w other)
+        → with_first id (first_outcome (answer_of now)) (λ i. told_of i s.told) other ≡ begun other (Admit range id request) (answer_of now) (outcome_of w other)
     by_told other c same =
-        ap (λ a. cond a (Some (first_outcome (answer_of now))) (s.told other)) same
+        ap (λ a. cond a (Some (first_outcome (answer_of now))) (told_of other s.told)) same
         ∙ ap (λ o. cond c (Some (first_outcome (answer_of now))) o) (book.told other)
         ∙ sym (ap (λ a. cond a (Some (first_outcome (answer_of now))) (outcome_of w other)) (same_back id other ∙ same))

@@ -1,6 +1,6 @@
 //! Events of a world, counted and weighed.
 ghost use Rattle.std.specs.Prelude.{◌≡◌, ◌≤◌, ◌==◌, false, length, Some, IfOk, OnOk, OnErr};
-ghost use Rattle.rp_book.specs.Books.{booking_of};
+ghost use Rattle.rp_book.specs.Books.{booking_of, told_of};
 ghost use Rattle.rp_events.specs.declared.world_events.WorldEvent.TheVariants as events;
 ghost use Rattle.rp_events.specs.Lawful.{IsReached};
 ghost use Rattle.rp_lawful.specs.Comings.{Comes, node_in};
@@ -29,7 +29,8 @@ const MOST_WEIGHT: u64 = 2_097_152;
 /// What ended is told to the book.
 fn tell_all(book: &mut Book, ends: &[Ended])
     ensures entries { book.new.entries ≡ book.old.entries }
-    ensures told { (id : CmdId) → book.new.told id ≡ told_after ends.now id (book.old.told id) }
+    ensures told { (id : CmdId) → told_of id book.new.told
+        ≡ told_after ends.now id (told_of id book.old.told) }
     ensures spare { book.old.spare ≤ book.new.spare }
 {
     for end in ends {

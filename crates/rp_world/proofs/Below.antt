@@ -1,9 +1,12 @@
 -- Laws of the crates below, as they are used here.
-use Rattle.std.proofs.Common.{◌≡◌, ℕ, ◌+◌, Bool, true, false, ◌||◌, IsTrue, Option, None, Some, List, [], ◌∷◌, sum_by, length}
+use Rattle.std.proofs.Common.{◌≡◌, ℕ, ◌+◌, Bool, true, false, ◌||◌, IsTrue, Option, None, Some, List, [], ◌∷◌, ◌++◌, sum_by, length}
 use Rattle.std.specs.List.{AllByRecursion}
 use Rattle.rp_base.specs.declared.ids.CmdId.{CmdId}
 use Rattle.rp_events.specs.Nodes.{Node}
-use Rattle.rp_events.specs.Worlds.{World, Scene, node_of, asked_request, happens, outcome_of, was_asked}
+use Rattle.rp_events.specs.declared.world_events.WorldEvent.{WorldEvent}
+use Rattle.rp_events.specs.Buffered.{Buffered, buffered_step}
+use Rattle.rp_lawful.specs.Comings.{Comes, happening_of, node_in, scene_at}
+use Rattle.rp_events.specs.Worlds.{World, Scene, Happening, node_of, asked_request, happens, outcome_of, was_asked}
 use Rattle.rp_events.specs.Lawful.{IsReached, Lawful, is_lawful}
 use Rattle.rp_lines.specs.Players.{weight, weight_of}
 use Rattle.rp_base.specs.Ids.{same_id}
@@ -41,3 +44,13 @@ booked_here id b book = ?
 
 pub booked_other : (id other : CmdId) (b : Booked) (book : Book) → same_id other id ≡ false → booking_of other (booked id b book) ≡ booking_of other book
 booked_other id other b book ne = ?
+
+pub step_nodes : (b : Buffered) (e : WorldEvent) → Comes b e → (what : Happening) → happening_of b e ≡ Some what
+    → (buffered_step b e).nodes ≡ happens b.nodes (scene_at (node_in e) what)
+step_nodes b e c what is = ?
+
+pub ended_grow : (w : World) (x : Scene) (n now : Node) → Turns w x n now → now.outcomes ≡ n.outcomes ++ behind n.outcomes now.outcomes
+ended_grow w x n now turns = ?
+
+pub sent_grow : (w : World) (x : Scene) (n now : Node) → Turns w x n now → now.sent ≡ n.sent ++ behind n.sent now.sent
+sent_grow w x n now turns = ?
