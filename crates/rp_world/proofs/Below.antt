@@ -1,17 +1,28 @@
 -- Laws of the crates below, as they are used here.
-use Rattle.std.proofs.Common.{◌≡◌, ℕ, ◌+◌, Bool, true, false, ◌||◌, IsTrue, Option, None, Some, List, [], ◌∷◌, ◌++◌, sum_by, length}
+use Rattle.std.proofs.Common.{◌≡◌, ℕ, ◌+◌, ◌<◌, ◌^◌, Bool, true, false, ◌||◌, IsTrue, Option, None, Some, Result, Ok, List, [], ◌∷◌, ◌++◌, sum_by, length}
 use Rattle.std.specs.List.{AllByRecursion}
-use Rattle.rp_base.specs.declared.ids.CmdId.{CmdId}
-use Rattle.rp_events.specs.Nodes.{Node}
-use Rattle.rp_events.specs.declared.world_events.WorldEvent.{WorldEvent}
-use Rattle.rp_events.specs.Buffered.{Buffered, buffered_step}
-use Rattle.rp_lawful.specs.Comings.{Comes, happening_of, node_in, scene_at}
-use Rattle.rp_events.specs.Worlds.{World, Scene, Happening, node_of, asked_request, happens, outcome_of, was_asked}
-use Rattle.rp_events.specs.Lawful.{IsReached, Lawful, is_lawful}
-use Rattle.rp_lines.specs.Players.{weight, weight_of}
 use Rattle.rp_base.specs.Ids.{same_id}
+use Rattle.rp_base.specs.declared.ids.CmdId.{CmdId}
+use Rattle.rp_request.specs.Applied.{AppliedState}
+use Rattle.rp_request.specs.Fits.{FitsRequest}
+use Rattle.rp_request.specs.declared.requests.Request.{Request}
+use Rattle.rp_script.specs.Bounds.{Fits, IsClient, IsNode}
+use Rattle.rp_script.specs.declared.lines.NumberedLine.{NumberedLine}
+use Rattle.rp_events.specs.declared.parcels.Parcel.{Parcel}
+use Rattle.rp_events.specs.declared.world_events.WorldEvent.{WorldEvent}
+use Rattle.rp_events.specs.declared.world_events.WorldEvent.TheVariants as events
+use Rattle.rp_events.specs.Nodes.{Node, parcel_of}
+use Rattle.rp_events.specs.Worlds.{World, Scene, Happening, node_of, sent_by, asked_request, happens, outcome_of, was_asked}
+use Rattle.rp_events.specs.Lawful.{IsReached, Lawful, is_lawful, was_refused}
+use Rattle.rp_events.specs.Buffered.{Buffered, buffered_step}
 use Rattle.rp_book.specs.declared.bookings.Booked.{Booked}
-use Rattle.rp_book.specs.Books.{Book, booked, booking_of}
+use Rattle.rp_book.specs.Books.{Book, booked, booking_of, latest_of}
+use Rattle.rp_lawful.specs.Comings.{Comes, IsPlain, happening_of, node_in, scene_at}
+use Rattle.rp_lawful.specs.Onward.{LeadsOn}
+use Rattle.rp_lawful.specs.Playable.{CanPlay}
+use Rattle.rp_lawful.specs.Sound.{Sound}
+use Rattle.rp_lines.specs.Commands.{following}
+use Rattle.rp_lines.specs.Players.{Player, did, next_command, noted, weight, weight_of}
 use Rattle.rp_told.specs.Turns.{Turns, answer_of, behind}
 use Rattle.rp_told.specs.Outcomes.{EndsPending, asks, begun, begun_request, retold}
 
@@ -54,3 +65,45 @@ ended_grow w x n now turns = ?
 
 pub sent_grow : (w : World) (x : Scene) (n now : Node) → Turns w x n now → now.sent ≡ n.sent ++ behind n.sent now.sent
 sent_grow w x n now turns = ?
+
+pub comes_plain : (lines : ℕ) (p : Player) → Sound lines p → (e : WorldEvent) → IsPlain (length p.world.nodes) e → Comes p.world e
+comes_plain lines p sound e plain = ?
+
+pub comes_deliver : (lines : ℕ) (p : Player) → Sound lines p → (sender number : ℕ) (parcel : Parcel AppliedState)
+    → parcel_of (sent_by p.world.nodes sender) number ≡ Some parcel → Comes p.world (events.Deliver parcel.to sender number)
+comes_deliver lines p sound sender number parcel is = ?
+
+pub comes_next : (lines : ℕ) (p : Player) → Sound lines p → lines + 1 < 2 ^ 16 → (node range client : ℕ) (request : Request)
+    → IsNode (length p.world.nodes) node → IsClient client → FitsRequest request → Comes p.world (events.Admit node range (next_command p client) request)
+comes_next lines p sound few node range client request is_node is_client fits = ?
+
+pub comes_further : (lines : ℕ) (p : Player) → Sound lines p → lines + 1 < 2 ^ 16 → (node range client seq : ℕ) (id : CmdId) (b : Booked)
+    → IsNode (length p.world.nodes) node → latest_of client seq p.book ≡ Some (id, b) → was_refused p.world.nodes id ≡ true
+    → Comes p.world (events.Admit node range (following id) b.request)
+comes_further lines p sound few node range client seq id b is_node latest refused = ?
+
+pub leads_plain : (lines : ℕ) (p : Player) → Sound lines p → (e : WorldEvent) → IsPlain (length p.world.nodes) e → (q : Player) → did e p ≡ Ok q → LeadsOn lines p q
+leads_plain lines p sound e plain q is = ?
+
+pub leads_noted : (lines : ℕ) (p : Player) → Sound lines p → (line : ℕ) (text : List ℕ) → LeadsOn lines p (noted line text p)
+leads_noted lines p sound line text = ?
+
+pub new_next : (lines : ℕ) (p : Player) → Sound lines p → (client : ℕ) → IsClient client → booking_of (next_command p client) p.book ≡ None
+new_next lines p sound client is_client = ?
+
+pub new_further : (lines : ℕ) (p : Player) → Sound lines p → (client seq : ℕ) (id : CmdId) (b : Booked) → latest_of client seq p.book ≡ Some (id, b)
+    → booking_of (following id) p.book ≡ None
+new_further lines p sound client seq id b latest = ?
+
+pub attempt_fits : (lines : ℕ) (p : Player) → Sound lines p → lines + 1 < 2 ^ 16 → (client seq : ℕ) (id : CmdId) (b : Booked) → latest_of client seq p.book ≡ Some (id, b)
+    → id.attempt + 1 < 2 ^ 16
+attempt_fits lines p sound few client seq id b latest = ?
+
+pub play_sound : (nodes : ℕ) (p : Player) (l : NumberedLine) (c : CanPlay nodes p l) → Sound (length c.lines) p
+play_sound nodes p l c = ?
+
+pub play_few : (nodes : ℕ) (p : Player) (l : NumberedLine) (c : CanPlay nodes p l) → length c.lines + 1 < 2 ^ 16
+play_few nodes p l c = ?
+
+pub play_fits : (nodes : ℕ) (p : Player) (l : NumberedLine) → CanPlay nodes p l → Fits nodes p.sent l.line
+play_fits nodes p l c = ?

@@ -3,13 +3,13 @@ ghost use Rattle.std.specs.Prelude.{◌≡◌, ◌≤◌, ◌==◌, false, lengt
 ghost use Rattle.rp_book.specs.Books.{booking_of, told_of};
 ghost use Rattle.rp_events.specs.declared.world_events.WorldEvent.TheVariants as events;
 ghost use Rattle.rp_events.specs.Lawful.{IsReached};
-ghost use Rattle.rp_lawful.specs.Comings.{Comes, node_in};
+ghost use Rattle.rp_lawful.specs.Comings.{Comes, IsPlain, node_in};
 ghost use Rattle.rp_lines.specs.Commands.{asks, buffer_at};
 ghost use Rattle.rp_lines.specs.Players.{did, last_answer, most_events, weighed, with_booking};
 ghost use Rattle.rp_world.specs.Comes.{HasNode, IsNoAdmission, answer_in};
 ghost use Rattle.rp_world.specs.Keeping.{told_after};
 ghost use Rattle.rp_base.specs.declared.ids.CmdId.{CmdId};
-ghost use Rattle.rp_world.specs.Going.{AsMany};
+ghost use Rattle.rp_world.specs.Going.{AsMany, Going};
 ghost use Rattle.rp_world.specs.Plays.{Does, admission, happened, one_event_more, place_in, unspent};
 
 use crate::faults::PlayFault;
@@ -94,12 +94,16 @@ impl World {
 
     /// An event of a node that asks for no admission.
     pub(crate) fn event(&mut self, event: &WorldEvent) -> Result<EventAnswer, PlayFault>
-        requires reached { IsReached (length self.old.world.nodes) self.old.world.nodes }
+        requires going { Going self.old }
         requires comes { Comes self.old.world event.now }
         requires no_admission { IsNoAdmission event.now }
         ensures does { Does result self.new (did event.now self.old) }
         ensures answer { IfOk result (λ answer. answer
             ≡ last_answer self.new (node_in event.now)) }
+        // An event that a script may always make leaves a player that goes on.
+        ensures going { IsPlain (length self.old.world.nodes) event.now
+            → OnOk result (Going self.new) }
+        ensures nodes { OnOk result (AsMany self.old self.new) }
     {
         self.unspent()?;
         let answer = self.happen(event)?;
