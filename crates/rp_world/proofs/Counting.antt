@@ -78,8 +78,8 @@ counted_asks r id b p mid new may is h =
     (subst (λ m. Does r new (weighed m)) is h)
 
 -- want of memory says nothing
-pub no_memory_says : {A : Type 0} (e : PlayFault) (new : Player) (meant : Played) → e ≡ faults.NoMemory → Does {A} (Err e) new meant
-no_memory_says {A} e new meant is = subst (λ f. Does {A} (Err f) new meant) (sym is) tt
+pub no_memory_says : (A : Type 0) (e : PlayFault) (new : Player) (meant : Played) → e ≡ faults.NoMemory → Does {A = A} (Err e) new meant
+no_memory_says A e new meant is = subst (λ f. Does {A = A} (Err f) new meant) (sym is) tt
 
 -- the weight is too great
 abbrev heavy : WorldEvent → Player → Limit

@@ -3,10 +3,6 @@ use Rattle.std.specs.Prelude.{◌≡◌, ℕ, ◌+◌, ◌<◌, ◌^◌, Bool, t
 use Rattle.rp_base.specs.declared.ids.CmdId.{CmdId}
 use Rattle.rp_book.specs.declared.bookings.Booked.{Booked}
 use Rattle.rp_book.specs.declared.bookings.Draw.TheVariants.{Drawn}
-use Rattle.rp_events.specs.declared.answers.EventAnswer.{EventAnswer}
-use Rattle.rp_events.specs.declared.answers.EventAnswer.TheVariants as answers
-use Rattle.rp_events.specs.declared.world_events.WorldEvent.{WorldEvent}
-use Rattle.rp_events.specs.declared.world_events.WorldEvent.TheVariants as events
 use Rattle.rp_script.specs.declared.lines.ScriptLine.{ScriptLine}
 use Rattle.rp_script.specs.declared.lines.ScriptLine.TheVariants as lines
 use Rattle.rp_lawful.specs.Sound.{Sound}
@@ -26,16 +22,6 @@ AsMany before after = length after.world.nodes ≡ length before.world.nodes
 abbrev pub with_place : Booked → Option ℕ → Booked
 with_place b None = b
 with_place b (Some place) = record b { draw = Drawn place }
-
--- the answer tells a value
-abbrev pub is_value : EventAnswer → Bool
-is_value (answers.Value value applied) = true
-is_value _ = false
-
--- the event asks for a value
-abbrev pub is_peek : WorldEvent → Bool
-is_peek (events.Peek node range key) = true
-is_peek _ = false
 
 -- a line of a client's command
 abbrev pub is_command : ScriptLine → Bool

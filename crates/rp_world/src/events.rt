@@ -6,7 +6,7 @@ ghost use Rattle.rp_events.specs.Lawful.{IsReached};
 ghost use Rattle.rp_lawful.specs.Comings.{Comes, IsPlain, node_in};
 ghost use Rattle.rp_lines.specs.Commands.{asks, buffer_at};
 ghost use Rattle.rp_lines.specs.Players.{did, last_answer, most_events, weighed, with_booking};
-ghost use Rattle.rp_world.specs.Comes.{HasNode, IsNoAdmission, answer_in};
+ghost use Rattle.rp_world.specs.Comes.{HasNode, IsNoAdmission, answer_in, is_peek, is_value};
 ghost use Rattle.rp_world.specs.Keeping.{told_after};
 ghost use Rattle.rp_base.specs.declared.ids.CmdId.{CmdId};
 ghost use Rattle.rp_world.specs.Going.{AsMany, Going};
@@ -83,6 +83,8 @@ impl World {
         ensures ok { OnOk result (self.new ≡ happened event.now self.old) }
         ensures answer { IfOk result (λ answer. answer
             ≡ answer_in self.new.world.nodes (node_in event.now)) }
+        ensures value { is_peek event.now ≡ false
+            → IfOk result (λ answer. is_value answer ≡ false) }
         ensures err { OnErr result (self.new ≡ self.old) }
     {
         let node = node_of(event);
@@ -100,6 +102,8 @@ impl World {
         ensures does { Does result self.new (did event.now self.old) }
         ensures answer { IfOk result (λ answer. answer
             ≡ last_answer self.new (node_in event.now)) }
+        ensures value { is_peek event.now ≡ false
+            → IfOk result (λ answer. is_value answer ≡ false) }
         // An event that a script may always make leaves a player that goes on.
         ensures going { IsPlain (length self.old.world.nodes) event.now
             → OnOk result (Going self.new) }

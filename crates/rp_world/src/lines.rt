@@ -10,8 +10,8 @@ ghost use Rattle.rp_lines.specs.Players.{did};
 ghost use Rattle.rp_lines.specs.Scripts.{does, flushes, played, puts_ask, tells, tells_refusal, told_absent};
 ghost use Rattle.rp_lines.specs.Settling.{delivers, ticks, with_handled};
 ghost use Rattle.rp_script.specs.Bounds.{Fits, IsNode, IsTurns};
-ghost use Rattle.rp_world.specs.Comes.{HasNode};
-ghost use Rattle.rp_world.specs.Going.{Going, is_command, is_peek, is_value};
+ghost use Rattle.rp_world.specs.Comes.{HasNode, is_peek, is_value};
+ghost use Rattle.rp_world.specs.Going.{Going, is_command};
 ghost use Rattle.rp_world.specs.Plays.{Does};
 
 use crate::faults::PlayFault;

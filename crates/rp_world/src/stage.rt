@@ -5,7 +5,7 @@ ghost use Rattle.rp_events.specs.Buffered.{buffered_step, buffers_at, first_buff
 ghost use Rattle.rp_events.specs.declared.world_events.WorldEvent.TheVariants as events;
 ghost use Rattle.rp_lines.specs.Players.{weight};
 ghost use Rattle.rp_lawful.specs.Comings.{Comes, node_in};
-ghost use Rattle.rp_world.specs.Comes.{HasNode, answer_in, buffered_of, ended_by, first_held};
+ghost use Rattle.rp_world.specs.Comes.{HasNode, answer_in, buffered_of, ended_by, first_held, is_peek, is_value};
 ghost use Rattle.rp_world.specs.Weighing.{capped};
 
 use crate::scenes::{happen, node_of, sent_by};
@@ -121,6 +121,7 @@ impl Stage {
         requires { Comes self.old event.now }
         ensures stage { OnOk result (self.new ≡ buffered_step self.old event.now) }
         ensures answer { IfOk result (λ answer. answer ≡ answer_in self.new.nodes (node_in event.now)) }
+        ensures value { is_peek event.now ≡ false → IfOk result (λ answer. is_value answer ≡ false) }
         ensures err { OnErr result (self.new ≡ self.old) }
     {
         let node = node_of(event);
