@@ -88,7 +88,8 @@ pub record AreSoundBuffers (b : Buffered) : Type 0 where
 -- each sender has a list of which of its messages were handled, no longer than what it sent
 pub record IsSoundHandling (p : Player) : Type 0 where
   pub many : length p.handled ≡ length p.world.nodes
-  pub within : (sender : ℕ) → length (handling_of p sender) ≤ length (sent_by p.world.nodes sender)
+  pub within : (sender : ℕ) → 1 ≤ sender
+      → length (handling_of p sender) ≤ length (sent_by p.world.nodes sender)
 
 -- the loss of a script: at most half of the messages
 abbrev pub IsLoss : Loss → Type 0

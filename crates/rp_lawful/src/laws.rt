@@ -1,6 +1,6 @@
 //! Laws of players: which events their lines make, and what each part of a line keeps. No program calls
 //! these functions.
-ghost use Rattle.std.specs.Prelude.{◌≡◌, ℕ, ◌+◌, ◌^◌, ◌<◌, ◌≤◌, true, false, IsTrue, List, length, sum_by, Some, Ok};
+ghost use Rattle.std.specs.Prelude.{◌≡◌, ℕ, ◌+◌, ◌^◌, ◌<◌, ◌≤◌, true, false, IsTrue, List, length, sum_by, None, Some, Ok};
 ghost use Rattle.rp_base.specs.declared.ids.CmdId.{CmdId};
 ghost use Rattle.rp_base.specs.declared.leases.LeaseAsk.{LeaseAsk};
 ghost use Rattle.rp_base.specs.ClientCounts.{one_more_of};
@@ -72,6 +72,7 @@ pub fn a_sound_player_makes_events_that_come()
     ensures deliver { (lines : ℕ) (p : Player) → Sound lines p → (sender : ℕ) (number : ℕ)
         → (parcel : Parcel AppliedState)
         → parcel_of (sent_by p.world.nodes sender) number ≡ Some parcel
+        → IsNode (length p.world.nodes) parcel.to
         → Comes p.world (events.Deliver parcel.to sender number) }
     ensures next { (lines : ℕ) (p : Player) → Sound lines p → lines + 1 < 2 ^ 16
         → (node : ℕ) (range : ℕ) (client : ℕ) (request : Request)
@@ -84,11 +85,10 @@ pub fn a_sound_player_makes_events_that_come()
         → Comes p.world (events.Admit node range (following id) b.request) }
 {}
 
-/// A receiver is a node: each message that a node of a reached world has sent is for one of its nodes.
-pub fn each_message_is_for_a_node()
-    ensures { (nodes : ℕ) (w : World) → IsReached nodes w → (sender : ℕ) (number : ℕ)
-        → (parcel : Parcel AppliedState) → parcel_of (sent_by w sender) number ≡ Some parcel
-        → IsNode nodes parcel.to }
+/// A message at a node that the world lacks is skipped.
+pub fn a_message_for_nobody_is_skipped()
+    ensures { (b : Buffered) (node : ℕ) (sender : ℕ) (number : ℕ) → node_of b.nodes node ≡ None
+        → buffered_step b (events.Deliver node sender number) ≡ b }
 {}
 
 /// The buffers of a sound player have their sixteen places each, and give no more than sixteen items.

@@ -1,0 +1,11 @@
+pub mod Buffers
+pub mod Worlds
+pub mod Books
+pub mod Coming
+pub mod Keeping
+pub mod Events
+pub mod Beside
+pub mod Asks
+pub mod Nexts
+pub mod Lines
+pub mod Playing
