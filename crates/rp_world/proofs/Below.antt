@@ -1,5 +1,5 @@
 -- Laws of the crates below, as they are used here.
-use Rattle.std.proofs.Common.{◌≡◌, ℕ, ◌+◌, ◌<◌, ◌^◌, Bool, true, false, ◌||◌, IsTrue, Option, None, Some, Result, Ok, List, [], ◌∷◌, ◌++◌, sum_by, length}
+use Rattle.std.proofs.Common.{◌≡◌, ℕ, ◌+◌, ◌<◌, ◌≤◌, ◌^◌, arith, Bool, true, false, ◌||◌, IsTrue, Option, None, Some, Result, Ok, List, [], ◌∷◌, ◌++◌, sum_by, length}
 use Rattle.std.specs.List.{AllByRecursion}
 use Rattle.rp_base.specs.Ids.{same_id}
 use Rattle.rp_base.specs.declared.ids.CmdId.{CmdId}
@@ -20,7 +20,13 @@ use Rattle.rp_book.specs.Books.{Book, booked, booking_of, latest_of}
 use Rattle.rp_lawful.specs.Comings.{Comes, IsPlain, happening_of, node_in, scene_at}
 use Rattle.rp_lawful.specs.Onward.{LeadsOn}
 use Rattle.rp_lawful.specs.Playable.{CanPlay}
-use Rattle.rp_lawful.specs.Sound.{Sound}
+use Rattle.rp_lawful.specs.Sound.{IsSoundBooking, Sound}
+use Rattle.rp_lawful.proofs.Books as books
+use Rattle.rp_lawful.proofs.Books.{latest_had}
+use Rattle.rp_lawful.proofs.Coming.{comes_nodes, plain_comes}
+use Rattle.rp_lawful.proofs.Lines.{noted_leads, plain_keeps}
+use Rattle.rp_lawful.proofs.Nexts.{further_comes, further_new, next_comes, next_new, room}
+use Rattle.rp_lawful.proofs.Playing.{can_fits, can_room, can_size, can_sound}
 use Rattle.rp_lines.specs.Commands.{following}
 use Rattle.rp_lines.specs.Players.{Player, did, next_command, noted, weight, weight_of}
 use Rattle.rp_told.specs.Turns.{Turns, answer_of, behind}
@@ -51,14 +57,14 @@ pub weight_after : (w : World) (x : Scene) (n now : Node) → Turns w x n now �
 weight_after w x n now turns = ?
 
 pub booked_here : (id : CmdId) (b : Booked) (book : Book) → booking_of id (booked id b book) ≡ Some b
-booked_here id b book = ?
+booked_here id b book = books.booked_here id b book
 
 pub booked_other : (id other : CmdId) (b : Booked) (book : Book) → same_id other id ≡ false → booking_of other (booked id b book) ≡ booking_of other book
-booked_other id other b book ne = ?
+booked_other id other b book ne = books.booked_other id other b book ne
 
 pub step_nodes : (b : Buffered) (e : WorldEvent) → Comes b e → (what : Happening) → happening_of b e ≡ Some what
     → (buffered_step b e).nodes ≡ happens b.nodes (scene_at (node_in e) what)
-step_nodes b e c what is = ?
+step_nodes b e c what is = comes_nodes b e c what is
 
 pub ended_grow : (w : World) (x : Scene) (n now : Node) → Turns w x n now → now.outcomes ≡ n.outcomes ++ behind n.outcomes now.outcomes
 ended_grow w x n now turns = ?
@@ -67,7 +73,7 @@ pub sent_grow : (w : World) (x : Scene) (n now : Node) → Turns w x n now → n
 sent_grow w x n now turns = ?
 
 pub comes_plain : (lines : ℕ) (p : Player) → Sound lines p → (e : WorldEvent) → IsPlain (length p.world.nodes) e → Comes p.world e
-comes_plain lines p sound e plain = ?
+comes_plain lines p sound e plain = plain_comes (length p.world.nodes) p.world sound.reached (room lines p sound) sound.buffers e plain
 
 pub comes_deliver : (lines : ℕ) (p : Player) → Sound lines p → (sender number : ℕ) (parcel : Parcel AppliedState)
     → parcel_of (sent_by p.world.nodes sender) number ≡ Some parcel → Comes p.world (events.Deliver parcel.to sender number)
@@ -75,35 +81,40 @@ comes_deliver lines p sound sender number parcel is = ?
 
 pub comes_next : (lines : ℕ) (p : Player) → Sound lines p → lines + 1 < 2 ^ 16 → (node range client : ℕ) (request : Request)
     → IsNode (length p.world.nodes) node → IsClient client → FitsRequest request → Comes p.world (events.Admit node range (next_command p client) request)
-comes_next lines p sound few node range client request is_node is_client fits = ?
+comes_next lines p sound few node range client request is_node is_client fits = next_comes lines p sound few node range client request is_node is_client fits
 
 pub comes_further : (lines : ℕ) (p : Player) → Sound lines p → lines + 1 < 2 ^ 16 → (node range client seq : ℕ) (id : CmdId) (b : Booked)
     → IsNode (length p.world.nodes) node → latest_of client seq p.book ≡ Some (id, b) → was_refused p.world.nodes id ≡ true
     → Comes p.world (events.Admit node range (following id) b.request)
-comes_further lines p sound few node range client seq id b is_node latest refused = ?
+comes_further lines p sound few node range client seq id b is_node latest refused = further_comes lines p sound few node range client seq id b is_node latest refused
 
 pub leads_plain : (lines : ℕ) (p : Player) → Sound lines p → (e : WorldEvent) → IsPlain (length p.world.nodes) e → (q : Player) → did e p ≡ Ok q → LeadsOn lines p q
-leads_plain lines p sound e plain q is = ?
+leads_plain lines p sound e plain q is = plain_keeps lines p sound e plain q is
 
 pub leads_noted : (lines : ℕ) (p : Player) → Sound lines p → (line : ℕ) (text : List ℕ) → LeadsOn lines p (noted line text p)
-leads_noted lines p sound line text = ?
+leads_noted lines p sound line text = noted_leads lines p sound line text
 
 pub new_next : (lines : ℕ) (p : Player) → Sound lines p → (client : ℕ) → IsClient client → booking_of (next_command p client) p.book ≡ None
-new_next lines p sound client is_client = ?
+new_next lines p sound client is_client = next_new lines p sound client
 
 pub new_further : (lines : ℕ) (p : Player) → Sound lines p → (client seq : ℕ) (id : CmdId) (b : Booked) → latest_of client seq p.book ≡ Some (id, b)
     → booking_of (following id) p.book ≡ None
-new_further lines p sound client seq id b latest = ?
+new_further lines p sound client seq id b latest = further_new lines p sound client seq id b latest
+
+-- the attempt behind a booked one can be counted, and its node is there
+pub booking_sound : (lines : ℕ) (p : Player) → Sound lines p → (client seq : ℕ) (id : CmdId) (b : Booked) → latest_of client seq p.book ≡ Some (id, b) → IsSoundBooking lines p id b
+booking_sound lines p sound client seq id b latest = sound.book.booked id b (latest_had p.book sound.book.apart client seq (id, b) latest).has
 
 pub attempt_fits : (lines : ℕ) (p : Player) → Sound lines p → lines + 1 < 2 ^ 16 → (client seq : ℕ) (id : CmdId) (b : Booked) → latest_of client seq p.book ≡ Some (id, b)
     → id.attempt + 1 < 2 ^ 16
-attempt_fits lines p sound few client seq id b latest = ?
+attempt_fits lines p sound few client seq id b latest =
+    let at : id.attempt ≤ lines = (booking_sound lines p sound client seq id b latest).attempt.1 in omega arith
 
 pub play_sound : (nodes : ℕ) (p : Player) (l : NumberedLine) (c : CanPlay nodes p l) → Sound (length c.lines) p
-play_sound nodes p l c = ?
+play_sound nodes p l c = can_sound nodes p l c
 
 pub play_few : (nodes : ℕ) (p : Player) (l : NumberedLine) (c : CanPlay nodes p l) → length c.lines + 1 < 2 ^ 16
-play_few nodes p l c = ?
+play_few nodes p l c = can_room nodes p l c
 
 pub play_fits : (nodes : ℕ) (p : Player) (l : NumberedLine) → CanPlay nodes p l → Fits nodes p.sent l.line
-play_fits nodes p l c = ?
+play_fits nodes p l c = can_fits nodes p l c
