@@ -6,3 +6,4 @@ pub mod Collecting
 pub mod Coming
 pub mod Ticking
 pub mod Happening
+pub mod Choosing

@@ -24,7 +24,8 @@ use Rattle.rp_journals.proofs.Lists.{get_end}
 use Rattle.rp_node.specs.Steps.{Held, IsLeft, Collected, Taken, Steps}
 use Rattle.rp_node.specs.Several.{StepsAt, held_at}
 use Rattle.rp_lawful.specs.Comings.{Comes, ComesAs, ComesBy, happening_of, node_in, scene_at, taken_at}
-use Rattle.rp_world.specs.Comes.{Happens, answer_in, buffered_of, node_event}
+use Rattle.rp_world.specs.Comes.{Happens, answer_in, buffered_of, is_peek, is_value, node_event}
+use Rattle.rp_world.proofs.Answering.{reads_key, step_tells_none}
 use Rattle.rp_world.proofs.Places.{get_map, index_of, set_stays}
 
 abbrev Ends : Type 0
@@ -99,16 +100,17 @@ step_answer n e taken =
     (last_push (acted n e taken).node.journal (record { event = past_of n e taken; answer = (acted n e taken).answer }))
 
 -- what is had of an event at one of the nodes
-pub record Came (old : Ends) (node : ℕ) (what : Happening) (new : Ends) (answer : EventAnswer) : Type 0 where
+pub record Came (old : Ends) (node : ℕ) (what : Happening) (reads : Bool) (new : Ends) (answer : EventAnswer) : Type 0 where
   pub nodes : (buffered_of new).nodes
       ≡ happens_if (is_lawful (buffered_of old).nodes (record { node = node; what = what })) (buffered_of old).nodes (record { node = node; what = what })
   pub answer_is : answer ≡ answer_in (buffered_of new).nodes node
+  pub value : reads ≡ false → is_value answer ≡ false
 
 pub came : (old : Ends) (node : ℕ) (what : Happening) (ev : Event AppliedState) (taken : List Item) (new : Ends) (answer : EventAnswer) (before after : Held (List Buffer))
     → IsTrue (is_lawful (buffered_of old).nodes (record { node = node; what = what })) → event_of (buffered_of old).nodes what ≡ Some ev
     → held_at old node ≡ Some before → new ≡ set old (node - 1) after → taken_in what ≡ taken
     → step before.node ev taken ≡ record { node = after.node; answer = answer }
-    → Came old node what new answer
+    → Came old node what (reads_key ev) new answer
 came old node what ev taken new answer before after lawful is has leaves takes does =
     let left : (step before.node ev (taken_in what)).node ≡ after.node = ap (λ t. (step before.node ev t).node) takes ∙ ap (λ d. d.node) does in
     let told : (step before.node ev taken).answer ≡ answer = ap (λ d. d.answer) does in
@@ -123,35 +125,38 @@ came old node what ev taken new answer before after lawful is has leaves takes d
           ∙ sym (step_answer before.node ev taken)
           ∙ ap (λ (n : Node). option_map_or (λ (x : JournalEntry). x.answer) (last_of n.journal) answers.Done) (ap (λ d. d.node) does)
           ∙ sym (ap (λ o. option_map_or (λ (n : Node). option_map_or (λ (x : JournalEntry). x.answer) (last_of n.journal) answers.Done) o answers.Done) found);
+      value = λ h. ap is_value (sym told) ∙ step_tells_none before.node ev taken h;
     }
 
 same_buffered : (a b : Buffered) → a.nodes ≡ b.nodes → a.buffers ≡ b.buffers → a ≡ b
 same_buffered a b n e = ap (λ w. record { nodes = w; buffers = a.buffers }) n ∙ ap (λ l. record { nodes = b.nodes; buffers = l }) e
 
 -- what is left of the nodes and the buffers, and what was answered
-pub record Left (old : Ends) (node : ℕ) (left_as : Buffered) (new : Ends) (answer : EventAnswer) : Type 0 where
+pub record Left (old : Ends) (node : ℕ) (left_as : Buffered) (reads : Bool) (new : Ends) (answer : EventAnswer) : Type 0 where
   pub left : buffered_of new ≡ left_as
   pub told : answer ≡ answer_in (buffered_of new).nodes node
+  pub value : reads ≡ false → is_value answer ≡ false
 
 -- an event that asks no buffer
 plain : (old : Ends) (node : ℕ) (what : Happening) (ev : Event AppliedState) (new : Ends) (answer : EventAnswer) → ComesAs (buffered_of old) node what
     → event_of (buffered_of old).nodes what ≡ Some ev → taken_in what ≡ []
     → (s : StepsAt Collects old node ev new answer) → IsLeft s.before.end s.steps.taken s.after.end
-    → Left old node (at_node (buffered_of old) node what) new answer
+    → Left old node (at_node (buffered_of old) node what) (reads_key ev) new answer
 plain old node what ev new answer may is none_taken s gave =
-    let c : Came old node what new answer =
+    let c : Came old node what (reads_key ev) new answer =
       came old node what ev s.steps.taken new answer s.before s.after may.lawful.lawful is s.has s.leaves (none_taken ∙ sym gave.nothing) s.steps.does in
     record {
       left = same_buffered (buffered_of new) (at_node (buffered_of old) node what) c.nodes
           (ap (λ l. (buffered_of l).buffers) s.leaves ∙ same_ends old node s.before s.after s.has gave.same);
       told = c.answer_is;
+      value = λ h. c.value h;
     }
 
 -- a collect at a live replica
 collect_live : (old : Ends) (node range : ℕ) (new : Ends) (answer : EventAnswer) → ComesAs (buffered_of old) node (Collect range (taken_at (buffered_of old) node range))
     → has_live (buffered_of old).nodes node range ≡ true
     → (s : StepsAt Collects old node (node_events.Collect range) new answer) → Collects s.before.end range s.steps.taken s.after.end
-    → Left old node (collected (buffered_of old) node range) new answer
+    → Left old node (collected (buffered_of old) node range) false new answer
 collect_live old node range new answer may live s gave =
     let b : Buffered = buffered_of old in
     let g : List Item = given (buffer_of (buffers_at b node) range) in
@@ -159,7 +164,7 @@ collect_live old node range new answer may live s gave =
     let takes : taken_at b node range ≡ g = ap (λ t. cond t g []) live in
     let lawful : IsTrue (is_lawful b.nodes (record { node = node; what = Collect range g })) =
       subst (λ t. IsTrue (is_lawful b.nodes (record { node = node; what = Collect range t }))) takes may.lawful.lawful in
-    let c : Came old node (Collect range g) new answer =
+    let c : Came old node (Collect range g) false new answer =
       came old node (Collect range g) (node_events.Collect range) s.steps.taken new answer s.before s.after lawful refl s.has s.leaves
       (ap (λ l. given (buffer_of l range)) end ∙ sym gave.items_are) s.steps.does in
     let left : collected b node range ≡ changed (at_node b node (Collect range g)) node range after_collect =
@@ -172,32 +177,33 @@ collect_live old node range new answer may live s gave =
           ∙ ap (λ l. set b.buffers (node - 1) l) (gave.buffers_are ∙ ap (λ l. with_buffer l range (after_collect (buffer_of l range))) (sym end)))
           ∙ sym left;
       told = c.answer_is;
+      value = λ h. c.value h;
     }
 
 -- a collect where there is none
 collect_none : (old : Ends) (node range : ℕ) (new : Ends) (answer : EventAnswer) → ComesAs (buffered_of old) node (Collect range (taken_at (buffered_of old) node range))
     → has_live (buffered_of old).nodes node range ≡ false
     → (s : StepsAt Collects old node (node_events.Collect range) new answer) → IsLeft s.before.end s.steps.taken s.after.end
-    → Left old node (collected (buffered_of old) node range) new answer
+    → Left old node (collected (buffered_of old) node range) false new answer
 collect_none old node range new answer may live s gave =
     let b : Buffered = buffered_of old in
     let g : List Item = given (buffer_of (buffers_at b node) range) in
     let takes : taken_at b node range ≡ [] = ap (λ t. cond t g []) live in
     let left : collected b node range ≡ at_node b node (Collect range []) =
       ap (λ t. cond t (collects b node range g) (at_node b node (Collect range []))) live in
-    subst (λ l. Left old node l new answer) (sym left)
+    subst (λ l. Left old node l false new answer) (sym left)
     (plain old node (Collect range []) (node_events.Collect range) new answer (subst (λ t. ComesAs b node (Collect range t)) takes may) refl refl s gave)
 
 collect_at : (old : Ends) (node range : ℕ) (new : Ends) (answer : EventAnswer) → ComesAs (buffered_of old) node (Collect range (taken_at (buffered_of old) node range))
     → (s : StepsAt Collects old node (node_events.Collect range) new answer)
-    → Left old node (collected (buffered_of old) node range) new answer
+    → Left old node (collected (buffered_of old) node range) false new answer
 collect_at old node range new answer may s = go (seat s.before.node range) refl s.steps.gave where
   live_is : (status : Status) → seat s.before.node range ≡ status → has_live (buffered_of old).nodes node range ≡ is_live status
   live_is status e =
       ap (λ o. option_map_or (λ (n : Node). is_live (seat n range)) o false) (held_node old node s.before s.has) ∙ ap is_live e
 
   go : (status : Status) → seat s.before.node range ≡ status → Collected Collects status s.before.end range s.steps.taken s.after.end
-      → Left old node (collected (buffered_of old) node range) new answer
+      → Left old node (collected (buffered_of old) node range) false new answer
   go Absent e gave = collect_none old node range new answer may (live_is Absent e) s gave
   go (Live r) e gave = collect_live old node range new answer may (live_is (Live r) e) s gave
   go (Removed applied) e gave = collect_none old node range new answer may (live_is (Removed applied) e) s gave
@@ -211,7 +217,7 @@ moved old node a b new answer e s = subst (λ k. StepsAt Collects old node k new
 
 deliver_at : (old : Ends) (node from number : ℕ) (ev : Event AppliedState) (new : Ends) (answer : EventAnswer) → ComesAs (buffered_of old) node (Deliver from number)
     → (o : Option (Parcel AppliedState)) → parcel_of (sent_by (buffered_of old).nodes from) number ≡ o → option_map (delivery from number) o ≡ Some ev
-    → StepsAt Collects old node ev new answer → Left old node (at_node (buffered_of old) node (Deliver from number)) new answer
+    → StepsAt Collects old node ev new answer → Left old node (at_node (buffered_of old) node (Deliver from number)) false new answer
 deliver_at old node from number ev new answer may None sent is s = absurd (nothing is) where
   nothing : ◌≡◌ {A = Option (Event AppliedState)} None (Some ev) → ⊥
   nothing e = cc
@@ -221,7 +227,7 @@ deliver_at old node from number ev new answer may (Some p) sent is s =
 
 -- an event at one of the nodes is the event of the world
 step_left : (old : Ends) (e : WorldEvent) (ev : Event AppliedState) (new : Ends) (answer : EventAnswer) → Comes (buffered_of old) e → node_event (buffered_of old) e ≡ Some ev
-    → StepsAt Collects old (node_in e) ev new answer → Left old (node_in e) (buffered_step (buffered_of old) e) new answer
+    → StepsAt Collects old (node_in e) ev new answer → Left old (node_in e) (buffered_step (buffered_of old) e) (is_peek e) new answer
 step_left old (events.Admit node range id request) ev new answer c is s =
     let m : StepsAt Collects old node (node_events.Admit range id request) new answer = moved old node (node_events.Admit range id request) ev new answer is s in
     plain old node (Admit range id request) (node_events.Admit range id request) new answer c.comes refl refl m m.steps.gave
@@ -266,5 +272,5 @@ step_left old (events.Publish node range place item) ev new answer c is s = absu
 pub stepped : (old : Ends) (e : WorldEvent) (ev : Event AppliedState) (new : Ends) (answer : EventAnswer) → Comes (buffered_of old) e → node_event (buffered_of old) e ≡ Some ev
     → StepsAt Collects old (node_in e) ev new answer → Happens old e new answer
 stepped old e ev new answer c is s =
-    let l : Left old (node_in e) (buffered_step (buffered_of old) e) new answer = step_left old e ev new answer c is s in
-    record { left = l.left; told = l.told }
+    let l : Left old (node_in e) (buffered_step (buffered_of old) e) (is_peek e) new answer = step_left old e ev new answer c is s in
+    record { left = l.left; told = l.told; value = l.value }

@@ -28,9 +28,12 @@ unspent p =
     then Err (record { which = Events; count = most_events })
     else Ok p
 
--- an event has happened, and is counted
+-- an event has happened; and one more is counted
 abbrev pub happened : WorldEvent → Player → Player
-happened e p = record p { world = buffered_step p.world e; events = p.events + 1 }
+happened e p = record p { world = buffered_step p.world e }
+
+abbrev pub one_event_more : Player → Player
+one_event_more p = record p { events = p.events + 1 }
 
 -- an attempt's admission as an event
 abbrev pub admission : CmdId → Booked → WorldEvent

@@ -5,14 +5,14 @@ ghost use Rattle.rp_events.specs.Buffered.{buffered_step, buffers_at, first_buff
 ghost use Rattle.rp_events.specs.declared.world_events.WorldEvent.TheVariants as events;
 ghost use Rattle.rp_lines.specs.Players.{weight};
 ghost use Rattle.rp_lawful.specs.Comings.{Comes, node_in};
-ghost use Rattle.rp_world.specs.Comes.{HasNode, answer_in, buffered_of, first_held};
+ghost use Rattle.rp_world.specs.Comes.{HasNode, answer_in, buffered_of, ended_by, first_held, is_peek, is_value};
 ghost use Rattle.rp_world.specs.Weighing.{capped};
 
 use crate::scenes::{happen, node_of, sent_by};
 use crate::weights::sent_weight;
 use rp_base::{Item, NoMemory, NodeId, RangeId};
 use rp_bufcore::{Full, NotDrawn, PlainEnd};
-use rp_events::{EventAnswer, WorldEvent};
+use rp_events::{Ended, EventAnswer, WorldEvent};
 use rp_node::{Node, Nodes};
 use std::alloc::Global;
 use std::marker::Model;
@@ -84,6 +84,14 @@ impl Stage {
         })
     }
 
+    /// What is left where no more lines are played: the nodes.
+    pub(crate) fn into_nodes(self) -> Nodes<PlainEnd>
+        ensures { buffered_of result ≡ self }
+    {
+        let Stage { nodes, .. } = self;
+        nodes
+    }
+
     /// The nodes.
     pub(crate) fn nodes(&self) -> &Nodes<PlainEnd>
         ensures { buffered_of result.now ≡ self.now }
@@ -98,11 +106,22 @@ impl Stage {
         self.weight
     }
 
+    /// How attempts ended that a node admitted; nothing where there is no such node.
+    pub(crate) fn ended(&self, node: NodeId) -> &[Ended]
+        ensures { result.now ≡ ended_by self.now.nodes node }
+    {
+        match self.nodes.get(node) {
+            Some(node) => node.outcomes().as_slice(),
+            None => &[],
+        }
+    }
+
     /// An event of a node. At want of memory nothing happens.
     pub(crate) fn step(&mut self, event: &WorldEvent) -> Result<EventAnswer, NoMemory>
         requires { Comes self.old event.now }
         ensures stage { OnOk result (self.new ≡ buffered_step self.old event.now) }
         ensures answer { IfOk result (λ answer. answer ≡ answer_in self.new.nodes (node_in event.now)) }
+        ensures value { is_peek event.now ≡ false → IfOk result (λ answer. is_value answer ≡ false) }
         ensures err { OnErr result (self.new ≡ self.old) }
     {
         let node = node_of(event);
