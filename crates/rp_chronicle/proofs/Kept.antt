@@ -1,16 +1,18 @@
 -- The pieces that nodes keep are pieces of the range's one list, and cover it.
-use Rattle.std.proofs.Common.{◌≡◌, ℕ, zero, suc, ◌+◌, ◌-◌, ◌<◌, ◌≤◌, ◌⊎◌, ⊎_elim, Option, None, Some, List, [], ◌∷◌, ◌++◌, length, refl, sym, ap, subst, ◌∙◌, arith}
-use Rattle.std.specs.Prelude.{Contains, MatchOption, slice_get}
+use Rattle.std.proofs.Common.{◌≡◌, ℕ, zero, suc, ◌+◌, ◌-◌, ◌<◌, ⊎_elim, Option, None, Some, List, [], ◌∷◌, ◌++◌, length, take, drop, refl, sym, ap, subst, ◌∙◌, arith}
+use Rattle.std.specs.Prelude.{Contains, slice_get}
+use Rattle.std.specs.Option.{option_map}
+use Rattle.std.proofs.lemmas.List.{take_at}
 use Rattle.std.proofs.lemmas.List.Elements.{Contains-append_cases, Contains-append_left, Contains-append_right}
 use Rattle.std.proofs.lemmas.Option.{none-some, slice_get_within}
 use Rattle.rp_request.specs.History.{Piece, History}
 use Rattle.rp_request.specs.declared.items.Record.{Record}
 use Rattle.rp_events.specs.Nodes.{Node, seat}
-use Rattle.rp_events.specs.Worlds.{World, node_of}
+use Rattle.rp_events.specs.Worlds.{World}
 use Rattle.rp_events.specs.Lists.{base_of, history_in, HasApplied, Keeps, IsOneList}
 use Rattle.rp_recorded.specs.Recorded.{HasOneList, IsAllApplied}
 use Rattle.rp_recorded.proofs.Lists.{all_applied}
-use Rattle.rp_chronicle.specs.Filling.{ArePiecesOf, FillsAll, HasPieces, IsFilled, IsPieceOf}
+use Rattle.rp_chronicle.specs.Filling.{ArePiecesOf, FillsAll, HasPieces, IsFilled}
 use Rattle.rp_chronicle.specs.Worlds.{IsFurthest, IsUntouched, ListEndsAt, pieces_in, pieces_of}
 use Rattle.rp_chronicle.proofs.Places.{get_inside, same_places}
 
@@ -54,9 +56,19 @@ all_among : (w : World) (node range : ℕ) (h : History) → HasApplied w node r
 all_among w zero range h a p c = absurd (none-some a.n a.has)
 all_among w (suc place) range h a p c = among_all w place range a.n h a.has a.history p c
 
+pub node_pieces : (w : World) (place range : ℕ) (n : Node) → slice_get w place ≡ Some n → (p : Piece) → Contains (pieces_in (history_in (seat n range))) p → Contains (pieces_of w range) p
+node_pieces [] place range n has p c = absurd (none-some n has)
+node_pieces (x ∷ w) zero range n has p c =
+    Contains-append_left (pieces_in (history_in (seat x range))) (pieces_of w range) p
+    (subst (λ (k : Node). Contains (pieces_in (history_in (seat k range))) p) (sym (some_node x n has)) c)
+  where
+    some_node : (a b : Node) → ◌≡◌ {A = Option Node} (Some a) (Some b) → a ≡ b
+    some_node a b e = cc
+node_pieces (x ∷ w) (suc place) range n has p c = Contains-append_right (pieces_in (history_in (seat x range))) (pieces_of w range) p (node_pieces w place range n has p c)
+
 module _ (w : World) (range : ℕ) (list : List Record) (one : IsOneList w range list) where
   -- a piece with a record at this place
-  kept_at : (p : Piece) → IsHeldAt w range p → (place : ℕ) (kept : Record) → slice_get p.list place ≡ Some kept → Keeps w _ range (p.first + place) kept
+  kept_at : (p : Piece) (h : IsHeldAt w range p) (place : ℕ) (kept : Record) → slice_get p.list place ≡ Some kept → Keeps w h.node range (p.first + place) kept
   kept_at p h place kept e = record { history = h.history; applied = h.applied; piece = p; among = h.among; stands = record { place = place; here = e; at = refl } }
 
   pub are_pieces : ArePiecesOf list (base_of range) (pieces_of w range)
@@ -88,16 +100,27 @@ ends_untouched w range h u = record {
       (all_applied w range h.list h.is);
 }
 
+-- the list ends where the node does that has applied most
+pub ends_at : (w : World) (range : ℕ) (h : History) (list : List Record) → IsOneList w range list → IsFurthest w range h → base_of range + length list ≡ h.index
+ends_at w range h list one f =
+    let r = one.reaches f.node h f.applied in
+    let low = r.0 in
+    let high = r.1 in
+    ⊎_elim
+    (λ (e : list ≡ []). let none : length list ≡ 0 = ap length e in omega (arith, none, low, high))
+    (λ (x : IsAllApplied w range list). let le = f.most x.node x.history x.applied in let all = x.all in omega (arith, le, all, high))
+    (all_applied w range list one)
+
 pub ends_furthest : (w : World) (range : ℕ) (h : History) → HasOneList w range → IsFurthest w range h → ListEndsAt w range h.index
-ends_furthest w range h one f = record {
-  list = one.list;
-  is = one.is;
-  ends =
-      let r = one.is.reaches f.node h f.applied in
-      let low = r.0 in
-      let high = r.1 in
-      ⊎_elim
-      (λ (e : one.list ≡ []). let none : length one.list ≡ 0 = ap length e in omega (arith, none, low, high))
-      (λ (x : IsAllApplied w range one.list). let le = f.most x.node x.history x.applied in let all = x.all in omega (arith, le, all, high))
-      (all_applied w range one.list one.is);
-}
+ends_furthest w range h one f = record { list = one.list; is = one.is; ends = ends_at w range h one.list one.is f }
+
+-- what one node keeps, by its history
+pub has_kept : (base given : ℕ) (o kept : Option History) (records : List Record) → given ≡ base → kept ≡ o → HasPieces base (pieces_in o) records → HasPieces given (pieces_in kept) records
+has_kept base given o kept records b e h = subst (λ z. HasPieces z (pieces_in kept) records) (sym b) (subst (λ z. HasPieces base (pieces_in z) records) (sym e) h)
+
+pub any_fills : {T : Type 0} (f : T → History) (o : Option T) (x : T) (base : ℕ) (old new : List Record) → o ≡ Some x → FillsAll base ((f x).earlier ++ (f x).records ∷ []) old new → FillsAll base (pieces_in (option_map f o)) old new
+any_fills f o x base old new e h = subst (λ z. FillsAll base (pieces_in (option_map f z)) old new) (sym e) h
+
+-- what was lent is given back whole
+pub given_back : (old new : List Record) (n : ℕ) → length new ≡ n → take n (new ++ drop (length new) old) ≡ new
+given_back old new n long = take_at new (drop (length new) old) n long

@@ -4,9 +4,9 @@ use Rattle.std.specs.Prelude.{fold, slice_get}
 use Rattle.std.proofs.lemmas.Bool.{cases_lt}
 use Rattle.std.proofs.lemmas.List.{length-append, take_more, take_all}
 use Rattle.std.proofs.lemmas.Option.{none-some, slice_get_within}
-use Rattle.rp_request.specs.History.{Piece, History}
+use Rattle.rp_request.specs.History.{History}
 use Rattle.rp_events.specs.Nodes.{Node, seat}
-use Rattle.rp_events.specs.Worlds.{World, node_of}
+use Rattle.rp_events.specs.Worlds.{World}
 use Rattle.rp_events.specs.Lists.{history_in, HasApplied}
 use Rattle.rp_node.specs.Steps.{Held}
 use Rattle.rp_chronicle.specs.Worlds.{world_of, further, furthest_of, IsFurthest, IsUntouched, pieces_in, pieces_of}
@@ -21,6 +21,11 @@ more_nodes {B} xs i x lt is = ap world_of (take_more xs i x lt ∙ ap (λ y. tak
 
 pub all_nodes : {B : Type 0} (xs : List (Held B)) (i : ℕ) → length xs ≤ i → world_of (take i xs) ≡ world_of xs
 all_nodes xs i le = ap world_of (take_all i xs le)
+
+pub node_at : {B : Type 0} (xs : List (Held B)) (i : ℕ) (x : Held B) → i < length xs → x ≡ get_or xs i x → slice_get (world_of xs) i ≡ Some x.node
+node_at [] i x lt is = absurd (omega (arith, lt))
+node_at {B} (y ∷ xs) zero x lt is = ap (λ (h : Held B). Some h.node) (sym is)
+node_at (y ∷ xs) (suc i) x lt is = node_at xs i x (omega (arith, lt)) is
 
 -- what one node more has
 module _ (w : World) (n : Node) (range : ℕ) where
@@ -122,6 +127,14 @@ map_push range (x ∷ w) n = ap (λ xs. history_in (seat x range) ∷ xs) (map_p
 
 pub furthest_push : (w : World) (n : Node) (range : ℕ) → furthest_of (w ++ n ∷ []) range ≡ further (furthest_of w range) (history_in (seat n range))
 furthest_push w n range = ap (fold further None) (map_push range w n) ∙ fold_push None (map (λ n. history_in (seat n range)) w) (history_in (seat n range))
+
+pub furthest_more_nodes : (w now : World) (n : Node) (range : ℕ) (so_far next most : Option History) → now ≡ w ++ n ∷ [] → most ≡ further so_far next → so_far ≡ furthest_of w range → next ≡ history_in (seat n range) → most ≡ furthest_of now range
+furthest_more_nodes w now n range so_far next most same is was here =
+    is
+    ∙ ap (λ o. further o next) was
+    ∙ ap (further (furthest_of w range)) here
+    ∙ sym (furthest_push w n range)
+    ∙ ap (λ v. furthest_of v range) (sym same)
 
 -- the pieces of one node more
 pub more_pieces : (w : World) (n : Node) (range : ℕ) → pieces_of (w ++ n ∷ []) range ≡ pieces_of w range ++ pieces_in (history_in (seat n range))

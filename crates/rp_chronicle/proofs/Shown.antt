@@ -1,5 +1,5 @@
 -- The ranges that are shown, one after another.
-use Rattle.std.proofs.Common.{◌≡◌, ℕ, zero, suc, ◌+◌, ◌<◌, ◌≤◌, ⊎_elim, List, [], ◌∷◌, ◌++◌, length, refl, sym, ap, subst, ◌∙◌, arith}
+use Rattle.std.proofs.Common.{◌≡◌, ℕ, ◌+◌, ◌<◌, ◌≤◌, ⊎_elim, List, [], ◌∷◌, ◌++◌, sym, subst, ◌∙◌, arith}
 use Rattle.std.specs.Prelude.{Contains}
 use Rattle.std.specs.List.{AllByRecursion}
 use Rattle.std.proofs.lemmas.Bool.{cases_lt}
@@ -36,8 +36,8 @@ pub shows_none : (w : World) → ShowsBelow w 0 []
 shows_none w = record { shown = tt; below = tt; ascending = tt; all = λ node range h lt a. absurd (omega (arith, lt)) }
 
 -- a range that no node had
-pub shows_still : (w : World) (number : ℕ) (views : List RangeView) → ShowsBelow w number views → IsUntouched w number → ShowsBelow w (number + 1) views
-shows_still w number views s u = record {
+still_below : (w : World) (number : ℕ) (views : List RangeView) → ShowsBelow w number views → IsUntouched w number → ShowsBelow w (number + 1) views
+still_below w number views s u = record {
   shown = s.shown;
   below = all_above number views s.below;
   ascending = s.ascending;
@@ -48,8 +48,8 @@ shows_still w number views s u = record {
 }
 
 -- one that some node had
-pub shows_more : (w : World) (number : ℕ) (views : List RangeView) (v : RangeView) → ShowsBelow w number views → IsRangeView w number v → ShowsBelow w (number + 1) (views ++ v ∷ [])
-shows_more w number views v s is = record {
+more_below : (w : World) (number : ℕ) (views : List RangeView) (v : RangeView) → ShowsBelow w number views → IsRangeView w number v → ShowsBelow w (number + 1) (views ++ v ∷ [])
+more_below w number views v s is = record {
   shown = all_push (λ (x : RangeView). IsRangeView w x.desc.id x) views v s.shown (subst (λ r. IsRangeView w r v) (sym is.number) is);
   below = all_push (λ (x : RangeView). x.desc.id < number + 1) views v (all_above number views s.below) (let same = is.number in omega (arith, same));
   ascending = ascending_push number views v is.number s.below s.ascending;
@@ -58,6 +58,12 @@ shows_more w number views v s is = record {
       (λ (high : number ≤ range). let same : number ≡ range = omega (arith, lt, high) in (v, (Contains-push views v, is.number ∙ same)))
       (cases_lt range number);
 }
+
+pub shows_still : (w : World) (number range : ℕ) (views : List RangeView) → range ≡ number → ShowsBelow w number views → IsUntouched w range → ShowsBelow w (number + 1) views
+shows_still w number range views same s u = still_below w number views s (subst (IsUntouched w) same u)
+
+pub shows_more : (w : World) (number range : ℕ) (views : List RangeView) (v : RangeView) → range ≡ number → ShowsBelow w number views → IsRangeView w range v → ShowsBelow w (number + 1) (views ++ v ∷ [])
+shows_more w number range views v same s is = more_below w number views v s (subst (λ r. IsRangeView w r v) same is)
 
 pub shows_all : (w : World) (number : ℕ) (views : List RangeView) → ShowsBelow w number views → 8 ≤ number → ((node range : ℕ) (h : History) → HasApplied w node range h → range < 8) → ShowsRanges w views
 shows_all w number views s eight few = record {

@@ -54,7 +54,7 @@ fn fill_all(records: &mut [Record], base: u64, kept: &ApplyState)
 
 /// Fills in all records that a node keeps, where it has any.
 fn fill_any(records: &mut [Record], base: u64, kept: Option<&ApplyState>)
-    requires { HasPieces base (pieces_in (option_map (λ s. s.now.history) kept.entry)) records.old }
+    requires { HasPieces base (pieces_in (option_map (λ s. s.now.history) kept)) records.old }
     ensures { FillsAll base (pieces_in (option_map (λ s. s.now.history) kept.entry)) records.old records.new }
 {
     if let Some(kept) = kept {

@@ -44,7 +44,10 @@ fn further<'a>(
 
 /// What has been applied of a range by the node that has applied most of it; `None` where no node
 /// has or had a replica.
-pub(crate) fn furthest<B: BufferEnd + Drop>(nodes: &[Node<B>], range: RangeId) -> Option<&ApplyState>
+pub(crate) fn furthest<B: BufferEnd + Drop>(
+    nodes: &[Node<B>],
+    range: RangeId,
+) -> Option<&ApplyState>
     ensures { option_map (λ s. s.now.history) result ≡ furthest_of (world_of nodes.now) range }
 {
     let mut most = None;
