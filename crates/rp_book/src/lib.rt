@@ -3,5 +3,13 @@
 #![tactic(auto)]
 
 mod bookings;
+mod books;
+mod handling;
+mod keeps;
+mod queues;
+mod stores;
 
 pub use bookings::{Booked, Draw};
+pub use books::Book;
+pub use handling::Handled;
+pub use queues::{QUEUES, Queues};
