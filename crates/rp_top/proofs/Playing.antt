@@ -10,7 +10,15 @@ use Rattle.rp_script.specs.declared.lines.ScriptLine.{ScriptLine}
 use Rattle.rp_script.specs.declared.lines.ScriptLine.TheVariants as lines
 use Rattle.rp_lines.specs.Players.{Limit, Player, Played, first_player, and_then}
 use Rattle.rp_lines.specs.Scripts.{played, played_all}
+use Rattle.rp_base.specs.Gives.{Fails}
+use Rattle.rp_events.specs.Lawful.{IsReached}
 use Rattle.rp_lawful.specs.Playable.{CanPlay, IsFront, cluster_at}
+use Rattle.rp_lawful.proofs.Playing.{can_size, script_reached, script_sound}
+use Rattle.rp_top.specs.Gives.{fault_of, stop_by}
+use Rattle.rp_top.specs.Scripts.{behind_first, by_play, nodes_in, play_of}
+use Rattle.rp_world.specs.Plays.{limit_of}
+use Rattle.rp_world.specs.declared.faults.PlayFault.{PlayFault}
+use Rattle.rp_world.specs.declared.faults.PlayFault.TheVariants as plays
 
 same_then : (r : Played) (f g : Player → Played) → ((p : Player) → f p ≡ g p) → and_then r f ≡ and_then r g
 same_then (Ok p) f g h = h p
@@ -89,3 +97,54 @@ pub led_further : (ls : List NumberedLine) (i : ℕ) (d : NumberedLine) (p q r :
     → played (get_or ls i d).number (get_or ls i d).line q ≡ Ok r → played_all p (take (suc i) ls) ≡ Ok r
 led_further ls i d p q r within led next =
     ap (played_all p) (take-suc ls i d within) ∙ leads_further p q r (take i ls) (get_or ls i d) led next
+
+-- the same of an item of a loop
+item_is : (ls : List NumberedLine) (i : ℕ) (l : NumberedLine) → i < length ls → l ≡ get_or ls i l → take (suc i) ls ≡ take i ls ++ l ∷ []
+item_is ls i l within is = take-suc ls i l within ∙ ap (λ x. take i ls ++ x ∷ []) (sym is)
+
+pub item_may_be_played : (nodes : ℕ) (ls : List NumberedLine) (i : ℕ) (l : NumberedLine) (p : Player) → IsFront nodes ls → i < length ls → l ≡ get_or ls i l
+    → played_all (first_player nodes) (take i ls) ≡ Ok p → CanPlay (length p.world.nodes) p l
+item_may_be_played nodes ls i l p front within is led =
+    let can : CanPlay nodes p l = subst (λ (x : NumberedLine). CanPlay nodes p x) (sym is) (next_may_be_played nodes ls i l p front within led) in
+    subst (λ (n : ℕ). CanPlay n p l) (sym (can_size nodes p l can)) can
+
+pub item_leads_on : (nodes : ℕ) (ls : List NumberedLine) (i : ℕ) (l : NumberedLine) (p q : Player) → i < length ls → l ≡ get_or ls i l
+    → played_all (first_player nodes) (take i ls) ≡ Ok p → played l.number l.line p ≡ Ok q → played_all (first_player nodes) (take (i + 1) ls) ≡ Ok q
+item_leads_on nodes ls i l p q within is led next =
+    let next_index : i + 1 ≡ suc i = omega arith in
+    ap (played_all (first_player nodes)) (ap (λ n. take n ls) next_index ∙ item_is ls i l within is) ∙ leads_further (first_player nodes) p q (take i ls) l led next
+
+-- the item at which a play ends
+pub item_ends : (nodes : ℕ) (ls : List NumberedLine) (i : ℕ) (l : NumberedLine) (p : Player) (fault : PlayFault) → i < length ls → l ≡ get_or ls i l
+    → played_all (first_player nodes) (take i ls) ≡ Ok p → Fails (limit_of fault) (played l.number l.line p) → Fails (limit_of fault) (played_all (first_player nodes) ls)
+item_ends nodes ls i l p (plays.Limit which count) within is led ends =
+    ap (played_all (first_player nodes)) whole
+    ∙ ends_there (first_player nodes) p (take i ls) (drop (suc i) ls) l (record { which = which; count = count }) led ends
+  where
+    whole : ls ≡ take i ls ++ l ∷ drop (suc i) ls
+    whole = sym (take-append-drop (suc i) ls) ∙ ap (λ xs. xs ++ drop (suc i) ls) (item_is ls i l within is) ∙ append_assoc (take i ls) (l ∷ []) (drop (suc i) ls)
+item_ends nodes ls i l p plays.NoMemory within is led ends = tt
+
+-- a script from its cluster line on
+pub front_is : (ls : List NumberedLine) → IsScript ls → length ls ≤ 65536 → (nodes_in ls ≤ 5) × IsFront (nodes_in ls) (behind_first ls)
+front_is ls script few =
+    let f = front_of ls script few in
+    subst (λ (xs : List NumberedLine). (nodes_in xs ≤ 5) × IsFront (nodes_in xs) (behind_first xs)) (sym f.3) (f.4.1, f.5)
+
+pub plays_its_front : (ls : List NumberedLine) → IsScript ls → length ls ≤ 65536 → play_of ls ≡ played_all (first_player (nodes_in ls)) (behind_first ls)
+plays_its_front ls script few =
+    let f = front_of ls script few in
+    subst (λ (xs : List NumberedLine). play_of xs ≡ played_all (first_player (nodes_in xs)) (behind_first xs)) (sym f.3) refl
+
+-- the world behind a script
+pub ends_reached : (ls : List NumberedLine) (p : Player) → IsScript ls → length ls ≤ 65536 → played_all (first_player (nodes_in ls)) (behind_first ls) ≡ Ok p
+    → IsReached (nodes_in ls) p.world.nodes × IsReached (length p.world.nodes) p.world.nodes
+ends_reached ls p script few ok =
+    let front = (front_is ls script few).1 in
+    (script_reached (nodes_in ls) (behind_first ls) front p ok, (script_sound (nodes_in ls) (behind_first ls) front p ok).reached)
+
+-- a play that stopped, as the bytes' run
+pub stopped_play : (ls : List NumberedLine) (fault : PlayFault) → IsScript ls → length ls ≤ 65536
+    → Fails (limit_of fault) (played_all (first_player (nodes_in ls)) (behind_first ls)) → Fails (fault_of (stop_by fault)) (by_play (play_of ls))
+stopped_play ls (plays.Limit which count) script few ends = ap by_play (plays_its_front ls script few ∙ ends)
+stopped_play ls plays.NoMemory script few ends = tt

@@ -7,8 +7,11 @@ use Rattle.rp_script.specs.Reading.{Reading, unread, fed_all, finished}
 use Rattle.rp_script.specs.declared.faults.ScriptFault.{ScriptFault}
 use Rattle.rp_script.specs.declared.faults.ScriptStop.{ScriptStop}
 use Rattle.rp_script.specs.declared.faults.ScriptStop.TheVariants as inner
+use Rattle.rp_script.specs.declared.faults.ScriptFault.TheVariants as faults
 use Rattle.rp_top.specs.declared.stops.Stop.{Stop}
 use Rattle.rp_top.specs.declared.stops.Stop.TheVariants as stops
+use Rattle.rp_world.specs.declared.faults.PlayFault.{PlayFault}
+use Rattle.rp_world.specs.declared.faults.PlayFault.TheVariants as plays
 
 -- the same stop, of a source that had no fault
 abbrev pub stop_of : ScriptStop → Stop
@@ -20,6 +23,11 @@ abbrev pub fault_of : Stop → Option ScriptFault
 fault_of (stops.Judged fault) = Some fault
 fault_of stops.NoMemory = None
 fault_of stops.ReadFault = None
+
+-- the stop at which a play ended
+abbrev pub stop_by : PlayFault → Stop
+stop_by (plays.Limit which count) = stops.Judged (faults.Limit which count)
+stop_by plays.NoMemory = stops.NoMemory
 
 -- a result is what the bytes say, but for want of memory and a fault of the source
 abbrev pub Gives : {X : Type 0} → Result X Stop → Result X ScriptFault → Type 0

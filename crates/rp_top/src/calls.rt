@@ -65,7 +65,7 @@ fn put_fault<K: Sink>(alloc: Global, sink: &mut K, fault: ScriptFault) -> Status
 
 /// Writes what a world shows that has played a script to its end.
 fn put_report<K: Sink>(alloc: Global, sink: &mut K, world: World, form: Form) -> Status
-    requires { (nodes : ℕ) × IsReached nodes world.world.nodes }
+    requires { IsReached (length world.world.nodes) world.world.nodes }
     ensures answers { Answers result form (Ok world) (K.held sink.old) (K.held sink.new) }
     ensures faults { K.faults sink.old ≤ K.faults sink.new }
     ensures cause { result ≡ Status.WriteFault → Rose (K.faults sink.old) (K.faults sink.new) }

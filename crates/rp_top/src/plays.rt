@@ -6,7 +6,7 @@ ghost use Rattle.rp_lines.specs.Players.{first_player};
 ghost use Rattle.rp_lines.specs.Scripts.{played_all};
 ghost use Rattle.rp_script.specs.Bounds.{IsScript};
 ghost use Rattle.rp_top.specs.Answers.{IsOutput, written};
-ghost use Rattle.rp_top.specs.Gives.{Gives};
+ghost use Rattle.rp_top.specs.Gives.{Gives, stop_by};
 ghost use Rattle.rp_top.specs.Scripts.{behind_first, by_play, nodes_in, play_of};
 ghost use Rattle.rp_report.specs.Shown.{IsShownView};
 ghost use Rattle.rp_world.specs.Plays.{Does};
@@ -50,13 +50,18 @@ fn play_all(world: &mut World, nodes: u8, lines: &[NumberedLine]) -> Result<(), 
     ensures { Does result world.new (played_all (first_player nodes) lines.now) }
 {
     for line in lines {
-        world.play(line.number, &line.line)?;
+        match world.play(line.number, &line.line) {
+            Ok(()) => {}
+            Err(fault) => return Err(fault),
+        }
     }
     Ok(())
 }
 
 /// Why a play stopped.
 fn stop_of_play(fault: PlayFault) -> Stop
+    ensures stop { result ≡ stop_by fault }
+    ensures calm { result ≢ Stop.ReadFault }
 {
     match fault {
         PlayFault::Limit { which, count } => Stop::Judged {
@@ -72,6 +77,7 @@ pub fn play_script(alloc: Global, lines: &[NumberedLine]) -> Result<World, Stop>
     requires is_script { IsScript lines.now }
     ensures played { Gives result (by_play (play_of lines.now)) }
     ensures reached { IfOk result (λ w. IsReached (nodes_in lines.now) w.world.nodes) }
+    ensures size { IfOk result (λ w. IsReached (length w.world.nodes) w.world.nodes) }
     ensures calm { result ≢ Err Stop.ReadFault }
 {
     let nodes = nodes_named(lines);
@@ -94,4 +100,15 @@ fn written(alloc: Global, view: &View, form: Form) -> Result<Text, NoMemory>
         Form::Summary => write_summary(view, &mut text)?,
     }
     Ok(text)
+}
+
+/// What a world shows, in a form.
+pub fn shown(alloc: Global, world: World, form: Form) -> Result<Text, NoMemory>
+    requires { IsReached (length world.world.nodes) world.world.nodes }
+    ensures { IfOk result (IsOutput form (Ok world)) }
+{
+    let replies = world.replies()?;
+    let (nodes, notes) = world.into_parts();
+    let view = view(alloc, nodes.as_slice(), replies, notes)?;
+    written(alloc, &view, form)
 }
