@@ -6,7 +6,7 @@ use Rattle.rp_events.specs.declared.answers.EventAnswer.{EventAnswer}
 use Rattle.rp_events.specs.declared.node_events.Event.TheVariants as events
 use Rattle.rp_events.specs.declared.journals.PastEvent.TheVariants as past
 use Rattle.rp_events.specs.declared.replica_events.ReplicaEvent.TheVariants as at_replica
-use Rattle.rp_events.specs.Nodes.{Node, NodeDone, Status, Absent, Live, Removed, seat, written}
+use Rattle.rp_events.specs.Nodes.{Node, NodeDone, Status, Live, seat, written}
 use Rattle.rp_events.specs.NodeEvents.{by_status, by_replica}
 use Rattle.rp_node.specs.declared.cores.Core.{Core}
 use Rattle.rp_node.specs.declared.logs.Logs.{Logs}
@@ -15,7 +15,7 @@ use Rattle.rp_node.specs.declared.seats.Seat.TheVariants as seats
 use Rattle.rp_node.specs.Asked.{Filled}
 use Rattle.rp_node.specs.Cores.{status_of, seat_in, node_of}
 use Rattle.rp_node.specs.Plans.{SeatReady, turned, answered}
-use Rattle.rp_node.specs.Steps.{Held, Collected, Steps}
+use Rattle.rp_node.specs.Steps.{Collected, Steps}
 use Rattle.rp_node.proofs.Stepping.{seat_at}
 use Rattle.rp_node.proofs.Turning.{written_node}
 

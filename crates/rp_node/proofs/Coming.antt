@@ -1,5 +1,5 @@
 -- A message at a node is the definition's.
-use Rattle.std.proofs.Common.{◌≡◌, ◌<◌, ℕ, Bool, true, false, List, ◌∷◌, [], ◌++◌, length, get_or, slice_set, Option, None, Some, refl, sym, ap, subst, ◌∙◌}
+use Rattle.std.proofs.Common.{◌≡◌, ◌<◌, ℕ, Bool, true, false, ◌++◌, length, get_or, slice_set, Option, refl, sym, ap, subst, ◌∙◌}
 use Rattle.std.specs.Option.{option_to_list}
 use Rattle.rp_request.specs.Applied.{AppliedState}
 use Rattle.rp_raftstep.specs.declared.messages.Message.{Message}
