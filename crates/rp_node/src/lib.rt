@@ -8,7 +8,6 @@ mod nodes;
 mod rounds;
 mod seats;
 mod steps;
-mod stub;
 mod worlds;
 
 pub use logs::{Journal, Outcomes, Requests, Sent};
