@@ -213,11 +213,11 @@ ids_inserted id a (e ∷ es) = by (cmd_cmp id e.0) (ids_inserted id a es)
     by Equal ih = refl
     by Greater ih = ap (λ ids. e.0 ∷ ids) ih
 
-ids_sorted : {A : Type 0} (done es : List (CmdId × A)) → keys_of (fold (λ sorted e. insert_entry cmd_cmp sorted e.0 e.1) done es) ≡ fold (insert_key cmd_cmp) (keys_of done) (keys_of es)
+pub ids_sorted : {A : Type 0} (done es : List (CmdId × A)) → keys_of (fold (λ sorted e. insert_entry cmd_cmp sorted e.0 e.1) done es) ≡ fold (insert_key cmd_cmp) (keys_of done) (keys_of es)
 ids_sorted done [] = refl
 ids_sorted done (e ∷ es) = ids_sorted (insert_entry cmd_cmp done e.0 e.1) es ∙ ap (λ ids. fold (insert_key cmd_cmp) ids (keys_of es)) (ids_inserted e.0 e.1 done)
 
-keys_of_bookings : (es : Keeps) → keys_of (bookings es) ≡ keys_of es
+pub keys_of_bookings : (es : Keeps) → keys_of (bookings es) ≡ keys_of es
 keys_of_bookings [] = refl
 keys_of_bookings (e ∷ es) = ap (λ ids. e.0 ∷ ids) (keys_of_bookings es)
 

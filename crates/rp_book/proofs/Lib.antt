@@ -2,3 +2,4 @@ pub mod Entries
 pub mod Firsts
 pub mod Fronts
 pub mod Latest
+pub mod Sorted

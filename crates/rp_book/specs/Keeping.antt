@@ -1,5 +1,5 @@
 -- How the book keeps attempts, and finds the latest one of a command.
-use Rattle.std.specs.Prelude.{◌≡◌, ℕ, Bool, ◌&&◌, ◌==◌, List, [], map, filter, fold, Option}
+use Rattle.std.specs.Prelude.{◌≡◌, ℕ, Bool, ◌&&◌, ◌==◌, List, [], ◌∷◌, ◌++◌, map, filter, fold, Option}
 use Rattle.std.specs.BTreeSet.{insert_key}
 use Rattle.std.specs.List.{IsDistinct}
 use Rattle.std.specs.Map.{lookup}
@@ -15,7 +15,7 @@ use Rattle.rp_request.specs.declared.notes.ReplyLine.{ReplyLine}
 use Rattle.rp_request.specs.declared.outcomes.End.TheVariants as ends
 use Rattle.rp_request.specs.declared.outcomes.Outcome.{Outcome}
 use Rattle.rp_request.specs.declared.outcomes.Outcome.TheVariants.{Pending}
-use Rattle.rp_book.specs.Books.{Book, Told, last_of}
+use Rattle.rp_book.specs.Books.{Book, Told, booking_of, last_of}
 
 -- the booking of an attempt that is kept, and what was told of its outcome
 abbrev pub booking_in : Kept → Booked
@@ -69,3 +69,11 @@ line_of id told = record {
   attempt = id.attempt;
   end = ends.Outcome (option_map_or (λ outcome. outcome) told Pending);
 }
+
+-- what a book has of this attempt, as an entry
+abbrev pub entry_of : CmdId → Book → Book
+entry_of id book = option_map_or (λ b. (id, b) ∷ []) (booking_of id book) []
+
+abbrev pub entries_of : Book → List CmdId → Book
+entries_of book [] = []
+entries_of book (id ∷ ids) = entry_of id book ++ entries_of book ids

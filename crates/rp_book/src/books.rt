@@ -131,6 +131,14 @@ impl Book {
         stores::tell(&mut self.kept, id, outcome);
     }
 
+    /// All attempts, by client, command and attempt.
+    pub fn by_attempt(&self) -> Result<Seq<(CmdId, Booked)>, NoMemory>
+        ensures { IfOk result (λ list. list ≡ by_attempt self.now.entries) }
+    {
+        let list = stores::by_attempt(&self.kept)?;
+        Ok(Seq::from_vec(list))
+    }
+
     /// The reply lines of all attempts, by client, command and attempt, as was told.
     pub fn replies(&self) -> Result<Replies, NoMemory>
         ensures { IfOk result (λ r. r ≡ map (reply_of self.now.told) (by_attempt self.now.entries)) }

@@ -11,8 +11,8 @@ ghost use Rattle.rp_request.specs.declared.outcomes.Outcome.TheVariants.{Pending
 ghost use Rattle.rp_book.specs.declared.bookings.Booked.{Booked};
 ghost use Rattle.rp_book.specs.declared.keeps.Kept.{Kept};
 ghost use Rattle.rp_book.specs.declared.keeps.Kept.TheVariants.{Attempt};
-ghost use Rattle.rp_book.specs.Books.{booked, booking_of, told_of};
-ghost use Rattle.rp_book.specs.Keeping.{bookings, in_order, is_command, line_of, outcomes, with_draw, with_outcome};
+ghost use Rattle.rp_book.specs.Books.{booked, booking_of, by_attempt, told_of};
+ghost use Rattle.rp_book.specs.Keeping.{bookings, entries_of, entry_of, in_order, is_command, line_of, outcomes, with_draw, with_outcome};
 
 use crate::bookings::{Booked, Draw};
 use crate::keeps::{Command, Kept};
@@ -247,4 +247,43 @@ pub(crate) fn lines(store: &Store) -> Result<Vec<ReplyLine>, NoMemory>
     let mut lines = Vec::new(*store.allocator());
     push_lines(&mut lines, store, &mut ids)?;
     Ok(lines)
+}
+
+/// Puts an attempt that is kept behind the others.
+fn push_entry(list: &mut Vec<(CmdId, Booked)>, store: &Store, id: CmdId) -> Result<(), NoMemory>
+    ensures { OnOk result (list.new.items ≡ list.old.items ++ entry_of id (bookings store.now.entries)) }
+{
+    match with_booking(store, id) {
+        None => Ok(()),
+        Some(entry) => {
+            list.extend_from_slice(std::slice::from_ref(&entry))?;
+            Ok(())
+        }
+    }
+}
+
+/// Puts these attempts behind the others.
+fn push_entries(
+    list: &mut Vec<(CmdId, Booked)>,
+    store: &Store,
+    ids: &mut BTreeSet<CmdId>,
+) -> Result<(), NoMemory>
+    ensures { OnOk result (list.new.items
+        ≡ list.old.items ++ entries_of (bookings store.now.entries) ids.old.keys) }
+{
+    while let Some(id) = ids.pop_first() {
+        push_entry(list, store, id)?;
+    }
+    Ok(())
+}
+
+/// All attempts, by client, command and attempt.
+pub(crate) fn by_attempt(store: &Store) -> Result<Vec<(CmdId, Booked)>, NoMemory>
+    requires { IsDistinct same_id (keys_of store.now.entries) }
+    ensures { IfOk result (λ list. list.items ≡ by_attempt (bookings store.now.entries)) }
+{
+    let mut ids = sorted_ids(store)?;
+    let mut list = Vec::new(*store.allocator());
+    push_entries(&mut list, store, &mut ids)?;
+    Ok(list)
 }

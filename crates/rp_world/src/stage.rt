@@ -1,14 +1,15 @@
 //! The nodes with their buffers, and what all their messages weigh.
-ghost use Rattle.std.specs.Prelude.{◌≡◌, ◌≤◌, [], ◌∷◌, ◌++◌, IfOk, OnOk, OnErr};
+ghost use Rattle.std.specs.Prelude.{◌≡◌, ◌≤◌, false, [], ◌∷◌, ◌++◌, length, IfOk, OnOk, OnErr};
+ghost use Rattle.rp_script.specs.Bounds.{IsNode};
 ghost use Rattle.rp_bufcore.specs.Buffers.{buffer_of, draw_answer, publish_answer};
 ghost use Rattle.rp_events.specs.Buffered.{buffered_step, buffers_at, first_buffered};
 ghost use Rattle.rp_events.specs.declared.world_events.WorldEvent.TheVariants as events;
 ghost use Rattle.rp_lines.specs.Players.{weight};
 ghost use Rattle.rp_lawful.specs.Comings.{Comes, node_in};
-ghost use Rattle.rp_world.specs.Comes.{HasNode, answer_in, buffered_of, ended_by, first_held, is_peek, is_value};
+ghost use Rattle.rp_world.specs.Comes.{answer_in, buffered_of, ended_by, first_held, is_peek, is_value};
 ghost use Rattle.rp_world.specs.Weighing.{capped};
 
-use crate::scenes::{happen, node_of, sent_by};
+use crate::scenes::{behind, happen, node_of, sent_by};
 use crate::weights::sent_weight;
 use rp_base::{Item, NoMemory, NodeId, RangeId};
 use rp_bufcore::{Full, NotDrawn, PlainEnd};
@@ -127,7 +128,7 @@ impl Stage {
         let node = node_of(event);
         let before = sent_by(&self.nodes, node).len();
         let answer = happen(self.alloc, &mut self.nodes, event)?;
-        let more = sent_weight(&sent_by(&self.nodes, node)[before..]);
+        let more = sent_weight(behind(sent_by(&self.nodes, node), before));
         self.weight = self.weight.saturating_add(more);
         Ok(answer)
     }
@@ -135,7 +136,7 @@ impl Stage {
     /// Draws the next place in the buffer of a node and a range. `Full` exactly where that buffer is
     /// closed or all of its places are drawn.
     pub(crate) fn draw(&mut self, node: NodeId, range: RangeId) -> Result<u8, Full>
-        requires { HasNode self.old.nodes node }
+        requires { IsNode (length self.old.nodes) node }
         ensures answer { result ≡ draw_answer (buffer_of (buffers_at self.old node) range) }
         ensures stage { self.new ≡ buffered_step self.old (events.Draw node range) }
     {
@@ -151,7 +152,7 @@ impl Stage {
         place: u8,
         item: Item,
     ) -> Result<(), NotDrawn>
-        requires { HasNode self.old.nodes node }
+        requires { IsNode (length self.old.nodes) node }
         ensures answer { result
             ≡ publish_answer (buffer_of (buffers_at self.old node) range) place }
         ensures stage { self.new ≡ buffered_step self.old (events.Publish node range place item) }
