@@ -9,6 +9,7 @@ mod random;
 mod replica;
 mod report;
 mod script;
+mod storms;
 mod world;
 
 use std::io::{Read, Write};
@@ -49,6 +50,11 @@ fn main() -> ExitCode {
         ["random", number, nodes, lines] => match (number.parse(), nodes.parse(), lines.parse()) {
             (Ok(number), Ok(nodes @ 1..=5), Ok(lines)) => (0, random::script(number, nodes, lines)),
             _ => (2, "usage\n".to_string()),
+        },
+        ["storms"] => (0, storms::KINDS.map(|kind| format!("{kind}\n")).concat()),
+        ["storm", kind, number] => match number.parse().ok().and_then(|number| storms::script(kind, number)) {
+            Some(text) => (0, text),
+            None => (2, "usage\n".to_string()),
         },
         ["cost", nodes, ranges, commands, loss] => {
             let numbers = (nodes.parse(), ranges.parse(), commands.parse(), loss.parse());

@@ -34,6 +34,8 @@ mod request;
 #[cfg(test)]
 mod samples;
 #[cfg(test)]
+mod slotted;
+#[cfg(test)]
 mod snapshot;
 #[cfg(test)]
 mod split;

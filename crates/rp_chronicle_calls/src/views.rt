@@ -6,19 +6,19 @@ ghost use Rattle.rp_events.specs.Lawful.{IsReached};
 use rp_base::{NoMemory, NodeId, RangeId, Seq};
 use rp_bufcore::PlainEnd;
 use rp_chronicle::{assemble, view};
-use rp_node::Node;
+use rp_node::{Node, Nodes};
 use rp_report::{RangeView, ReplicaView, View};
 use std::alloc::Global;
 use std::test::Fail;
 
 /// Two nodes as they start.
-fn two_nodes(alloc: Global) -> Result<Vec<Node<PlainEnd>>, NoMemory>
-    ensures { IfOk result (λ nodes. IsReached (length nodes.items) (world_of nodes.items)) }
+fn two_nodes(alloc: Global) -> Result<Nodes<PlainEnd>, NoMemory>
+    ensures { IfOk result (λ nodes. IsReached (length nodes) (world_of nodes)) }
 {
     let first = Node::start(alloc, NodeId::new(1).unwrap(), 2, PlainEnd::new());
     let second = Node::start(alloc, NodeId::new(2).unwrap(), 2, PlainEnd::new());
     let nodes = Vec::from_array(alloc, [first, second])?;
-    Ok(nodes)
+    Ok(Nodes::from_vec(nodes))
 }
 
 /// Whether a replica stands where the first range starts, without rows.

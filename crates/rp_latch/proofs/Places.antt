@@ -12,7 +12,7 @@ use Rattle.rp_latch.specs.declared.index.Latch.{Latch}
 use Rattle.rp_latch.specs.Indexes.{EndsBefore, InOrder, latch_meets, some_meet, is_latch, lesser, IsOldest}
 use Rattle.rp_latch.proofs.Elements.{left_true, right_true, both_true, none_at, same_read, any_less, any_more, any_same, any_or, pairs_insert}
 
--- neither starts nor ends fall
+-- starts do not fall
 module _ (ls : List Latch) (h : InOrder ls) where
   pub starts_rise : IsNonDecreasingBy (λ l. l.span.start) ls
   starts_rise i j d l b = go (nat_lt i j) refl where
@@ -20,11 +20,20 @@ module _ (ls : List Latch) (h : InOrder ls) where
     go true e = let lt : i < j = grind (arith, nat_tests) in let far = h i j d lt b in let o = (get_or ls i d).span.ordered in omega arith
     go false e = let same : i ≡ j = grind (arith, nat_tests) in rw same (omega arith)
 
-  pub ends_rise : IsNonDecreasingBy (λ l. l.span.end) ls
-  ends_rise i j d l b = go (nat_lt i j) refl where
-    go : (t : Bool) → nat_lt i j ≡ t → (get_or ls i d).span.end ≤ (get_or ls j d).span.end
-    go true e = let lt : i < j = grind (arith, nat_tests) in let far = h i j d lt b in let o = (get_or ls j d).span.ordered in omega arith
-    go false e = let same : i ≡ j = grind (arith, nat_tests) in rw same (omega arith)
+-- what one latch says of those before it, or of those behind it
+module _ (ls : List Latch) (h : InOrder ls) (bound m : ℕ) (x : Latch) (l : m < length ls) (is : x ≡ get_or ls m x) where
+  read : (d : Latch) → get_or ls m d ≡ x
+  read d = same_read ls m d x l ∙ sym is
+
+  pub start_below_to : x.span.start < bound → AllWithin (λ y. y.span.start < bound) ls 0 (m + 1)
+  start_below_to low k d a b =
+      let up = starts_rise ls h k m d (omega arith) l in
+      let same = ap (λ (y : Latch). y.span.start) (read d) in omega arith
+
+  pub start_above_from : bound ≤ x.span.start → AllWithin (λ y. bound ≤ y.span.start) ls m (length ls)
+  start_above_from high k d a b =
+      let up = starts_rise ls h m k d a b in
+      let same = ap (λ (y : Latch). y.span.start) (read d) in omega arith
 
 apart_by : (s t : Span) → s.end ≤ t.start → meets s t ≡ false
 apart_by s t l = grind (arith, nat_tests)

@@ -2,11 +2,11 @@
 ghost use Rattle.std.specs.Prelude.{◌≡◌, ◌≤◌, ◌<◌, ◌+◌, cond, Bool, [], IsTrue, IsFalse, OnOk, length};
 ghost use Rattle.std.specs.List.{AllWithin, list_any, count_by};
 ghost use Rattle.rp_latch.specs.declared.index.Latch.{Latch};
-ghost use Rattle.rp_latch.specs.Indexes.{some_meet, latch_meets, is_latch, lesser, IsOldest};
+ghost use Rattle.rp_latch.specs.Indexes.{InOrder, some_meet, latch_meets, is_latch, lesser, IsOldest};
 
 use rp_base::{NoMemory, Span};
+use rp_slots::Slotted;
 use std::alloc::Global;
-use std::collections::VecDeque;
 use std::marker::Model;
 
 /// A span that is held, and the number of its hold.
@@ -20,24 +20,19 @@ pub struct Latch {
 /// it the spare room.
 #[derive(Drop)]
 pub struct Index {
-    latches: VecDeque<Latch, Global>,
+    latches: Slotted<Latch>,
 }
 
 impl Model for Index {
-    ghost use Rattle.std.specs.Prelude.{◌-◌};
-    ghost use Rattle.std.specs.VecDeque.{deque_len, deque_capacity};
     ghost use Rattle.rp_base.specs.Kept.{Kept};
     ghost use Rattle.rp_latch.specs.declared.index.Latch.{Latch};
     ghost use Rattle.rp_latch.specs.Indexes.{InOrder};
 
     ghost Value = { Kept Latch };
 
-    ghost view = { λ l. record {
-      list = l.latches.items;
-      spare = deque_capacity l.latches - deque_len l.latches;
-    } };
+    ghost view = { λ l. l.latches };
 
-    ghost invariant = { λ l. InOrder l.latches.items };
+    ghost invariant = { λ l. InOrder l.latches.list };
 }
 
 /// Of two numbers, each of which may be missing, the lesser.
@@ -53,12 +48,33 @@ pub fn lesser(first: Option<u64>, second: Option<u64>) -> Option<u64>
     }
 }
 
+/// How many latches start below the bound, by binary search.
+fn place_of(latches: &Slotted<Latch>, bound: u128) -> usize
+    requires { InOrder latches.now.list }
+    ensures within { result ≤ length latches.now.list }
+    ensures before { AllWithin (λ l. l.span.start < bound) latches.now.list 0 result }
+    ensures after { AllWithin
+        (λ l. bound ≤ l.span.start) latches.now.list result (length latches.now.list) }
+{
+    let mut low = 0;
+    let mut high = latches.len();
+    while low < high {
+        let middle = low + (high - low) / 2;
+        if latches.at(middle).span.start < bound {
+            low = middle + 1;
+        } else {
+            high = middle;
+        }
+    }
+    low
+}
+
 impl Index {
     pub fn new(alloc: Global) -> Index
         ensures { result.list ≡ [] }
     {
         Index {
-            latches: VecDeque::new(alloc),
+            latches: Slotted::new(alloc),
         }
     }
 
@@ -68,30 +84,35 @@ impl Index {
         ensures room { OnOk result (n ≤ self.new.spare) }
         ensures kept { self.old.spare ≤ self.new.spare }
     {
-        self.latches.reserve(n)?;
-        Ok(())
+        self.latches.make_room(n)
     }
 
-    /// How many latches start below the bound, by binary search.
+    /// How many latches start below the bound.
     fn starts_below(&self, bound: u128) -> usize
         ensures within { result ≤ length self.now.list }
         ensures before { AllWithin (λ l. l.span.start < bound) self.now.list 0 result }
         ensures after { AllWithin
             (λ l. bound ≤ l.span.start) self.now.list result (length self.now.list) }
     {
-        self.latches
-            .partition_point(|latch| latch.span.start < bound)
+        place_of(&self.latches, bound)
     }
 
-    /// How many latches end at the bound or below, by binary search.
+    /// How many latches end at the bound or below: all that start below it, or all but the last of
+    /// those.
     fn ends_by(&self, bound: u128) -> usize
         ensures within { result ≤ length self.now.list }
         ensures before { AllWithin (λ l. l.span.end ≤ bound) self.now.list 0 result }
         ensures after { AllWithin
             (λ l. bound < l.span.end) self.now.list result (length self.now.list) }
     {
-        self.latches
-            .partition_point(|latch| latch.span.end <= bound)
+        let at = self.starts_below(bound);
+        if at == 0 {
+            return 0;
+        }
+        if bound < self.latches.at(at - 1).span.end {
+            return at - 1;
+        }
+        at
     }
 
     /// The least number of the latches that meet the span. Those stand side by side, and no others
@@ -103,7 +124,7 @@ impl Index {
         let to = self.starts_below(span.end);
         let mut oldest = None;
         for at in from..to {
-            oldest = lesser(oldest, Some(self.latches[at].number));
+            oldest = lesser(oldest, Some(self.latches.at(at).number));
         }
         oldest
     }
@@ -117,7 +138,7 @@ impl Index {
         ensures spare { self.old.spare ≤ self.new.spare + 1 }
     {
         let at = self.starts_below(latch.span.end);
-        self.latches.insert(at, latch).unwrap();
+        self.latches.insert(at, latch);
     }
 
     /// Takes a latch out.
@@ -128,7 +149,7 @@ impl Index {
         ensures spare { self.old.spare ≤ self.new.spare }
     {
         let at = self.starts_below(latch.span.start);
-        self.latches.remove(at).unwrap();
+        self.latches.remove(at);
     }
 
     /// Takes all latches out.
@@ -136,6 +157,6 @@ impl Index {
         ensures list { self.new.list ≡ [] }
         ensures spare { self.old.spare ≤ self.new.spare }
     {
-        self.latches.clear();
+        self.latches.truncate(0);
     }
 }

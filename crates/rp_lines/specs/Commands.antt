@@ -13,7 +13,11 @@ use Rattle.rp_events.specs.Nodes.{Status, Absent, Live, Removed, seat}
 use Rattle.rp_events.specs.Worlds.{World, node_of}
 use Rattle.rp_events.specs.Lawful.{was_refused}
 use Rattle.rp_events.specs.Buffered.{buffers_at}
-use Rattle.rp_lines.specs.Players.{Draw, Undrawn, Drawn, Published, Booked, Player, Played, and_then, did, last_answer, noted, booked, booking_of, next_command, counted}
+use Rattle.rp_book.specs.declared.bookings.Booked.{Booked}
+use Rattle.rp_book.specs.declared.bookings.Draw.{Draw}
+use Rattle.rp_book.specs.declared.bookings.Draw.TheVariants.{Undrawn, Drawn, Published}
+use Rattle.rp_book.specs.Books.{booking_of}
+use Rattle.rp_lines.specs.Players.{Player, Played, and_then, did, last_answer, noted, with_booking, next_command, counted}
 use Rattle.rp_report.specs.Notes.{full_text, not_refused_text, nothing_text}
 
 -- the buffer of a node and a range
@@ -22,7 +26,7 @@ buffer_at p node range = buffer_of (buffers_at p.world node) range
 
 -- the attempt's place in the book becomes this
 abbrev pub with_draw : CmdId → Booked → Draw → Player → Player
-with_draw id b draw p = booked id (record b { draw = draw }) p
+with_draw id b draw p = with_booking id (record b { draw = draw }) p
 
 -- an item is published at the place that was drawn
 abbrev pub publishes : CmdId → Booked → (place : ℕ) → Player → Played
@@ -49,11 +53,11 @@ publishes_booked id (Some b) p = publishes_drawn id b b.draw p
 -- an attempt draws a place and is published there
 abbrev pub draws_and_publishes : (line : ℕ) → CmdId → Booked → Player → Played
 draws_and_publishes line id b p =
-    and_then (draws line id b p) (λ q. publishes_booked id (booking_of q id) q)
+    and_then (draws line id b p) (λ q. publishes_booked id (booking_of id q.book) q)
 
 -- an attempt asks to be admitted, and stands in the book
 abbrev pub asks : CmdId → Booked → Player → Played
-asks id b p = did (events.Admit b.node b.range id b.request) (booked id b p)
+asks id b p = did (events.Admit b.node b.range id b.request) (with_booking id b p)
 
 -- an admitted attempt goes on to the buffer
 abbrev pub goes_on : (line : ℕ) → CmdId → Booked → EventAnswer → Player → Played

@@ -1,13 +1,9 @@
 -- A world that plays the lines of a script: the nodes with their buffers, the book of what clients sent,
 -- and what lines have told (this project).
-use Rattle.std.specs.Prelude.{ℕ, ◌+◌, ◌-◌, ◌/◌, ◌&&◌, nat_lt, ◌==◌, slice_get, if◌then◌else◌, List, [], ◌∷◌, ◌++◌, length, replicate, sum_by, Option, Result, Ok, Err}
+use Rattle.std.specs.Prelude.{ℕ, ◌+◌, ◌-◌, ◌/◌, ◌^◌, min, nat_lt, ◌==◌, if◌then◌else◌, List, [], ◌∷◌, ◌++◌, length, replicate, sum_by, Result, Ok, Err}
 use Rattle.std.specs.Option.{option_map_or}
-use Rattle.std.specs.BTreeMap.{insert_entry, is_at}
 use Rattle.std.specs.FinMap.{entries}
-use Rattle.std.specs.Map.{lookup}
-use Rattle.std.specs.List.{filter}
 use Rattle.rp_base.specs.ClientCounts.{no_counts, count_of, one_more_of}
-use Rattle.rp_base.specs.Ids.{cmd_cmp}
 use Rattle.rp_base.specs.declared.ids.CmdId.{CmdId}
 use Rattle.rp_base.specs.declared.limits.Which.{Which}
 use Rattle.rp_base.specs.declared.limits.Which.TheVariants.{Events, Weight}
@@ -23,44 +19,22 @@ use Rattle.rp_events.specs.declared.parcels.Parcel.{Parcel}
 use Rattle.rp_events.specs.declared.world_events.WorldEvent.{WorldEvent}
 use Rattle.rp_events.specs.Worlds.{World, node_of}
 use Rattle.rp_events.specs.Buffered.{Buffered, first_buffered, buffered_step}
-
--- the last of a list
-abbrev pub last_of : {A : Type 0} → List A → Option A
-last_of xs = slice_get xs (length xs - 1)
-
--- how far an attempt has come in its buffer
-pub data Draw : Type 0 where
-  -- it had no place
-  Undrawn : Draw
-  -- it has drawn this place, and nothing is published there
-  Drawn : (place : ℕ) → Draw
-  -- its item stands, or stood, at a place
-  Published : Draw
-
--- an attempt as the book has it: its request, where it asked to be admitted, and its place in the buffer
-pub record Booked : Type 0 where
-  pub request : Request
-  pub node : ℕ
-  pub range : ℕ
-  pub draw : Draw
-
--- the attempts that clients made, by client, command and attempt
-abbrev pub Book : Type 0
-Book = List (CmdId × Booked)
+use Rattle.rp_book.specs.declared.bookings.Booked.{Booked}
+use Rattle.rp_book.specs.Books.{Book, booked, last_of}
+use Rattle.rp_book.specs.Handling.{Handling}
 
 -- how many of a hundred messages are lost in a settling, and by which salt
 pub record Loss : Type 0 where
   pub percent : ℕ
   pub salt : ℕ
 
--- the nodes and buffers; how many commands each client has sent; the book; of each sender the numbers of
--- the messages that were handled; the loss of settlings to come; what lines have told; and how many
--- events there were
+-- the nodes and buffers; how many commands each client has sent; the book; of each sender which messages
+-- were handled; the loss of settlings to come; what lines have told; and how many events there were
 pub record Player : Type 0 where
   pub world : Buffered
   pub sent : List ℕ
   pub book : Book
-  pub handled : List (List ℕ)
+  pub handled : List Handling
   pub loss : Loss
   pub notes : List Note
   pub events : ℕ
@@ -77,7 +51,7 @@ first_player nodes = record {
   events = 0;
 }
 
--- which limit was met, and what was counted
+-- which limit was met, and what was counted, as far as 64 bits count
 pub record Limit : Type 0 where
   pub which : Which
   pub count : ℕ
@@ -118,11 +92,15 @@ most_events = 4194304
 abbrev pub most_weight : ℕ
 most_weight = 2097152
 
+-- the greatest count that is told
+abbrev pub most_count : ℕ
+most_count = 2 ^ 64 - 1
+
 -- after an event the weight is judged
 abbrev pub weighed : Player → Played
 weighed p =
     if nat_lt most_weight (weight p.world.nodes)
-    then Err (record { which = Weight; count = weight p.world.nodes })
+    then Err (record { which = Weight; count = min (weight p.world.nodes) most_count })
     else Ok p
 
 -- an event of the world
@@ -144,15 +122,8 @@ noted line text p =
     record p { notes = p.notes ++ record { line = line; text = text } ∷ [] }
 
 -- the book has this of an attempt from now on
-abbrev pub booked : CmdId → Booked → Player → Player
-booked id b p = record p { book = insert_entry cmd_cmp p.book id b }
-
-abbrev pub booking_of : Player → CmdId → Option Booked
-booking_of p id = lookup (is_at (cmd_cmp id)) p.book
-
--- the last attempt that the book has of a command
-abbrev pub latest_of : (client seq : ℕ) → Book → Option (CmdId × Booked)
-latest_of client seq book = last_of (filter (λ e. e.0.client == client && e.0.seq == seq) book)
+abbrev pub with_booking : CmdId → Booked → Player → Player
+with_booking id b p = record p { book = booked id b p.book }
 
 -- the first attempt of a client's next command; and the client has sent one more
 abbrev pub next_command : Player → (client : ℕ) → CmdId

@@ -15,7 +15,8 @@ use Rattle.rp_events.specs.declared.world_events.WorldEvent.TheVariants as event
 use Rattle.rp_events.specs.Nodes.{parcel_of}
 use Rattle.rp_events.specs.Worlds.{sent_by}
 use Rattle.rp_events.specs.Buffered.{has_live}
-use Rattle.rp_lines.specs.Players.{Player, Played, and_then, did, last_answer, noted, latest_of}
+use Rattle.rp_book.specs.Books.{latest_of}
+use Rattle.rp_lines.specs.Players.{Player, Played, and_then, did, last_answer, noted}
 use Rattle.rp_lines.specs.Commands.{buffer_at, sends, admits, tries_again, draws_latest, publishes_latest}
 use Rattle.rp_lines.specs.Settling.{delivers, ticks, settles}
 use Rattle.rp_report.specs.Notes.{full_text, absent_text, nothing_text, not_holder_text, held_text, peek_text}

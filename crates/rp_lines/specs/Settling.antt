@@ -1,7 +1,6 @@
 -- Lines that move the world on: deliver, tick, settle (this project's script).
-use Rattle.std.specs.Prelude.{ℕ, zero, suc, ◌+◌, ◌-◌, Bool, false, ◌&&◌, ◌==◌, if◌then◌else◌, List, [], ◌∷◌, length, slice_index_or, slice_set, Option, None, Some, Ok}
+use Rattle.std.specs.Prelude.{ℕ, zero, suc, ◌+◌, ◌-◌, Bool, false, ◌&&◌, if◌then◌else◌, List, [], ◌∷◌, length, slice_index_or, slice_set, Option, None, Some, Ok}
 use Rattle.std.specs.Option.{option_map_or}
-use Rattle.std.specs.List.{list_any}
 use Rattle.rp_base.specs.Ids.{same_id}
 use Rattle.rp_base.specs.declared.ids.CmdId.{CmdId}
 use Rattle.rp_bufcore.specs.Buffers.{can_draw}
@@ -13,21 +12,23 @@ use Rattle.rp_events.specs.declared.world_events.WorldEvent.TheVariants as event
 use Rattle.rp_events.specs.Nodes.{Status, Absent, Live, Removed, seat, parcel_of, range_numbers}
 use Rattle.rp_events.specs.Worlds.{node_of, sent_by}
 use Rattle.rp_events.specs.Buffered.{has_live}
-use Rattle.rp_lines.specs.Players.{Draw, Undrawn, Drawn, Published, Booked, Player, Played, and_then, did, noted, latest_of}
+use Rattle.rp_book.specs.declared.bookings.Booked.{Booked}
+use Rattle.rp_book.specs.declared.bookings.Draw.{Draw}
+use Rattle.rp_book.specs.declared.bookings.Draw.TheVariants.{Undrawn, Drawn, Published}
+use Rattle.rp_book.specs.Books.{latest_of, by_attempt}
+use Rattle.rp_book.specs.Handling.{Handling, handled, first_unhandled}
+use Rattle.rp_lines.specs.Players.{Player, Played, and_then, did, noted}
 use Rattle.rp_lines.specs.Commands.{buffer_at, publishes, draws_and_publishes, is_waiting}
 use Rattle.rp_report.specs.Notes.{nothing_text}
 
--- the numbers of a sender's messages that were handled
-abbrev pub handled_of : Player → (sender : ℕ) → List ℕ
-handled_of p sender = slice_index_or p.handled (sender - 1) []
-
-abbrev pub is_handled : Player → (sender number : ℕ) → Bool
-is_handled p sender number = list_any (λ n. n == number) (handled_of p sender)
+-- which of a sender's messages were handled
+abbrev pub handling_of : Player → (sender : ℕ) → Handling
+handling_of p sender = slice_index_or p.handled (sender - 1) []
 
 -- this message is handled from now on
 abbrev pub with_handled : (sender number : ℕ) → Player → Player
 with_handled sender number p =
-    record p { handled = slice_set p.handled (sender - 1) (number ∷ handled_of p sender) }
+    record p { handled = slice_set p.handled (sender - 1) (handled number (handling_of p sender)) }
 
 -- a message comes to its receiver
 abbrev pub comes : (sender number : ℕ) → Parcel AppliedState → Player → Played
@@ -70,7 +71,7 @@ puts id b Published p = Ok p
 
 -- first in a round: attempts by client, command and attempt go to their buffers
 abbrev pub puts_all : Player → Played
-puts_all p = for_each (λ e. puts e.0 e.1 e.1.draw) p.book p
+puts_all p = for_each (λ e. puts e.0 e.1 e.1.draw) (by_attempt p.book) p
 
 -- a live replica's buffer is collected and its inbox flushed
 abbrev pub flushes_live : (node range : ℕ) → Player → Played
@@ -100,12 +101,6 @@ abbrev pub passes_numbered : (sender number : ℕ) → Player → Played
 passes_numbered sender number p =
     passes sender number (parcel_of (sent_by p.world.nodes sender) number) p
 
--- the first number from this one on that was not handled, so many being left
-abbrev pub first_unhandled : Player → (sender left number : ℕ) → ℕ
-first_unhandled p sender zero number = number
-first_unhandled p sender (suc left) number =
-    if is_handled p sender number then first_unhandled p sender left (number + 1) else number
-
 -- so many numbers from this one on
 abbrev pub numbers_from : (number count : ℕ) → List ℕ
 numbers_from number zero = []
@@ -116,7 +111,7 @@ numbers_from number (suc count) = number ∷ numbers_from (number + 1) count
 abbrev pub unhandled_of : Player → (sender : ℕ) → List ℕ
 unhandled_of p sender =
     let end = length (sent_by p.world.nodes sender) in
-    let first = first_unhandled p sender end 1 in
+    let first = first_unhandled (handling_of p sender) in
     numbers_from first (end + 1 - first)
 
 abbrev pub passes_all : (sender : ℕ) → Player → Played

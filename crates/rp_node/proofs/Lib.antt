@@ -2,3 +2,8 @@ pub mod Seating
 pub mod Turning
 pub mod Stepping
 pub mod Waiting
+pub mod Collecting
+pub mod Coming
+pub mod Ticking
+pub mod Happening
+pub mod Choosing

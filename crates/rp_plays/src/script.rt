@@ -1,7 +1,7 @@
 //! Scripts that are read from bytes.
 use rp_base::{Seq, Which};
 use rp_script::{
-    Forms, LineKind, NumberedLine, ScriptFault, ScriptLine, ScriptReader, ScriptStop, read_lines,
+    NumberedLine, ScriptFault, ScriptLine, ScriptReader, ScriptStop, read_lines,
 };
 use std::test::Fail;
 
@@ -21,7 +21,7 @@ fn fault_of(read: &Result<Seq<NumberedLine>, ScriptStop>) -> Option<ScriptFault>
 
 #[test]
 fn each_form_is_read(rt: HostRuntime) -> Result<(), Fail> {
-    let lines = read_lines(rt.alloc(), Forms::All, false, EACH_FORM.as_bytes()).map_err(
+    let lines = read_lines(rt.alloc(), false, EACH_FORM.as_bytes()).map_err(
         |_| "each form",
     )?;
     assert!(rt; lines.len() == 22);
@@ -31,7 +31,7 @@ fn each_form_is_read(rt: HostRuntime) -> Result<(), Fail> {
 
 #[test]
 fn pieces_that_cut_lines(rt: HostRuntime) -> Result<(), Fail> {
-    let lines = ScriptReader::new(rt.alloc(), false, Forms::All)
+    let lines = ScriptReader::new(rt.alloc(), false)
         .feed(b"# one\n\nclus")
         .map_err(|_| "first")?
         .feed(b"ter 1\nend")
@@ -45,23 +45,7 @@ fn pieces_that_cut_lines(rt: HostRuntime) -> Result<(), Fail> {
 
 #[test]
 fn a_line_of_257_bytes(rt: HostRuntime) {
-    let read = read_lines(rt.alloc(), Forms::All, false, &[b'#'; 257]);
+    let read = read_lines(rt.alloc(), false, &[b'#'; 257]);
     let which = Which::LineBytes;
     assert!(rt; fault_of(&read) == Some(ScriptFault::Limit { which, count: 257 }));
-}
-
-#[test]
-fn a_form_that_is_not_built(rt: HostRuntime) {
-    let read = read_lines(
-        rt.alloc(),
-        Forms::OneNode,
-        false,
-        b"cluster 1\n\nrestart 1\n",
-    );
-    let fault = ScriptFault::Refused {
-        line: 3,
-        word: 1,
-        kind: LineKind::NotBuilt,
-    };
-    assert!(rt; fault_of(&read) == Some(fault));
 }

@@ -141,6 +141,10 @@ cluster 1\nend\n";
 pub const NO_LINE_SHOWN: &str = "\
 nodes 1\nrange 0 ^ ~ level 0 lease 1 1 40\nnode 1 live term 1 applied 0 lai 0\nend\n";
 
+pub const NO_LINE_JSON: &str = "{\"nodes\":1,\"notes\":[],\"ranges\":[{\"end\":\"~\",\"id\":0,\
+\"lease\":[1,1,40],\"level\":0,\"list\":[],\"replicas\":[{\"applied\":0,\"lai\":0,\"node\":1,\
+\"rows\":[],\"state\":\"live\",\"term\":1}],\"start\":\"^\"}],\"replies\":[]}\n";
+
 /// A key that is held, a range that is not there, and a text that is seen.
 pub const NOTES: &str = "\
 cluster 1\nsend 1 0 1 put a 'hi\nsend 1 0 2 put a 'hi\nflush 1 0\napply 1 0\npeek 1 0 a\n\

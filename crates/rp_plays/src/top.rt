@@ -3,7 +3,7 @@ ghost use Rattle.std.specs.Prelude.{◌≤◌};
 
 use crate::scripts::{
     A_TEXT, A_TEXT_SHOWN, CONDITIONS, CONDITIONS_SHOWN, END_OF_THE_TYPE, END_OF_THE_TYPE_SHOWN,
-    FULL, FULL_SHOWN, NO_LINE, NO_LINE_SHOWN, NOTES, NOTES_SHOWN, ONE_PUT, ONE_PUT_COUNTED,
+    FULL, FULL_SHOWN, NO_LINE, NO_LINE_JSON, NO_LINE_SHOWN, NOTES, NOTES_SHOWN, ONE_PUT, ONE_PUT_COUNTED,
     ONE_PUT_SHOWN, TWO_CLIENTS, TWO_CLIENTS_SHOWN, TWO_NAMES, TWO_NAMES_SHOWN, WIPES, WIPES_SHOWN,
 };
 use rp_base::{Bytes, Seq};
@@ -84,8 +84,8 @@ fn words_of_the_program(rt: HostRuntime) -> Result<(), Fail> {
         ("run --form", 2, USAGE),
         ("run --form=list", 2, USAGE),
         ("race", 2, USAGE),
-        ("gen 7 20", 2, USAGE),
-        ("run --form=json", 2, USAGE),
+        ("gen 7 0", 2, USAGE),
+        ("gen 7 20001", 2, USAGE),
     ] {
         assert!(rt;
             gives(
@@ -101,25 +101,20 @@ fn words_of_the_program(rt: HostRuntime) -> Result<(), Fail> {
 }
 
 #[test]
+fn a_report_as_json(rt: HostRuntime) -> Result<(), Fail> {
+    let (script, report) = (NO_LINE.as_bytes(), NO_LINE_JSON.as_bytes());
+    assert!(rt; gives(rt.alloc(), "run --form=json", script, 0, report)?);
+    Ok(())
+}
+
+#[test]
 fn scripts_that_are_refused(rt: HostRuntime) -> Result<(), Fail> {
     for (script, output) in [
         ("", "refused 1 0 no-cluster\n"),
         ("\nend\n", "refused 2 1 no-cluster\n"),
         ("cluster 1\n", "refused 2 0 no-end\n"),
-        ("cluster 2\n", "refused 1 2 not-built\n"),
         ("cluster 6\n", "refused 1 2 out-of-range\n"),
         ("cluster 1\nsend 1 0 1 pu", "refused 2 5 unknown-word\n"),
-        ("cluster 1\nsend 1 0 1 split k\n", "refused 2 5 not-built\n"),
-        (
-            "cluster 1\nadmit 1 0 1 split k\n",
-            "refused 2 5 not-built\n",
-        ),
-        (
-            "cluster 1\nadmit 1 0 1 put k 1\n",
-            "refused 2 1 not-built\n",
-        ),
-        ("cluster 1\nask 1 0\n", "refused 2 1 not-built\n"),
-        ("cluster 1\nsettle 1\n", "refused 2 1 not-built\n"),
         (
             "cluster 1\nsend 1 0 1 split\n",
             "refused 2 6 missing-word\n",

@@ -2,16 +2,13 @@
 use Rattle.std.proofs.Common.{◌≡◌, ℕ, ◌+◌, ◌*◌, ◌≤◌, ◌<◌, Bool, true, false, List, [], ◌∷◌, ◌++◌, length, Option, None, Some, Result, Ok, Err, refl, ap, ◌∙◌, sym, subst, arith, length-append}
 use Rattle.std.specs.Prelude.{IfOk, IfSome, IsTrue, if◌then◌else◌}
 use Rattle.std.specs.List.{AllByRecursion}
-use Rattle.rp_script.specs.Built.{unbuilt_in}
 use Rattle.rp_request.specs.Words.{words_of}
 use Rattle.rp_script.specs.Keywords.{keyword_of}
-use Rattle.rp_script.specs.Bounds.{IsFirst, Fits, FollowsIn, Follows, AllFollow, seen_after, IsAlong, IsScript, IsBounded, IsTaken}
+use Rattle.rp_script.specs.Bounds.{IsFirst, Fits, FollowsIn, Follows, AllFollow, seen_after, IsAlong, IsScript, IsBounded}
 use Rattle.rp_script.specs.Seen.{Seen, unseen, after, limit_of, bad_byte_of, begins_comment, skipped, unless_bad, placed, said, at_line, unless_limited, judged, unended_by, unended}
 use Rattle.rp_script.specs.Meaning.{numbered}
 use Rattle.rp_script.proofs.ReadsLines.{append-nil}
 use Rattle.rp_script.proofs.Rules.{placed_follows}
-use Rattle.rp_script.proofs.Taken.{taken_more}
-use Rattle.rp_script.specs.declared.built.Forms.{Forms}
 use Rattle.rp_script.specs.declared.faults.BadWord.{BadWord}
 use Rattle.rp_script.specs.declared.faults.Excess.{Excess}
 use Rattle.rp_script.specs.declared.faults.ScriptFault.{ScriptFault}
@@ -129,33 +126,31 @@ along_kept s n ls more l h follows kept longer =
     (subst (λ (v : List NumberedLine). IsAlong (after s (Some l.line)) v) (sym longer) (along_more s ls l h follows))
 
 -- what a reading keeps: how long its line and its lines are, and what is so of the lines
-abbrev IsReading : Forms → Seen → List ℕ → List NumberedLine → Type 0
-IsReading forms s line ls =
-    (length line ≤ 256) × (s.lines * 257 + length line ≤ 16842752) × (length ls ≤ s.lines) × AllByRecursion (IsTaken forms) ls × IsAlong s ls
+abbrev IsReading : Seen → List ℕ → List NumberedLine → Type 0
+IsReading s line ls =
+    (length line ≤ 256) × (s.lines * 257 + length line ≤ 16842752) × (length ls ≤ s.lines) × IsAlong s ls
 
 -- a line ended, and was taken
-pub line_added : (forms : Forms) (s n : Seen) (line cleared : List ℕ) (ls more : List NumberedLine) (l : NumberedLine) → IsReading forms s line ls → s.lines < 65536
-    → n.lines ≡ s.lines + 1 → cleared ≡ [] → n ≡ after s (Some l.line) → more ≡ ls ++ l ∷ [] → IsBounded l.line → unbuilt_in forms l.line ≡ None → Follows s l.line
-    → IsReading forms n cleared more
-line_added forms s n line cleared ls more l h room lines none kept longer bounded built follows =
+pub line_added : (s n : Seen) (line cleared : List ℕ) (ls more : List NumberedLine) (l : NumberedLine) → IsReading s line ls → s.lines < 65536
+    → n.lines ≡ s.lines + 1 → cleared ≡ [] → n ≡ after s (Some l.line) → more ≡ ls ++ l ∷ [] → Follows s l.line
+    → IsReading n cleared more
+line_added s n line cleared ls more l h room lines none kept longer follows =
     let short : length cleared ≡ 0 = ap length none in
     let long : length more ≡ length ls + 1 = ap length longer ∙ length-append ls (l ∷ []) in
-    let few : length ls ≤ s.lines = h.2 in
-    let taken : AllByRecursion (IsTaken forms) (ls ++ l ∷ []) = taken_more forms ls l h.3 (record { bounded = bounded; built = built }) in (
+    let few : length ls ≤ s.lines = h.2 in (
       omega (arith, short),
       omega (arith, short, lines, room),
       omega (arith, long, lines, few),
-      subst (λ (v : List NumberedLine). AllByRecursion (IsTaken forms) v) (sym longer) taken,
-      along_kept s n ls more l h.4 follows kept longer,
+      along_kept s n ls more l h.3 follows kept longer,
     )
 
 -- a line ended, whether or not it says something
-pub line_told : (forms : Forms) (s n : Seen) (line cleared : List ℕ) (ls more : List NumberedLine) (number : ℕ) (said : Option ScriptLine) → IsReading forms s line ls
-    → s.lines < 65536 → n.lines ≡ s.lines + 1 → cleared ≡ [] → n ≡ after s said → more ≡ ls ++ numbered number said → IfSome said IsBounded
-    → IfSome said (λ l. unbuilt_in forms l ≡ None) → IfSome said (Follows s) → IsReading forms n cleared more
-line_told forms s n line cleared ls more number (Some l) h room lines none kept longer bounded built follows =
-    line_added forms s n line cleared ls more (record { number = number; line = l }) h room lines none kept longer bounded built follows
-line_told forms s n line cleared ls more number None h room lines none kept longer bounded built follows =
+pub line_told : (s n : Seen) (line cleared : List ℕ) (ls more : List NumberedLine) (number : ℕ) (said : Option ScriptLine) → IsReading s line ls
+    → s.lines < 65536 → n.lines ≡ s.lines + 1 → cleared ≡ [] → n ≡ after s said → more ≡ ls ++ numbered number said
+    → IfSome said (Follows s) → IsReading n cleared more
+line_told s n line cleared ls more number (Some l) h room lines none kept longer follows =
+    line_added s n line cleared ls more (record { number = number; line = l }) h room lines none kept longer follows
+line_told s n line cleared ls more number None h room lines none kept longer follows =
     let short : length cleared ≡ 0 = ap length none in
     let same : more ≡ ls = longer ∙ append-nil ls in
     let long : length more ≡ length ls = ap length same in
@@ -163,6 +158,5 @@ line_told forms s n line cleared ls more number None h room lines none kept long
       omega (arith, short),
       omega (arith, short, lines, room),
       omega (arith, long, lines, few),
-      subst (λ (v : List NumberedLine). AllByRecursion (IsTaken forms) v) (sym same) h.3,
-      subst (λ (v : Seen). IsAlong v more) (sym kept) (subst (λ (v : List NumberedLine). IsAlong (after s None) v) (sym same) (along_skipped s ls h.4)),
+      subst (λ (v : Seen). IsAlong v more) (sym kept) (subst (λ (v : List NumberedLine). IsAlong (after s None) v) (sym same) (along_skipped s ls h.3)),
     )

@@ -6,7 +6,6 @@ pub mod Wrong
 pub mod FirstWrong
 pub mod Taking
 pub mod Rules
-pub mod NotBuilt
-pub mod Taken
+pub mod OfRules
 pub mod Along
 pub mod LongTexts

@@ -6,10 +6,8 @@ use Rattle.rp_base.specs.declared.Which.TheVariants.{Lines, LineBytes}
 use Rattle.rp_request.specs.Words.{begun_with, lines_of}
 use Rattle.rp_script.specs.Seen.{Seen, limit_of, judged, after, unended}
 use Rattle.rp_base.specs.Gives.{Gives}
-use Rattle.rp_script.specs.Meaning.{◌>>=◌, built_at, judged_in, AllAreBuilt, numbered, in_front, ended_at, meant, meaning, script_fault}
+use Rattle.rp_script.specs.Meaning.{◌>>=◌, numbered, in_front, ended_at, meant, meaning, script_fault}
 use Rattle.rp_script.specs.Reading.{Reading, unread, line_ended, fed, fed_all, closed_at, closed, finished, verdict, ReadsMeaning, ReadsPieces}
-use Rattle.rp_script.specs.declared.built.Forms.{Forms}
-use Rattle.rp_script.specs.declared.built.Forms.TheVariants.{All}
 use Rattle.rp_script.specs.declared.faults.LineKind.{LineKind}
 use Rattle.rp_script.specs.declared.faults.ScriptFault.{ScriptFault}
 use Rattle.rp_script.specs.declared.faults.ScriptFault.TheVariants.{Limit}
@@ -65,51 +63,51 @@ front-end [] lines = refl
 front-end (c ∷ w) lines = ap (λ l. (c ∷ l) ∷ lines) (append-nil w)
 
 -- the limits in a line
-judged-many : (forms : Forms) (s : Seen) (line : List ℕ) → (s.lines == 65536) ≡ true → judged_in forms s line ≡ Err (Limit Lines 65537)
+judged-many : (s : Seen) (line : List ℕ) → (s.lines == 65536) ≡ true → judged s line ≡ Err (Limit Lines 65537)
 unfolding judged limit_of
-judged-many forms s line many = simp many refl
+judged-many s line many = simp many refl
 
-judged-long : (forms : Forms) (s : Seen) (line : List ℕ) → (s.lines == 65536) ≡ false → nat_lt 256 (length line) ≡ true → judged_in forms s line ≡ Err (Limit LineBytes 257)
+judged-long : (s : Seen) (line : List ℕ) → (s.lines == 65536) ≡ false → nat_lt 256 (length line) ≡ true → judged s line ≡ Err (Limit LineBytes 257)
 unfolding judged limit_of
-judged-long forms s line few long = simp (few, long) refl
+judged-long s line few long = simp (few, long) refl
 
-meant-stops : (forms : Forms) (s : Seen) (line : List ℕ) (lines : List (List ℕ)) (fault : ScriptFault) → judged_in forms s line ≡ Err fault → meant forms s (line ∷ lines) ≡ Err fault
-meant-stops forms s line lines fault e = ap (λ (v : Result (Option ScriptLine) ScriptFault). v >>= λ said. in_front (numbered (s.lines + 1) said) (meant forms (after s said) lines)) e
+meant-stops : (s : Seen) (line : List ℕ) (lines : List (List ℕ)) (fault : ScriptFault) → judged s line ≡ Err fault → meant s (line ∷ lines) ≡ Err fault
+meant-stops s line lines fault e = ap (λ (v : Result (Option ScriptLine) ScriptFault). v >>= λ said. in_front (numbered (s.lines + 1) said) (meant (after s said) lines)) e
 
 -- a line too many
-meant-many : (forms : Forms) (s : Seen) (b : ℕ) (lines : List (List ℕ)) → (s.lines == 65536) ≡ true → meant forms s (begun_with b lines) ≡ Err (Limit Lines 65537)
-meant-many forms s b [] many = meant-stops forms s (b ∷ []) [] _ (judged-many forms s _ many)
-meant-many forms s b (line ∷ lines) many = meant-stops forms s (b ∷ line) lines _ (judged-many forms s _ many)
+meant-many : (s : Seen) (b : ℕ) (lines : List (List ℕ)) → (s.lines == 65536) ≡ true → meant s (begun_with b lines) ≡ Err (Limit Lines 65537)
+meant-many s b [] many = meant-stops s (b ∷ []) [] _ (judged-many s _ many)
+meant-many s b (line ∷ lines) many = meant-stops s (b ∷ line) lines _ (judged-many s _ many)
 
 -- a line that is too long, of which this is the front
-meant-too_long : (forms : Forms) (s : Seen) (c : ℕ) (w : List ℕ) (lines : List (List ℕ)) → (s.lines == 65536) ≡ false → 256 < length (c ∷ w)
-    → meant forms s (front (c ∷ w) lines) ≡ Err (Limit LineBytes 257)
-meant-too_long forms s c w [] few long =
-    let tested : nat_lt 256 (length (c ∷ w)) ≡ true = grind (arith, nat_tests) in meant-stops forms s (c ∷ w) [] _ (judged-long forms s _ few tested)
-meant-too_long forms s c w (line ∷ lines) few long =
+meant-too_long : (s : Seen) (c : ℕ) (w : List ℕ) (lines : List (List ℕ)) → (s.lines == 65536) ≡ false → 256 < length (c ∷ w)
+    → meant s (front (c ∷ w) lines) ≡ Err (Limit LineBytes 257)
+meant-too_long s c w [] few long =
+    let tested : nat_lt 256 (length (c ∷ w)) ≡ true = grind (arith, nat_tests) in meant-stops s (c ∷ w) [] _ (judged-long s _ few tested)
+meant-too_long s c w (line ∷ lines) few long =
     let tested : nat_lt 256 (length ((c ∷ w) ++ line)) ≡ true = grind (arith, nat_tests, length-append (c ∷ w) line) in
-    meant-stops forms s ((c ∷ w) ++ line) lines _ (judged-long forms s _ few tested)
+    meant-stops s ((c ∷ w) ++ line) lines _ (judged-long s _ few tested)
 
-meant-long : (forms : Forms) (s : Seen) (w : List ℕ) (b : ℕ) (lines : List (List ℕ)) → (s.lines == 65536) ≡ false → length w ≡ 256
-    → meant forms s (front w (begun_with b lines)) ≡ Err (Limit LineBytes 257)
-meant-long forms s [] b lines few long = absurd (omega arith)
-meant-long forms s (c ∷ w) b lines few long =
-    ap (meant forms s) (sym (front-more (c ∷ w) b lines)) ∙ meant-too_long forms s c (w ++ b ∷ []) lines few (omega (arith, length-append w (b ∷ [])))
+meant-long : (s : Seen) (w : List ℕ) (b : ℕ) (lines : List (List ℕ)) → (s.lines == 65536) ≡ false → length w ≡ 256
+    → meant s (front w (begun_with b lines)) ≡ Err (Limit LineBytes 257)
+meant-long s [] b lines few long = absurd (omega arith)
+meant-long s (c ∷ w) b lines few long =
+    ap (meant s) (sym (front-more (c ∷ w) b lines)) ∙ meant-too_long s c (w ++ b ∷ []) lines few (omega (arith, length-append w (b ∷ [])))
 
 -- a line ends, where what follows goes on as its lines do
-line_step : (forms : Forms) (s : Seen) (t : List NumberedLine) (w : List ℕ) (rest : List (List ℕ)) (go : Reading → Result (List NumberedLine) ScriptFault)
-    → ((said : Option ScriptLine) → go (record { forms = forms; seen = after s said; line = []; taken = t ++ numbered (s.lines + 1) said })
-    ≡ in_front (t ++ numbered (s.lines + 1) said) (meant forms (after s said) rest))
-    → (line_ended (record { forms = forms; seen = s; line = w; taken = t }) >>= go) ≡ in_front t (meant forms s (w ∷ rest))
-line_step forms s t w rest go goes =
-    bind_assoc (judged_in forms s w) (λ said. Ok (record { forms = forms; seen = after s said; line = []; taken = t ++ numbered (s.lines + 1) said })) go
-    ∙ same_bind (judged_in forms s w) _ _ (λ said. goes said ∙ in_front-more t (numbered (s.lines + 1) said) (meant forms (after s said) rest))
-    ∙ sym (in_front-bind t (judged_in forms s w) (λ said. in_front (numbered (s.lines + 1) said) (meant forms (after s said) rest)))
+line_step : (s : Seen) (t : List NumberedLine) (w : List ℕ) (rest : List (List ℕ)) (go : Reading → Result (List NumberedLine) ScriptFault)
+    → ((said : Option ScriptLine) → go (record { seen = after s said; line = []; taken = t ++ numbered (s.lines + 1) said })
+    ≡ in_front (t ++ numbered (s.lines + 1) said) (meant (after s said) rest))
+    → (line_ended (record { seen = s; line = w; taken = t }) >>= go) ≡ in_front t (meant s (w ∷ rest))
+line_step s t w rest go goes =
+    bind_assoc (judged s w) (λ said. Ok (record { seen = after s said; line = []; taken = t ++ numbered (s.lines + 1) said })) go
+    ∙ same_bind (judged s w) _ _ (λ said. goes said ∙ in_front-more t (numbered (s.lines + 1) said) (meant (after s said) rest))
+    ∙ sym (in_front-bind t (judged s w) (λ said. in_front (numbered (s.lines + 1) said) (meant (after s said) rest)))
 
 -- what a reading that has come so far makes of the bytes that are left is what their lines make of it
-abbrev ReadsFrom : Forms → List ℕ → Type 0
-ReadsFrom forms bytes = (s : Seen) (t : List NumberedLine) (w : List ℕ) → length w ≤ 256 → (s.lines ≡ 65536 → w ≡ [])
-    → verdict (record { forms = forms; seen = s; line = w; taken = t }) bytes ≡ in_front t (meant forms s (front w (lines_of bytes)))
+abbrev ReadsFrom : List ℕ → Type 0
+ReadsFrom bytes = (s : Seen) (t : List NumberedLine) (w : List ℕ) → length w ≤ 256 → (s.lines ≡ 65536 → w ≡ [])
+    → verdict (record { seen = s; line = w; taken = t }) bytes ≡ in_front t (meant s (front w (lines_of bytes)))
 
 same_number : (k n : ℕ) → (k == n) ≡ true → k ≡ n
 same_number k n e = grind (arith, nat_tests)
@@ -117,62 +115,53 @@ same_number k n e = grind (arith, nat_tests)
 other_number : (k n : ℕ) → (k == n) ≡ false → ¬ (k ≡ n)
 other_number k n e = grind (arith, nat_tests)
 
-reads_end : (forms : Forms) → ReadsFrom forms []
-reads_end forms s t [] short h = closed_at-front (s.lines + 1) t (unended s)
-reads_end forms s t (c ∷ w) short h =
-    line_step forms s t (c ∷ w) [] closed (λ said. closed_at-front ((after s said).lines + 1) (t ++ numbered (s.lines + 1) said) (unended (after s said)))
+reads_end : ReadsFrom []
+reads_end s t [] short h = closed_at-front (s.lines + 1) t (unended s)
+reads_end s t (c ∷ w) short h =
+    line_step s t (c ∷ w) [] closed (λ said. closed_at-front ((after s said).lines + 1) (t ++ numbered (s.lines + 1) said) (unended (after s said)))
 
 -- one byte that ends no line
-reads_byte : (forms : Forms) (b : ℕ) (bytes : List ℕ) → ReadsFrom forms bytes → (s : Seen) (t : List NumberedLine) (w : List ℕ) → length w ≤ 256
+reads_byte : (b : ℕ) (bytes : List ℕ) → ReadsFrom bytes → (s : Seen) (t : List NumberedLine) (w : List ℕ) → length w ≤ 256
     → (s.lines == 65536) ≡ false → (b == 10) ≡ false → (full : Bool) → (length w == 256) ≡ full
-    → verdict (record { forms = forms; seen = s; line = w; taken = t }) (b ∷ bytes) ≡ in_front t (meant forms s (front w (lines_of (b ∷ bytes))))
-reads_byte forms b bytes ih s t w short few other true full = simp (few, other, full) (sym (ap (in_front t) (meant-long forms s w b (lines_of bytes) few (same_number _ _ full))))
-reads_byte forms b bytes ih s t w short few other false room =
+    → verdict (record { seen = s; line = w; taken = t }) (b ∷ bytes) ≡ in_front t (meant s (front w (lines_of (b ∷ bytes))))
+reads_byte b bytes ih s t w short few other true full = simp (few, other, full) (sym (ap (in_front t) (meant-long s w b (lines_of bytes) few (same_number _ _ full))))
+reads_byte b bytes ih s t w short few other false room =
     let more : length (w ++ b ∷ []) ≤ 256 = grind (arith, nat_tests, length-append w (b ∷ [])) in
-    simp (few, other, room) (ih s t (w ++ b ∷ []) more (λ e. absurd (other_number _ _ few e)) ∙ ap (λ ls. in_front t (meant forms s ls)) (front-more w b (lines_of bytes)))
+    simp (few, other, room) (ih s t (w ++ b ∷ []) more (λ e. absurd (other_number _ _ few e)) ∙ ap (λ ls. in_front t (meant s ls)) (front-more w b (lines_of bytes)))
 
 -- one byte where a line more may come
-reads_few : (forms : Forms) (b : ℕ) (bytes : List ℕ) → ReadsFrom forms bytes → (s : Seen) (t : List NumberedLine) (w : List ℕ) → length w ≤ 256
+reads_few : (b : ℕ) (bytes : List ℕ) → ReadsFrom bytes → (s : Seen) (t : List NumberedLine) (w : List ℕ) → length w ≤ 256
     → (s.lines == 65536) ≡ false → (newline : Bool) → (b == 10) ≡ newline
-    → verdict (record { forms = forms; seen = s; line = w; taken = t }) (b ∷ bytes) ≡ in_front t (meant forms s (front w (lines_of (b ∷ bytes))))
-reads_few forms b bytes ih s t w short few false other = reads_byte forms b bytes ih s t w short few other _ refl
-reads_few forms b bytes ih s t w short few true newline =
+    → verdict (record { seen = s; line = w; taken = t }) (b ∷ bytes) ≡ in_front t (meant s (front w (lines_of (b ∷ bytes))))
+reads_few b bytes ih s t w short few false other = reads_byte b bytes ih s t w short few other _ refl
+reads_few b bytes ih s t w short few true newline =
     simp (few, newline)
-    (bind_assoc (line_ended (record { forms = forms; seen = s; line = w; taken = t })) (λ q. fed_all q bytes) (λ q. finished q q.line)
-    ∙ line_step forms s t w (lines_of bytes) (λ q. verdict q bytes)
+    (bind_assoc (line_ended (record { seen = s; line = w; taken = t })) (λ q. fed_all q bytes) (λ q. finished q q.line)
+    ∙ line_step s t w (lines_of bytes) (λ q. verdict q bytes)
     (λ said. ih (after s said) (t ++ numbered (s.lines + 1) said) [] (omega arith) (λ _. refl))
-    ∙ ap (λ ls. in_front t (meant forms s ls)) (sym (front-end w (lines_of bytes))))
+    ∙ ap (λ ls. in_front t (meant s ls)) (sym (front-end w (lines_of bytes))))
 
 -- one byte behind the last line that may come
-reads_many : (forms : Forms) (b : ℕ) (bytes : List ℕ) (s : Seen) (t : List NumberedLine) → (s.lines == 65536) ≡ true → (newline : Bool) → (b == 10) ≡ newline
-    → verdict (record { forms = forms; seen = s; line = []; taken = t }) (b ∷ bytes) ≡ in_front t (meant forms s (lines_of (b ∷ bytes)))
-reads_many forms b bytes s t many true newline = simp (many, newline) (sym (ap (in_front t) (meant-stops forms s [] (lines_of bytes) _ (judged-many forms s [] many))))
-reads_many forms b bytes s t many false other = simp (many, other) (sym (ap (in_front t) (meant-many forms s b (lines_of bytes) many)))
+reads_many : (b : ℕ) (bytes : List ℕ) (s : Seen) (t : List NumberedLine) → (s.lines == 65536) ≡ true → (newline : Bool) → (b == 10) ≡ newline
+    → verdict (record { seen = s; line = []; taken = t }) (b ∷ bytes) ≡ in_front t (meant s (lines_of (b ∷ bytes)))
+reads_many b bytes s t many true newline = simp (many, newline) (sym (ap (in_front t) (meant-stops s [] (lines_of bytes) _ (judged-many s [] many))))
+reads_many b bytes s t many false other = simp (many, other) (sym (ap (in_front t) (meant-many s b (lines_of bytes) many)))
 
-reads_one : (forms : Forms) (b : ℕ) (bytes : List ℕ) → ReadsFrom forms bytes → (s : Seen) (t : List NumberedLine) (w : List ℕ) → length w ≤ 256 → (s.lines ≡ 65536 → w ≡ [])
+reads_one : (b : ℕ) (bytes : List ℕ) → ReadsFrom bytes → (s : Seen) (t : List NumberedLine) (w : List ℕ) → length w ≤ 256 → (s.lines ≡ 65536 → w ≡ [])
     → (many : Bool) → (s.lines == 65536) ≡ many
-    → verdict (record { forms = forms; seen = s; line = w; taken = t }) (b ∷ bytes) ≡ in_front t (meant forms s (front w (lines_of (b ∷ bytes))))
-reads_one forms b bytes ih s t w short h false few = reads_few forms b bytes ih s t w short few _ refl
-reads_one forms b bytes ih s t w short h true many =
+    → verdict (record { seen = s; line = w; taken = t }) (b ∷ bytes) ≡ in_front t (meant s (front w (lines_of (b ∷ bytes))))
+reads_one b bytes ih s t w short h false few = reads_few b bytes ih s t w short few _ refl
+reads_one b bytes ih s t w short h true many =
     let none : w ≡ [] = h (same_number _ _ many) in
-    let P : List ℕ → Type 0 = λ v. verdict (record { forms = forms; seen = s; line = v; taken = t }) (b ∷ bytes) ≡ in_front t (meant forms s (front v (lines_of (b ∷ bytes)))) in
-    subst P (sym none) (reads_many forms b bytes s t many _ refl)
+    let P : List ℕ → Type 0 = λ v. verdict (record { seen = s; line = v; taken = t }) (b ∷ bytes) ≡ in_front t (meant s (front v (lines_of (b ∷ bytes)))) in
+    subst P (sym none) (reads_many b bytes s t many _ refl)
 
-reads_from : (forms : Forms) (bytes : List ℕ) → ReadsFrom forms bytes
-reads_from forms [] = reads_end forms
-reads_from forms (b ∷ bytes) = λ s t w short h. reads_one forms b bytes (reads_from forms bytes) s t w short h _ refl
+reads_from : (bytes : List ℕ) → ReadsFrom bytes
+reads_from [] = reads_end
+reads_from (b ∷ bytes) = λ s t w short h. reads_one b bytes (reads_from bytes) s t w short h _ refl
 
 pub reads_meaning : ReadsMeaning
-reads_meaning forms race bytes = reads_from forms bytes _ [] [] (omega arith) (λ e. refl) ∙ in_front-none _
-
--- no line says other than the rules make of it where every form is built
-built_at-all : (k : ℕ) (r : Result (Option ScriptLine) ScriptFault) → (r >>= built_at k All) ≡ r
-built_at-all k (Ok None) = refl
-built_at-all k (Ok (Some line)) = refl
-built_at-all k (Err fault) = refl
-
-pub all_are_built : AllAreBuilt
-all_are_built s line = built_at-all (s.lines + 1) (judged s line)
+reads_meaning race bytes = reads_from bytes _ [] [] (omega arith) (λ e. refl) ∙ in_front-none _
 
 pub reads_pieces : ReadsPieces
 reads_pieces r [] ys = refl
@@ -180,15 +169,15 @@ reads_pieces r (x ∷ xs) ys =
     same_bind (fed r x) _ _ (λ s. reads_pieces s xs ys) ∙ sym (bind_assoc (fed r x) (λ s. fed_all s xs) (λ s. fed_all s ys))
 
 -- a reading that stops before the end
-pub read_stopped : (forms : Forms) (race : Bool) (bytes : List ℕ) (stop : ScriptStop)
-    → Gives {X = Reading} (λ r. r) script_fault (Err stop) (fed_all (unread forms race) bytes)
-    → Gives {X = List NumberedLine} (λ lines. lines) script_fault (Err stop) (meaning forms race bytes)
-read_stopped forms race bytes (stops.Judged fault) h = sym (reads_meaning forms race bytes) ∙ ap (λ v. v >>= λ s. finished s s.line) h
-read_stopped forms race bytes stops.NoMemory h = tt
+pub read_stopped : (race : Bool) (bytes : List ℕ) (stop : ScriptStop)
+    → Gives {X = Reading} (λ r. r) script_fault (Err stop) (fed_all (unread race) bytes)
+    → Gives {X = List NumberedLine} (λ lines. lines) script_fault (Err stop) (meaning race bytes)
+read_stopped race bytes (stops.Judged fault) h = sym (reads_meaning race bytes) ∙ ap (λ v. v >>= λ s. finished s s.line) h
+read_stopped race bytes stops.NoMemory h = tt
 
 -- a reading that comes to the end
-pub read_whole : (forms : Forms) (race : Bool) (bytes : List ℕ) (r : Reading) (res : Result (List NumberedLine) ScriptStop) → fed_all (unread forms race) bytes ≡ Ok r
-    → Gives (λ lines. lines) script_fault res (finished r r.line) → Gives (λ lines. lines) script_fault res (meaning forms race bytes)
-read_whole forms race bytes r res leads gives =
+pub read_whole : (race : Bool) (bytes : List ℕ) (r : Reading) (res : Result (List NumberedLine) ScriptStop) → fed_all (unread race) bytes ≡ Ok r
+    → Gives (λ lines. lines) script_fault res (finished r r.line) → Gives (λ lines. lines) script_fault res (meaning race bytes)
+read_whole race bytes r res leads gives =
     let P : Result (List NumberedLine) ScriptFault → Type 0 = λ v. Gives (λ lines. lines) script_fault res v in
-    subst P (sym (ap (λ v. v >>= λ s. finished s s.line) leads) ∙ reads_meaning forms race bytes) gives
+    subst P (sym (ap (λ v. v >>= λ s. finished s s.line) leads) ∙ reads_meaning race bytes) gives

@@ -3,9 +3,7 @@ use Rattle.std.specs.Prelude.{◌≡◌, ℕ, ◌^◌, ◌≤◌, ◌<◌, List,
 use Rattle.rp_base.specs.Keys.{IsKey}
 use Rattle.rp_base.specs.ClientCounts.{count_of}
 use Rattle.rp_request.specs.Fits.{FitsRequest}
-use Rattle.rp_script.specs.Built.{unbuilt_in}
 use Rattle.rp_script.specs.Seen.{Seen, unseen, after}
-use Rattle.rp_script.specs.declared.built.Forms.{Forms}
 use Rattle.rp_script.specs.declared.lines.NumberedLine.{NumberedLine}
 use Rattle.rp_script.specs.declared.lines.ScriptLine.{ScriptLine}
 use Rattle.rp_script.specs.declared.lines.ScriptLine.TheVariants as lines
@@ -88,8 +86,3 @@ IsBounded (lines.Cluster nodes) = nodes ≤ 5
 IsBounded (lines.Send node range client request) = (1 ≤ client) × (client ≤ 64)
 IsBounded (lines.Admit node range client request) = (1 ≤ client) × (client ≤ 64)
 IsBounded _ = Unit {0}
-
--- a line that was read where these forms are built
-pub record IsTaken (forms : Forms) (l : NumberedLine) : Type 0 where
-  pub bounded : IsBounded l.line
-  pub built : unbuilt_in forms l.line ≡ None

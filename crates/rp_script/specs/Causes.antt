@@ -9,9 +9,6 @@ use Rattle.rp_script.specs.Readers.{bad_word}
 use Rattle.rp_script.specs.Requests.{request}
 use Rattle.rp_script.specs.Wanted.{Wanted, Number, CommandNumber, KeyName, ValueWord, Expected, EndFrom, RequestName, nth, request as wanted_request, wants}
 use Rattle.rp_script.specs.Seen.{Seen, begins_comment, bad_byte_of, placed, said, judged}
-use Rattle.rp_script.specs.Built.{unbuilt_in}
-use Rattle.rp_script.specs.Meaning.{judged_in}
-use Rattle.rp_script.specs.declared.built.Forms.{Forms}
 use Rattle.rp_script.specs.declared.faults.BadWord.{BadWord}
 use Rattle.rp_script.specs.declared.faults.LineKind.{LineKind}
 use Rattle.rp_script.specs.declared.faults.LineKind.TheVariants as kinds
@@ -135,9 +132,8 @@ abbrev pub LongTextsAlone : Type 0
 LongTextsAlone = (line : List ℕ) (n : ℕ) (text : List ℕ) → IsNone (bad_byte_of (words_of line)) → n < length (words_of line)
     → nth n (words_of line) ≡ 39 ∷ text → IsErr (text_of text) ↔ (64 < length text)
 
--- a kind of the rules of a script: `not-built` speaks of the forms that are built, `not-json` and `not-report` of no script
+-- a kind of the rules of a script: `not-json` and `not-report` speak of no script
 abbrev pub IsOfRules : LineKind → Type 0
-IsOfRules kinds.NotBuilt = ⊥
 IsOfRules kinds.NotJson = ⊥
 IsOfRules kinds.NotReport = ⊥
 IsOfRules kind = Unit {0}
@@ -149,16 +145,3 @@ IsFaultOfRules (Limit which count) = Unit {0}
 -- the rules refuse by no other kind
 abbrev pub KindsOfRules : Type 0
 KindsOfRules = (s : Seen) (line : List ℕ) → IfErr (judged s line) IsFaultOfRules
-
--- the rules of the script take the line, and these forms do not have it, from this word on
-abbrev pub IsUnbuilt : Forms → ℕ → Result (Option ScriptLine) ScriptFault → Type 0
-IsUnbuilt forms word (Ok (Some line)) = unbuilt_in forms line ≡ Some word
-IsUnbuilt forms word r = ⊥
-
--- what the line answers that is not built from this word on
-abbrev pub not_built : Seen → ℕ → Result (Option ScriptLine) ScriptFault
-not_built s word = Err (Refused (s.lines + 1) word kinds.NotBuilt)
-
--- a line is refused as not built where the rules take it and its form is not built, and nowhere else
-abbrev pub NotBuiltExactly : Type 0
-NotBuiltExactly = (forms : Forms) (s : Seen) (line : List ℕ) (word : ℕ) → (judged_in forms s line ≡ not_built s word) ↔ IsUnbuilt forms word (judged s line)

@@ -1,7 +1,6 @@
 pub mod Keywords
 pub mod Readers
 pub mod Requests
-pub mod Built
 pub mod Bounds
 pub mod Forms
 pub mod Seen

@@ -1,12 +1,8 @@
 -- The meaning of a script's bytes: its lines with their numbers, or the first limit or refusal.
 use Rattle.std.specs.Prelude.{◌≡◌, ℕ, ◌+◌, Bool, List, [], ◌∷◌, ◌++◌, Option, Some, None, Result, Ok, Err}
 use Rattle.rp_request.specs.Words.{lines_of}
-use Rattle.rp_script.specs.Built.{unbuilt_in}
 use Rattle.rp_script.specs.Seen.{Seen, unseen, judged, after, unended}
-use Rattle.rp_script.specs.declared.built.Forms.{Forms}
-use Rattle.rp_script.specs.declared.built.Forms.TheVariants.{All}
 use Rattle.rp_script.specs.declared.faults.LineKind.{LineKind}
-use Rattle.rp_script.specs.declared.faults.LineKind.TheVariants as kinds
 use Rattle.rp_script.specs.declared.faults.ScriptFault.{ScriptFault}
 use Rattle.rp_script.specs.declared.faults.ScriptFault.TheVariants as faults
 use Rattle.rp_script.specs.declared.faults.ScriptStop.{ScriptStop}
@@ -18,20 +14,6 @@ infixl 10 ◌>>=◌
 abbrev pub ◌>>=◌ : {A B E : Type 0} → Result A E → (A → Result B E) → Result B E
 (Ok x) >>= f = f x
 (Err e) >>= f = Err e
-
--- line k, refused at the word at which it is not built
-abbrev pub unless_unbuilt : ℕ → Option ℕ → ScriptLine → Result (Option ScriptLine) ScriptFault
-unless_unbuilt k None line = Ok (Some line)
-unless_unbuilt k (Some word) line = Err (faults.Refused k word kinds.NotBuilt)
-
--- what line k says, where its form is built; a skipped line has none
-abbrev pub built_at : ℕ → Forms → Option ScriptLine → Result (Option ScriptLine) ScriptFault
-built_at k forms None = Ok None
-built_at k forms (Some line) = unless_unbuilt k (unbuilt_in forms line) line
-
--- what the next line says where these forms are built: its own limit or refusal comes before that its form is not built
-abbrev pub judged_in : Forms → Seen → List ℕ → Result (Option ScriptLine) ScriptFault
-judged_in forms s line = judged s line >>= built_at (s.lines + 1) forms
 
 -- what line k says, under its number; a skipped line says nothing
 abbrev pub numbered : ℕ → Option ScriptLine → List NumberedLine
@@ -49,19 +31,15 @@ ended_at k None = Ok []
 ended_at k (Some kind) = Err (faults.Refused k 0 kind)
 
 -- what these lines say behind those that were seen: the first limit or refusal ends them
-abbrev pub meant : Forms → Seen → List (List ℕ) → Result (List NumberedLine) ScriptFault
-meant forms s [] = ended_at (s.lines + 1) (unended s)
-meant forms s (line ∷ lines) = judged_in forms s line >>= λ said. in_front (numbered (s.lines + 1) said) (meant forms (after s said) lines)
+abbrev pub meant : Seen → List (List ℕ) → Result (List NumberedLine) ScriptFault
+meant s [] = ended_at (s.lines + 1) (unended s)
+meant s (line ∷ lines) = judged s line >>= λ said. in_front (numbered (s.lines + 1) said) (meant (after s said) lines)
 
--- the meaning of a script, a race's or another, where these forms are built
-abbrev pub meaning : Forms → Bool → List ℕ → Result (List NumberedLine) ScriptFault
-meaning forms race bytes = meant forms (unseen race) (lines_of bytes)
+-- the meaning of a script, a race's or another
+abbrev pub meaning : Bool → List ℕ → Result (List NumberedLine) ScriptFault
+meaning race bytes = meant (unseen race) (lines_of bytes)
 
 -- what stops the reading stands for a fault of the script, or for none at want of memory
 abbrev pub script_fault : ScriptStop → Option ScriptFault
 script_fault (stops.Judged fault) = Some fault
 script_fault stops.NoMemory = None
-
--- where every form is built, a line says what the rules of the script alone make of it
-abbrev pub AllAreBuilt : Type 0
-AllAreBuilt = (s : Seen) (line : List ℕ) → judged_in All s line ≡ judged s line

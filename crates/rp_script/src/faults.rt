@@ -41,8 +41,6 @@ pub enum LineKind {
     ExtraWord,
     /// A byte is outside 32 to 126.
     BadByte,
-    /// The form of the line is not built.
-    NotBuilt,
     /// A report is no JSON. No script is refused so.
     NotJson,
     /// A report's JSON is not that of a report. No script is refused so.

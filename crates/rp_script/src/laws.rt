@@ -1,8 +1,7 @@
 //! Laws of the definitions that the contracts cite. Each is the clause of an empty function.
 
-ghost use Rattle.rp_script.specs.Meaning.{AllAreBuilt};
 ghost use Rattle.rp_script.specs.Reading.{ReadsMeaning, ReadsPieces};
-ghost use Rattle.rp_script.specs.Causes.{RefusedExactly, LinesRefusedExactly, RequestsRefusedExactly, LongTextsAlone, KindsOfRules, NotBuiltExactly};
+ghost use Rattle.rp_script.specs.Causes.{RefusedExactly, LinesRefusedExactly, RequestsRefusedExactly, LongTextsAlone, KindsOfRules};
 
 /// To read a script byte after byte, as the reader does, gives its meaning, which is said line by
 /// line.
@@ -15,12 +14,6 @@ pub fn reads_meaning()
 #[tactic(auto, using(crate::proofs::ReadsLines::reads_pieces))]
 pub fn reads_pieces()
     ensures { ReadsPieces }
-{}
-
-/// Where every form is built, no line is refused for its form.
-#[tactic(auto, using(crate::proofs::ReadsLines::all_are_built))]
-pub fn all_are_built()
-    ensures { AllAreBuilt }
 {}
 
 /// A line that begins so is refused at its first word by a rule, or else at a later word that is
@@ -47,14 +40,8 @@ pub fn long_texts_alone()
     ensures { LongTextsAlone }
 {}
 
-/// No rule of a script refuses a line as not built, nor by a kind that speaks of a report.
-#[tactic(auto, using(crate::proofs::NotBuilt::kinds_of_rules))]
+/// No rule of a script refuses a line by a kind that speaks of a report.
+#[tactic(auto, using(crate::proofs::OfRules::kinds_of_rules))]
 pub fn kinds_of_rules()
     ensures { KindsOfRules }
-{}
-
-/// A line is refused as not built where the rules of the script take it and its form is not built,
-/// and nowhere else: where every form is built, no line is refused so.
-pub fn not_built_exactly()
-    ensures { NotBuiltExactly }
 {}

@@ -1,7 +1,6 @@
 //! The lines of a script: every form of line is read, or refused at its word.
 #![tactic(auto)]
 
-mod built;
 mod faults;
 mod forms;
 mod keywords;
@@ -13,7 +12,6 @@ mod scripts;
 mod sources;
 mod words;
 
-pub use built::Forms;
 pub use faults::{BadWord, LineFault, LineKind, ScriptFault, ScriptStop};
 pub use lines::{NumberedLine, ScriptLine};
 pub use requests::read_request;

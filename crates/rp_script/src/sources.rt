@@ -1,13 +1,11 @@
 //! A script that is read piece after piece.
 ghost use Rattle.std.specs.Prelude.{◌≡◌, ◌+◌, ◌≤◌, ◌<◌, length, IfOk, IfSome, OnOk, OnErr, IfErr, ◌++◌};
 ghost use Rattle.rp_base.specs.Gives.{Gives};
-ghost use Rattle.rp_script.specs.Bounds.{IsBounded, Follows, IsTaken, IsScript};
-ghost use Rattle.rp_script.specs.Built.{unbuilt_in};
-ghost use Rattle.std.specs.List.{AllByRecursion};
-ghost use Rattle.rp_script.specs.Meaning.{judged_in, numbered, meaning, script_fault};
+ghost use Rattle.rp_script.specs.Bounds.{IsBounded, Follows, IsScript};
+ghost use Rattle.rp_script.specs.Meaning.{numbered, meaning, script_fault};
+ghost use Rattle.rp_script.specs.Seen.{judged};
 ghost use Rattle.rp_script.specs.Reading.{unread, line_taken, line_ended, fed, fed_all, closed, finished, weight};
 
-use crate::built::Forms;
 use crate::faults::{LineKind, ScriptFault, ScriptStop};
 use crate::lines::{NumberedLine, ScriptLine};
 use crate::scripts::Script;
@@ -15,12 +13,10 @@ use rp_base::{Seq, Which};
 use std::alloc::Global;
 use std::marker::Model;
 
-/// A script that is being read, piece after piece. Contracts see the forms of line that are built,
-/// what must be known of the lines that ended, the bytes of the line that has begun, and what the
-/// lines said.
+/// A script that is being read, piece after piece. Contracts see what must be
+/// known of the lines that ended, the bytes of the line that has begun, and what the lines said.
 #[derive(Drop)]
 pub struct ScriptReader {
-    forms: Forms,
     script: Script,
     line: Vec<u8>,
     taken: Vec<NumberedLine>,
@@ -28,14 +24,12 @@ pub struct ScriptReader {
 
 impl Model for ScriptReader {
     ghost use Rattle.std.specs.Prelude.{◌+◌, ◌*◌, ◌≤◌, length};
-    ghost use Rattle.std.specs.List.{AllByRecursion};
-    ghost use Rattle.rp_script.specs.Bounds.{IsTaken, IsAlong};
+    ghost use Rattle.rp_script.specs.Bounds.{IsAlong};
     ghost use Rattle.rp_script.specs.Reading.{Reading};
 
     ghost Value = { Reading };
 
     ghost view = { λ r. record {
-      forms = r.forms;
       seen = r.script;
       line = r.line.items;
       taken = r.taken.items;
@@ -44,7 +38,6 @@ impl Model for ScriptReader {
     ghost invariant = { λ r. (length r.line.items ≤ 256)
         × (r.script.lines * 257 + length r.line.items ≤ 16842752)
         × (length r.taken.items ≤ r.script.lines)
-        × AllByRecursion (IsTaken r.forms) r.taken.items
         × IsAlong r.script r.taken.items };
 }
 
@@ -91,39 +84,24 @@ fn push_line(
 }
 
 impl ScriptReader {
-    /// Nothing was read. A race takes fewer forms of line, and a line of a form that is not built
-    /// is refused. It takes no memory.
-    pub fn new(alloc: Global, race: bool, forms: Forms) -> ScriptReader
-        ensures { result ≡ unread forms race }
+    /// Nothing was read. A race takes fewer forms of line. It takes no memory.
+    pub fn new(alloc: Global, race: bool) -> ScriptReader
+        ensures { result ≡ unread race }
     {
         ScriptReader {
-            forms,
             script: Script::new(race),
             line: Vec::new(alloc),
             taken: Vec::new(alloc),
         }
     }
 
-    /// What the line that has begun says. Its own limit or refusal comes before that its form is
-    /// not built.
+    /// What the line that has begun says.
     fn judge(&self) -> Result<Option<ScriptLine>, ScriptFault>
-        ensures line { result ≡ judged_in self.now.forms self.now.seen self.now.line }
+        ensures line { result ≡ judged self.now.seen self.now.line }
         ensures follows { IfOk result (λ o. IfSome o (Follows self.now.seen)) }
         ensures bounded { IfOk result (λ o. IfSome o IsBounded) }
-        ensures built { IfOk result (λ o. IfSome o (λ l. unbuilt_in self.now.forms l ≡ None)) }
     {
-        let said = self.script.judge(&self.line)?;
-        let Some(line) = said else {
-            return Ok(None);
-        };
-        match self.forms.unbuilt_in(&line) {
-            None => Ok(Some(line)),
-            Some(word) => Err(ScriptFault::Refused {
-                line: self.script.lines() + 1,
-                word,
-                kind: LineKind::NotBuilt,
-            }),
-        }
+        self.script.judge(&self.line)
     }
 
     /// Keeps what the line that has begun says, and that it ended.
@@ -131,11 +109,9 @@ impl ScriptReader {
         requires room { self.old.seen.lines < 65536 }
         requires follows { IfSome said (Follows self.old.seen) }
         requires bounded { IfSome said IsBounded }
-        requires built { IfSome said (λ l. unbuilt_in self.old.forms l ≡ None) }
         ensures ends { OnOk result (self.new ≡ line_taken self.old said) }
         ensures memory { IfErr result (λ stop. stop ≡ ScriptStop.NoMemory) }
         ensures further { OnOk result (weight self.old + 1 ≤ weight self.new) }
-        ensures forms { self.new.forms ≡ self.old.forms }
         ensures most { weight self.new ≤ 16842752 }
     {
         let number = self.script.lines() + 1;
@@ -150,7 +126,6 @@ impl ScriptReader {
         requires { self.old.seen.lines < 65536 }
         ensures gives { Gives (λ _. self.new) script_fault result (line_ended self.old) }
         ensures further { OnOk result (weight self.old + 1 ≤ weight self.new) }
-        ensures forms { self.new.forms ≡ self.old.forms }
         ensures ends { weight self.new ≤ 16842752 }
     {
         let _ = &self.line;
@@ -164,7 +139,6 @@ impl ScriptReader {
     fn feed_byte(&mut self, byte: u8) -> Result<(), ScriptStop>
         ensures gives { Gives (λ _. self.new) script_fault result (fed self.old byte) }
         ensures further { OnOk result (weight self.old + 1 ≤ weight self.new) }
-        ensures forms { self.new.forms ≡ self.old.forms }
         ensures ends { weight self.new ≤ 16842752 }
     {
         if self.script.lines() == 65536 {
@@ -184,7 +158,6 @@ impl ScriptReader {
     fn feed_all(&mut self, piece: &[u8]) -> Result<(), ScriptStop>
         ensures gives { Gives (λ _. self.new) script_fault result (fed_all self.old piece.now) }
         ensures further { OnOk result (weight self.old + length piece.now ≤ weight self.new) }
-        ensures forms { self.new.forms ≡ self.old.forms }
         ensures ends { weight self.new ≤ 16842752 }
     {
         let _ = &self.line;
@@ -199,7 +172,6 @@ impl ScriptReader {
     pub fn feed(mut self, piece: &[u8]) -> Result<ScriptReader, ScriptStop>
         ensures gives { Gives (λ reader. reader) script_fault result (fed_all self piece.now) }
         ensures further { IfOk result (λ reader. weight self + length piece.now ≤ weight reader) }
-        ensures forms { IfOk result (λ reader. reader.forms ≡ self.forms) }
         ensures ends { IfOk result (λ reader. weight reader ≤ 16842752) }
     {
         self.feed_all(piece)?;
@@ -211,7 +183,6 @@ impl ScriptReader {
     pub fn finish(mut self) -> Result<Seq<NumberedLine>, ScriptStop>
         ensures gives { Gives (λ lines. lines) script_fault result (finished self self.line) }
         ensures few { IfOk result (λ lines. length lines ≤ 65536) }
-        ensures taken { IfOk result (λ lines. AllByRecursion (IsTaken self.forms) lines) }
         ensures script { IfOk result IsScript }
     {
         if !self.line.is_empty() {
@@ -224,11 +195,9 @@ impl ScriptReader {
     fn close(self) -> Result<Seq<NumberedLine>, ScriptStop>
         ensures gives { Gives (λ lines. lines) script_fault result (closed self) }
         ensures few { IfOk result (λ lines. length lines ≤ 65536) }
-        ensures taken { IfOk result (λ lines. AllByRecursion (IsTaken self.forms) lines) }
         ensures script { IfOk result IsScript }
     {
         let ScriptReader {
-            forms: _,
             script,
             line: _,
             taken,
@@ -240,20 +209,17 @@ impl ScriptReader {
     }
 }
 
-/// Reads a script that is at hand whole, where these forms of line are built: its lines that are
-/// not skipped, or what ends it.
+/// Reads a script that is at hand whole: its lines that are not skipped, or what ends it.
 pub fn read_lines(
     alloc: Global,
-    forms: Forms,
     race: bool,
     source: &[u8],
 ) -> Result<Seq<NumberedLine>, ScriptStop>
-    ensures meaning { Gives (λ lines. lines) script_fault result (meaning forms race source.now) }
+    ensures meaning { Gives (λ lines. lines) script_fault result (meaning race source.now) }
     ensures few { IfOk result (λ lines. length lines ≤ 65536) }
-    ensures taken { IfOk result (λ lines. AllByRecursion (IsTaken forms) lines) }
     ensures script { IfOk result IsScript }
 {
-    let reader = match ScriptReader::new(alloc, race, forms).feed(source) {
+    let reader = match ScriptReader::new(alloc, race).feed(source) {
         Ok(reader) => reader,
         Err(stop) => return Err(stop),
     };

@@ -1,7 +1,6 @@
 -- What an edit of rows in order makes of the map that contracts see.
-use Rattle.std.proofs.Common.{◌≡◌, ℕ, ◌+◌, ◌-◌, ◌≤◌, Bool, true, false, cond, not, ◌&&◌, nat_lt, nat_le, T, IsTrue, List, ◌++◌, map, length, take, drop, Option, None, Equal, refl, sym, ap, subst, ◌∙◌, arith}
-use Rattle.std.proofs.Math.Seq.{take-length}
-use Rattle.std.proofs.lemmas.List.{length-drop, length-take, drop-take}
+use Rattle.std.proofs.Common.{◌≡◌, ℕ, ◌-◌, ◌≤◌, Bool, true, false, cond, not, ◌&&◌, nat_lt, nat_le, T, IsTrue, List, ◌++◌, map, length, take, drop, Option, None, Equal, refl, sym, ap, subst, ◌∙◌, arith}
+use Rattle.std.proofs.lemmas.List.{length-drop, length-take}
 use Rattle.std.proofs.lemmas.Bool.Decides.{nat_tests}
 use Rattle.std.specs.Ordering.{nat_cmp, eq_by_cmp}
 use Rattle.std.specs.Cmp.{nat_cmp_total}
@@ -10,7 +9,7 @@ use Rattle.std.specs.FinMap.Entries.{put, find, is_sorted, where_key, is_sorted-
 use Rattle.rp_base.specs.Tables.{Table}
 use Rattle.rp_base.specs.declared.values.Value.{Value}
 use Rattle.rp_table.specs.Place.{IsPlace}
-use Rattle.rp_table.proofs.Rows.{between_places, from_place, places_in_order, in_two_parts}
+use Rattle.rp_table.proofs.Rows.{between_places, from_place, in_two_parts}
 
 -- a test that holds, as the library has it, and back
 told : (b : Bool) → b ≡ true → T b
@@ -93,22 +92,17 @@ module _ (es : List (ℕ × Value)) (ordered : IsTrue (is_sorted nat_cmp es)) wh
       sym count ∙ ap length (between_places es low high n m l p q ∙ sym (entries_retained between)) ∙ sym (len-entries (retain_keys (from_sorted es) between))
 
   -- rows copied from a key's place on make the part of the map from the key on
-  pub kept_from : (fs : List (ℕ × Value)) (key n : ℕ) → IsPlace es key n → fs ≡ take (length es - n) (drop n es)
+  pub kept_from : (fs : List (ℕ × Value)) (key n : ℕ) → IsPlace es key n → fs ≡ drop n es
       → IsTrue (is_sorted nat_cmp fs) × (from_sorted {R = nat_cmp} fs ≡ retain_keys (from_sorted es) (λ k. nat_le key k))
-  kept_from fs key n p e =
-      let whole : take (length es - n) (drop n es) ≡ drop n es = subst (λ k. take k (drop n es) ≡ drop n es) (length-drop n es) (take-length (drop n es)) in
-      retained fs (λ k. nat_le key k) (e ∙ whole ∙ from_place es key n p)
+  kept_from fs key n p e = retained fs (λ k. nat_le key k) (e ∙ from_place es key n p)
 
   -- the keys of the rows between two keys' places are the map's keys between them
   pub keys_between : (ks : List ℕ) (low high n m : ℕ) → low ≤ high → IsPlace es low n → IsPlace es high m
-      → ks ≡ map (λ (e : ℕ × Value). e.0) (take (m - n) (drop n es))
+      → ks ≡ map (λ (e : ℕ × Value). e.0) (drop n (take m es))
       → ks ≡ keys (retain_keys (from_sorted {R = nat_cmp} es) (λ k. nat_le low k && nat_lt k high))
   keys_between ks low high n m l p q e =
       let between : ℕ → Bool = λ k. nat_le low k && nat_lt k high in
-      let up : n ≤ m = places_in_order es low high n m l p q in
-      let same : n + (m - n) ≡ m = omega arith in
-      let front : take (m - n) (drop n es) ≡ drop n (take m es) = sym (drop-take n (m - n) es) ∙ ap (λ k. drop n (take k es)) same in
-      e ∙ ap (map (λ (r : ℕ × Value). r.0)) (front ∙ between_places es low high n m l p q ∙ sym (entries_retained between))
+      e ∙ ap (map (λ (r : ℕ × Value). r.0)) (between_places es low high n m l p q ∙ sym (entries_retained between))
 
 -- the rows below a key and then those from it on are the rows
 pub parts_are_whole : (t : Table) (key : ℕ) → entries (retain_keys t (λ k. nat_lt k key)) ++ entries (retain_keys t (λ k. nat_le key k)) ≡ entries t

@@ -2,7 +2,7 @@
 ghost use Rattle.std.specs.Prelude.{◌≡◌, ◌+◌, ◌≤◌, ◌<◌, ◌&&◌, nat_lt, nat_le, OnOk, IfOk, slice_get, Some};
 ghost use Rattle.std.specs.FinMap as map;
 
-use crate::places::{find, keys_of, place_of};
+use crate::places::{Rows, find, keys_of, place_of};
 use rp_base::{Key, NoMemory, Seq, Span, Value};
 use std::alloc::Global;
 use std::marker::Model;
@@ -14,11 +14,11 @@ pub type KeyList = Seq<Key>;
 /// room: how many rows can be added without memory.
 #[derive(Drop)]
 pub struct Table {
-    rows: Vec<(Key, Value)>,
+    rows: Rows,
 }
 
 impl Model for Table {
-    ghost use Rattle.std.specs.Prelude.{◌-◌, IsTrue, vec_len, vec_capacity};
+    ghost use Rattle.std.specs.Prelude.{IsTrue};
     ghost use Rattle.std.specs.Ordering.{nat_cmp};
     ghost use Rattle.std.specs.FinMap.{from_sorted};
     ghost use Rattle.std.specs.FinMap.Entries.{is_sorted};
@@ -28,9 +28,9 @@ impl Model for Table {
 
     ghost coded = { held_code };
 
-    ghost view = { λ t. record { map = from_sorted t.rows.items; spare = vec_capacity t.rows - vec_len t.rows } };
+    ghost view = { λ t. record { map = from_sorted t.rows.list; spare = t.rows.spare } };
 
-    ghost invariant = { λ t. IsTrue (is_sorted nat_cmp t.rows.items) };
+    ghost invariant = { λ t. IsTrue (is_sorted nat_cmp t.rows.list) };
 }
 
 impl Table {
@@ -39,7 +39,7 @@ impl Table {
         ensures { result.map ≡ map.empty }
     {
         Table {
-            rows: Vec::new(alloc),
+            rows: Rows::new(alloc),
         }
     }
 
@@ -55,7 +55,7 @@ impl Table {
         ensures { result ≡ map.get self.now.map key }
     {
         match find(&self.rows, key) {
-            Ok(at) => Some(self.rows[at].1),
+            Ok(at) => Some(self.rows.at(at).1),
             Err(_) => None,
         }
     }
@@ -65,7 +65,7 @@ impl Table {
         requires { at < map.len self.now.map }
         ensures { slice_get (map.entries self.now.map) at ≡ Some result }
     {
-        self.rows[at]
+        *self.rows.at(at)
     }
 
     /// Makes room for n rows more.
@@ -74,8 +74,7 @@ impl Table {
         ensures room { OnOk result (n ≤ self.new.spare) }
         ensures kept { self.old.spare ≤ self.new.spare }
     {
-        self.rows.reserve(n)?;
-        Ok(())
+        self.rows.make_room(n)
     }
 
     /// The key gets the value, without memory.
@@ -85,8 +84,8 @@ impl Table {
         ensures spare { self.old.spare ≤ self.new.spare + 1 }
     {
         match find(&self.rows, key) {
-            Ok(at) => self.rows[at] = (key, value),
-            Err(at) => self.rows.insert(at, (key, value)).unwrap(),
+            Ok(at) => self.rows.replace(at, (key, value)),
+            Err(at) => self.rows.insert(at, (key, value)),
         }
     }
 
@@ -113,7 +112,7 @@ impl Table {
     pub fn copy(&self) -> Result<Table, NoMemory>
         ensures { IfOk result (λ t. t.map ≡ self.now.map) }
     {
-        let rows = Vec::from_slice(*self.rows.allocator(), &self.rows)?;
+        let rows = self.rows.copy_from(0)?;
         Ok(Table { rows })
     }
 
@@ -122,7 +121,7 @@ impl Table {
         ensures { IfOk result (λ t. t.map ≡ map.retain_keys self.now.map (λ k. nat_le key k)) }
     {
         let at = place_of(&self.rows, key.bound());
-        let rows = Vec::from_slice(*self.rows.allocator(), &self.rows[at..])?;
+        let rows = self.rows.copy_from(at)?;
         Ok(Table { rows })
     }
 
@@ -141,6 +140,6 @@ impl Table {
     {
         let start = place_of(&self.rows, span.start);
         let end = place_of(&self.rows, span.end);
-        keys_of(*self.rows.allocator(), &self.rows[start..end])
+        keys_of(&self.rows, start, end)
     }
 }

@@ -1,2 +1,3 @@
 pub mod ReadsSource
 pub mod RunProof
+pub mod Playing

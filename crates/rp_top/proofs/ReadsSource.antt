@@ -1,15 +1,15 @@
 -- A script read from a source piece after piece.
-use Rattle.std.proofs.Common.{◌≡◌, ℕ, false, List, [], ◌++◌, Option, Some, None, Result, Ok, Err, refl, ap, ◌∙◌, sym, subst, append_assoc}
+use Rattle.std.proofs.Common.{◌≡◌, ℕ, ◌≤◌, length, inl, false, List, [], ◌++◌, Option, Some, None, Result, Ok, Err, refl, ap, ◌∙◌, sym, subst, append_assoc}
 use Rattle.rp_outside.specs.Devices.{Comes, IsAtEnd, IsAll}
 use Rattle.rp_outside.proofs.Told.{comes_more}
 use Rattle.rp_script.specs.Meaning.{◌>>=◌}
 use Rattle.rp_script.specs.Reading.{Reading, unread, fed_all, finished}
-use Rattle.rp_script.specs.declared.built.Forms.TheVariants.{OneNode}
 use Rattle.rp_script.specs.declared.faults.ScriptFault.{ScriptFault}
 use Rattle.rp_script.specs.declared.lines.NumberedLine.{NumberedLine}
 use Rattle.rp_script.proofs.ReadsLines.{append-nil, reads_meaning, reads_pieces}
 use Rattle.rp_top.specs.Scripts.{script_of}
-use Rattle.rp_top.specs.Gives.{Gives, HasCome}
+use Rattle.rp_base.specs.declared.lists.Seq.{Seq}
+use Rattle.rp_top.specs.Gives.{Gives, HasCome, HasStopped}
 use Rattle.rp_top.specs.declared.stops.Stop.{Stop}
 use Rattle.rp_top.specs.declared.stops.Stop.TheVariants as stops
 
@@ -22,17 +22,17 @@ pub came_further : (a b c : Option (List ℕ)) (r s : Reading) (piece : List ℕ
 came_further a b c r s piece h came leads = record {
   bytes = h.bytes ++ piece;
   comes = comes_more a b c h.bytes piece h.comes came;
-  leads = reads_pieces (unread OneNode false) h.bytes piece ∙ ap (λ v. v >>= λ t. fed_all t piece) h.leads ∙ leads;
+  leads = reads_pieces (unread false) h.bytes piece ∙ ap (λ v. v >>= λ t. fed_all t piece) h.leads ∙ leads;
 }
 
-stopped : (bytes piece rest : List ℕ) (r : Reading) (fault : ScriptFault) → fed_all (unread OneNode false) bytes ≡ Ok r → fed_all r piece ≡ Err fault
+stopped : (bytes piece rest : List ℕ) (r : Reading) (fault : ScriptFault) → fed_all (unread false) bytes ≡ Ok r → fed_all r piece ≡ Err fault
     → script_of ((bytes ++ piece) ++ rest) ≡ Err fault
 stopped bytes piece rest r fault leads stops =
-    sym (reads_meaning OneNode false ((bytes ++ piece) ++ rest))
-    ∙ ap (λ v. v >>= λ s. finished s s.line) (reads_pieces (unread OneNode false) (bytes ++ piece) rest
-    ∙ ap (λ v. v >>= λ t. fed_all t rest) (reads_pieces (unread OneNode false) bytes piece ∙ ap (λ v. v >>= λ t. fed_all t piece) leads ∙ stops))
+    sym (reads_meaning false ((bytes ++ piece) ++ rest))
+    ∙ ap (λ v. v >>= λ s. finished s s.line) (reads_pieces (unread false) (bytes ++ piece) rest
+    ∙ ap (λ v. v >>= λ t. fed_all t rest) (reads_pieces (unread false) bytes piece ∙ ap (λ v. v >>= λ t. fed_all t piece) leads ∙ stops))
 
-stopped_here : (bytes piece : List ℕ) (r : Reading) (fault : ScriptFault) → fed_all (unread OneNode false) bytes ≡ Ok r → fed_all r piece ≡ Err fault
+stopped_here : (bytes piece : List ℕ) (r : Reading) (fault : ScriptFault) → fed_all (unread false) bytes ≡ Ok r → fed_all r piece ≡ Err fault
     → script_of (bytes ++ piece) ≡ Err fault
 stopped_here bytes piece r fault leads stops = ap (script_of) (sym (append-nil (bytes ++ piece))) ∙ stopped bytes piece [] r fault leads stops
 
@@ -64,5 +64,29 @@ came_whole a b c r res h came end gives =
       all.bytes,
       whole a c all.bytes all.comes end,
       (let P : Result (List NumberedLine) ScriptFault → Type 0 = λ v. Gives res v in
-          subst P (sym (ap (λ v. v >>= λ s. finished s s.line) all.leads) ∙ reads_meaning OneNode false all.bytes) gives),
+          subst P (sym (ap (λ v. v >>= λ s. finished s s.line) all.leads) ∙ reads_meaning false all.bytes) gives),
     )
+
+-- what a stop of the reading says of the source: nothing was read behind this piece
+no_further : (a b c : Option (List ℕ)) (r : Reading) (piece : List ℕ) (fault : ScriptFault) → HasCome a b r → Comes b piece c → length piece ≤ 4096
+    → fed_all r piece ≡ Err fault → HasStopped a c fault
+no_further a b c r piece fault h came few stops = record {
+  before = h.bytes;
+  piece = piece;
+  few = few;
+  comes = comes_more a b c h.bytes piece h.comes came;
+  reading = r;
+  goes_on = h.leads;
+  ends = inl stops;
+}
+
+pub came_no_further : (a b c : Option (List ℕ)) (r : Reading) (piece : List ℕ) (stop : Stop) → HasCome a b r → Comes b piece c → length piece ≤ 4096
+    → Gives {X = Reading} (Err stop) (fed_all r piece) → (fault : ScriptFault)
+    → ◌≡◌ {A = Result (Seq NumberedLine) Stop} (Err stop) (Err (stops.Judged fault)) → HasStopped a c fault
+came_no_further a b c r piece (stops.Judged first) h came few gives fault same =
+    subst (λ (f : ScriptFault). HasStopped a c f) (judged same) (no_further a b c r piece first h came few gives)
+  where
+    judged : ◌≡◌ {A = Result (Seq NumberedLine) Stop} (Err (stops.Judged first)) (Err (stops.Judged fault)) → first ≡ fault
+    judged e = cc
+came_no_further a b c r piece stops.NoMemory h came few gives fault same = absurd (cc)
+came_no_further a b c r piece stops.ReadFault h came few gives fault same = absurd (cc)

@@ -1,21 +1,26 @@
 -- What a call answers and writes.
-use Rattle.std.specs.Prelude.{◌≡◌, ℕ, ◌++◌, ◌&&◌, List, [], ◌∷◌, Option, None, Some, Result, Ok, Err, codes, if◌then◌else◌}
-use Rattle.std.specs.Str.{bytes_eq}
+use Rattle.std.specs.Prelude.{◌≡◌, ℕ, ◌++◌, List, [], ◌∷◌, Option, None, Some, Result, Ok, Err, codes}
 use Rattle.rp_base.specs.declared.Which.{Which}
 use Rattle.rp_base.specs.declared.Which.TheVariants.{Lines, LineBytes, Commands, Events, Weight, ReportBytes, DiskBytes}
 use Rattle.rp_outside.specs.Devices.{Adds, AddsFront}
+use Rattle.rp_report.specs.Json.{json_report}
 use Rattle.rp_report.specs.Report.{report}
 use Rattle.rp_report.specs.Words.{newline, spaced}
 use Rattle.rp_script.specs.declared.faults.LineKind.{LineKind}
 use Rattle.rp_script.specs.declared.faults.LineKind.TheVariants as kinds
 use Rattle.rp_script.specs.declared.faults.ScriptFault.{ScriptFault}
 use Rattle.rp_script.specs.declared.faults.ScriptFault.TheVariants as faults
-use Rattle.rp_script.specs.declared.lines.NumberedLine.{NumberedLine}
+use Rattle.rp_lines.specs.Players.{Player}
+use Rattle.rp_lines.specs.Views.{IsViewOf}
+use Rattle.rp_gen.specs.Scripts.{script_of as generated}
 use Rattle.rp_report.specs.Summary.{summary}
 use Rattle.rp_report.specs.declared.views.View.{View}
-use Rattle.rp_top.specs.Scripts.{script_of, shown_of}
-use Rattle.rp_top.specs.declared.statuses.Form.{Form}
-use Rattle.rp_top.specs.declared.statuses.Form.TheVariants as forms
+use Rattle.rp_top.specs.Scripts.{run_of}
+use Rattle.rp_words.specs.Asked.{asked_of}
+use Rattle.rp_words.specs.declared.asks.Asked.{Asked}
+use Rattle.rp_words.specs.declared.asks.Asked.TheVariants as asks
+use Rattle.rp_words.specs.declared.asks.Form.{Form}
+use Rattle.rp_words.specs.declared.asks.Form.TheVariants as forms
 use Rattle.rp_top.specs.declared.statuses.Status.{Status}
 use Rattle.rp_top.specs.declared.statuses.Status.TheVariants as statuses
 
@@ -36,7 +41,6 @@ kind_text kinds.BadSpan = codes "bad-span"
 kind_text kinds.NotSent = codes "not-sent"
 kind_text kinds.ExtraWord = codes "extra-word"
 kind_text kinds.BadByte = codes "bad-byte"
-kind_text kinds.NotBuilt = codes "not-built"
 kind_text kinds.NotJson = codes "not-json"
 kind_text kinds.NotReport = codes "not-report"
 
@@ -60,77 +64,78 @@ fault_line (faults.Limit which count) =
 -- a view in a form
 abbrev pub written : Form → View → List ℕ
 written forms.Text view = report view
+written forms.Json view = json_report view
 written forms.Summary view = summary view
 
--- what is written for a script of this meaning
-abbrev pub output : Form → Result (List NumberedLine) ScriptFault → List ℕ
-output form (Ok lines) = written form (shown_of lines)
-output form (Err fault) = fault_line fault
+-- what is written at the end of a run: a view of its world and of its notes, in the form; or why it
+-- did not come to its end
+abbrev pub IsOutput : Form → Result Player ScriptFault → List ℕ → Type 0
+IsOutput form (Ok p) text =
+    (view : View) × IsViewOf p.world.nodes p.notes view × (text ≡ written form view)
+IsOutput form (Err fault) text = text ≡ fault_line fault
 
--- the status for a script of this meaning
-abbrev pub status_of : Result (List NumberedLine) ScriptFault → Status
-status_of (Ok lines) = statuses.Ok
-status_of (Err (faults.Refused line word kind)) = statuses.Refused line word kind
-status_of (Err (faults.Limit which count)) = statuses.Limit which count
+-- the status of a script that was not played to its end
+abbrev pub fault_status : ScriptFault → Status
+fault_status (faults.Refused line word kind) = statuses.Refused line word kind
+fault_status (faults.Limit which count) = statuses.Limit which count
 
--- this status and this text were due and come, but for a fault or want of memory: at a read fault
--- and at want of memory nothing was written, at a write fault a front of the text
-abbrev pub Writes : Status → Status → List ℕ → Option (List ℕ) → Option (List ℕ) → Type 0
-Writes statuses.ReadFault due text old new = Adds old [] new
-Writes statuses.NoMemory due text old new = Adds old [] new
-Writes statuses.WriteFault due text old new = AddsFront old text new
-Writes status due text old new = (status ≡ due) × Adds old text new
+-- the status at the end of a run
+abbrev pub status_of : Result Player ScriptFault → Status
+status_of (Ok end) = statuses.Ok
+status_of (Err fault) = fault_status fault
 
--- what a run answers and writes in a form for a script of this meaning
-abbrev pub Answers : Status → Form → Result (List NumberedLine) ScriptFault
+-- this status and such a text were due and come, but for a fault or want of memory: at a read fault
+-- and at want of memory nothing was written, at a write fault a front of such a text
+abbrev pub Writes : Status → Status → (List ℕ → Type 0) → Option (List ℕ) → Option (List ℕ) → Type 0
+Writes statuses.ReadFault due IsText old new = Adds old [] new
+Writes statuses.NoMemory due IsText old new = Adds old [] new
+Writes statuses.WriteFault due IsText old new =
+    (text : List ℕ) × IsText text × AddsFront old text new
+Writes status due IsText old new =
+    (status ≡ due) × ((text : List ℕ) × IsText text × Adds old text new)
+
+-- what a run of this meaning answers and writes in a form
+abbrev pub Answers : Status → Form → Result Player ScriptFault
     → Option (List ℕ) → Option (List ℕ) → Type 0
 Answers status form meaning old new =
-    Writes status (status_of meaning) (output form meaning) old new
-
--- the form that a word names
-abbrev pub form_named : List ℕ → Option Form
-form_named word = if bytes_eq word (codes "text") then Some forms.Text
-    else (if bytes_eq word (codes "summary") then Some forms.Summary else None)
-
--- the form that one word of an option asks for
-abbrev pub form_in : List ℕ → Option Form
-form_in option = if bytes_eq option (codes "--form=text") then Some forms.Text
-    else (if bytes_eq option (codes "--form=summary") then Some forms.Summary else None)
-
--- the form in which the words ask for a run: `run`, `run --form=F` or `run --form F`
-abbrev pub form_asked : List (List ℕ) → Option Form
-form_asked (word ∷ []) = if bytes_eq word (codes "run") then Some forms.Text else None
-form_asked (word ∷ option ∷ []) = if bytes_eq word (codes "run") then form_in option else None
-form_asked (word ∷ option ∷ name ∷ []) =
-    if bytes_eq word (codes "run") && bytes_eq option (codes "--form") then form_named name else None
-form_asked words = None
+    Writes status (status_of meaning) (IsOutput form meaning) old new
 
 -- what is written where the words ask for nothing
 abbrev pub usage_line : List ℕ
 usage_line = codes "usage: rp run [--form F] | rp race [--workers W] [--loss P] [--salt S] [--form F] | rp gen NUMBER SIZE" ++ newline
 
-abbrev pub status_where : Option Form → List ℕ → Status
+-- the words ask for nothing that is done
+abbrev pub IsUnused : Option Asked → Type 0
+IsUnused None = Unit {0}
+IsUnused (Some (asks.Run form)) = ⊥
+IsUnused (Some (asks.Race plan)) = Unit {0}
+IsUnused (Some (asks.Gen number size)) = ⊥
+
+-- the words ask for a run
+abbrev pub IsRunAsked : Option Asked → Type 0
+IsRunAsked None = ⊥
+IsRunAsked (Some (asks.Run form)) = Unit {0}
+IsRunAsked (Some (asks.Race plan)) = ⊥
+IsRunAsked (Some (asks.Gen number size)) = ⊥
+
+-- the status that is due for what is asked and a source of these bytes; a race is not played yet
+abbrev pub status_where : Option Asked → List ℕ → Status
 status_where None bytes = statuses.Usage
-status_where (Some form) bytes = status_of (script_of bytes)
+status_where (Some (asks.Run form)) bytes = status_of (run_of bytes)
+status_where (Some (asks.Race plan)) bytes = statuses.Usage
+status_where (Some (asks.Gen number size)) bytes = statuses.Ok
 
--- the status that is due for these words and a source of these bytes
+-- and for these words
 abbrev pub status_due : List (List ℕ) → List ℕ → Status
-status_due words bytes = status_where (form_asked words) bytes
+status_due words bytes = status_where (asked_of words) bytes
 
-abbrev pub text_where : Option Form → List ℕ → List ℕ
-text_where None bytes = usage_line
-text_where (Some form) bytes = output form (script_of bytes)
+-- the text that is due for what is asked
+abbrev pub IsDue : Option Asked → List ℕ → List ℕ → Type 0
+IsDue None bytes text = text ≡ usage_line
+IsDue (Some (asks.Run form)) bytes text = IsOutput form (run_of bytes) text
+IsDue (Some (asks.Race plan)) bytes text = text ≡ usage_line
+IsDue (Some (asks.Gen number size)) bytes text = text ≡ generated number size
 
--- the text that is due for them
-abbrev pub text_due : List (List ℕ) → List ℕ → List ℕ
-text_due words bytes = text_where (form_asked words) bytes
-
--- a line is refused
-abbrev pub IsRefused : Result (List NumberedLine) ScriptFault → Type 0
-IsRefused (Err (faults.Refused line word kind)) = Unit {0}
-IsRefused meaning = ⊥
-
--- a limit is passed
-abbrev pub IsLimited : Result (List NumberedLine) ScriptFault → Type 0
-IsLimited (Err (faults.Limit which count)) = Unit {0}
-IsLimited meaning = ⊥
+-- and for these words
+abbrev pub IsTextDue : List (List ℕ) → List ℕ → List ℕ → Type 0
+IsTextDue words bytes text = IsDue (asked_of words) bytes text

@@ -1,10 +1,9 @@
 -- A result of the code against what the bytes mean: want of memory and a fault of the source are
 -- free.
-use Rattle.std.specs.Prelude.{◌≡◌, ℕ, false, List, Option, None, Some, Result, Ok}
+use Rattle.std.specs.Prelude.{◌≡◌, ◌⊎◌, ℕ, ◌≤◌, ◌++◌, false, List, [], length, Option, None, Some, Result, Ok, Err}
 use Rattle.rp_base.specs.Gives as results
-use Rattle.rp_outside.specs.Devices.{Comes}
-use Rattle.rp_script.specs.Reading.{Reading, unread, fed_all}
-use Rattle.rp_script.specs.declared.built.Forms.TheVariants.{OneNode}
+use Rattle.rp_outside.specs.Devices.{Comes, IsAtEnd}
+use Rattle.rp_script.specs.Reading.{Reading, unread, fed_all, finished}
 use Rattle.rp_script.specs.declared.faults.ScriptFault.{ScriptFault}
 use Rattle.rp_script.specs.declared.faults.ScriptStop.{ScriptStop}
 use Rattle.rp_script.specs.declared.faults.ScriptStop.TheVariants as inner
@@ -30,4 +29,20 @@ Gives result meant = results.Gives (λ x. x) fault_of result meant
 pub record HasCome (old new : Option (List ℕ)) (reading : Reading) : Type 0 where
   pub bytes : List ℕ
   pub comes : Comes old bytes new
-  pub leads : fed_all (unread OneNode false) bytes ≡ Ok reading
+  pub leads : fed_all (unread false) bytes ≡ Ok reading
+
+-- the piece holds what ends the reading; or the source ends, and that does
+abbrev pub EndsIn : Reading → (piece : List ℕ) → (left : Option (List ℕ)) → ScriptFault → Type 0
+EndsIn reading piece left fault =
+    (fed_all reading piece ≡ Err fault)
+    ⊎ ((piece ≡ []) × IsAtEnd left × (finished reading reading.line ≡ Err fault))
+
+-- the source was read no further than the piece of up to 4,096 bytes in which the reading ended
+pub record HasStopped (old new : Option (List ℕ)) (fault : ScriptFault) : Type 0 where
+  pub before : List ℕ
+  pub piece : List ℕ
+  pub few : length piece ≤ 4096
+  pub comes : Comes old (before ++ piece) new
+  pub reading : Reading
+  pub goes_on : fed_all (unread false) before ≡ Ok reading
+  pub ends : EndsIn reading piece new fault

@@ -1,7 +1,6 @@
 //! The calls of the program: from words and bytes to bytes and a status.
 #![tactic(auto)]
 
-mod asks;
 mod calls;
 mod outputs;
 mod plays;
@@ -9,6 +8,7 @@ mod sources;
 mod statuses;
 mod stops;
 
-pub use calls::{run_call, top_call};
+pub use calls::{gen_call, run_call, top_call};
 pub use rp_script::LineKind;
-pub use statuses::{Form, Status};
+pub use rp_words::Form;
+pub use statuses::Status;

@@ -1,7 +1,7 @@
 //! The lines that are written in place of a report.
 ghost use Rattle.std.specs.Prelude.{◌≡◌, ℕ, ◌++◌, ◌⊎◌, List, [], OnOk};
 ghost use Rattle.rp_outside.specs.Devices.{Rose, Adds, AddsFront};
-ghost use Rattle.rp_top.specs.Answers.{kind_text, which_text, fault_line};
+ghost use Rattle.rp_top.specs.Answers.{kind_text, which_text, fault_line, fault_status};
 
 use crate::statuses::Status;
 use rp_base::{NoMemory, Text, Which, push_number, push_word};
@@ -27,7 +27,6 @@ fn kind_word(kind: LineKind) -> &'static str
         LineKind::NotSent => "not-sent",
         LineKind::ExtraWord => "extra-word",
         LineKind::BadByte => "bad-byte",
-        LineKind::NotBuilt => "not-built",
         LineKind::NotJson => "not-json",
         LineKind::NotReport => "not-report",
     }
@@ -70,5 +69,15 @@ pub fn push_fault(out: &mut Text, fault: ScriptFault) -> Result<(), NoMemory>
             push_number(out, count)?;
             push_word(out, "\n")
         }
+    }
+}
+
+/// The status of a script that was not played to its end.
+pub fn status_of_fault(fault: ScriptFault) -> Status
+    ensures { result ≡ fault_status fault }
+{
+    match fault {
+        ScriptFault::Refused { line, word, kind } => Status::Refused { line, word, kind },
+        ScriptFault::Limit { which, count } => Status::Limit { which, count },
     }
 }

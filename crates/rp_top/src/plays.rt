@@ -1,26 +1,97 @@
-//! The play of a script that was read whole.
-ghost use Rattle.std.specs.Prelude.{◌≡◌, ◌≤◌, length, IfOk, OnOk};
-ghost use Rattle.std.specs.List.{AllByRecursion};
+//! The play of a script that was read whole, and what its world shows.
+ghost use Rattle.std.specs.Prelude.{◌≡◌, ◌≢◌, ◌≤◌, ℕ, Err, Ok, length, IfOk};
+ghost use Rattle.rp_events.specs.Lawful.{IsReached};
+ghost use Rattle.rp_lawful.specs.Playable.{IsFront};
+ghost use Rattle.rp_lines.specs.Players.{first_player};
+ghost use Rattle.rp_lines.specs.Scripts.{played_all};
+ghost use Rattle.rp_script.specs.Bounds.{IsScript};
+ghost use Rattle.rp_top.specs.Answers.{IsOutput, written};
+ghost use Rattle.rp_top.specs.Gives.{Gives};
+ghost use Rattle.rp_top.specs.Scripts.{behind_first, by_play, nodes_in, play_of};
 ghost use Rattle.rp_report.specs.Shown.{IsShownView};
-ghost use Rattle.rp_script.specs.Bounds.{IsTaken};
-ghost use Rattle.rp_script.specs.declared.built.Forms.TheVariants.{OneNode};
-ghost use Rattle.rp_top.specs.Scripts.{shown_of};
-ghost use Rattle.rp_worldsafe.specs.Headline.{IsHeadline};
+ghost use Rattle.rp_world.specs.Plays.{Does};
 
-use rp_alone::play_lines;
-use rp_base::NoMemory;
-use rp_report::View;
-use rp_script::NumberedLine;
+use crate::stops::Stop;
+use rp_base::{NoMemory, Text};
+use rp_chronicle::view;
+use rp_report::{View, write_json, write_summary, write_text};
+use rp_script::{NumberedLine, ScriptFault, ScriptLine};
+use rp_words::Form;
+use rp_world::{PlayFault, World};
 use std::alloc::Global;
 
-/// What one node shows that has played the lines of a script.
-pub fn view_played(alloc: Global, lines: &[NumberedLine]) -> Result<View, NoMemory>
-    requires few { length lines.now ≤ 65536 }
-    requires taken { AllByRecursion (IsTaken OneNode) lines.now }
-    ensures view { IfOk result (λ view. view ≡ shown_of lines.now) }
-    ensures shown { IfOk result IsShownView }
-    ensures headline { OnOk result (IsHeadline lines.now) }
+/// How many nodes the first line names.
+fn nodes_named(lines: &[NumberedLine]) -> u8
+    ensures { result ≡ nodes_in lines.now }
 {
-    let world = play_lines(alloc, lines)?;
-    world.into_view()
+    match lines {
+        [first, ..] => match first.line {
+            ScriptLine::Cluster { nodes } => nodes,
+            _ => 0,
+        },
+        [] => 0,
+    }
+}
+
+/// The lines behind the first.
+fn behind_first(lines: &[NumberedLine]) -> &[NumberedLine]
+    ensures { result.now ≡ behind_first lines.now }
+{
+    match lines {
+        [_, rest @ ..] => rest,
+        [] => lines,
+    }
+}
+
+/// Plays lines one after another, from the nodes' start.
+fn play_all(world: &mut World, nodes: u8, lines: &[NumberedLine]) -> Result<(), PlayFault>
+    requires first { world.old ≡ first_player nodes }
+    requires front { IsFront nodes lines.now }
+    ensures { Does result world.new (played_all (first_player nodes) lines.now) }
+{
+    for line in lines {
+        world.play(line.number, &line.line)?;
+    }
+    Ok(())
+}
+
+/// Why a play stopped.
+fn stop_of_play(fault: PlayFault) -> Stop
+{
+    match fault {
+        PlayFault::Limit { which, count } => Stop::Judged {
+            fault: ScriptFault::Limit { which, count },
+        },
+        PlayFault::NoMemory => Stop::NoMemory,
+    }
+}
+
+/// The world that has played the lines of a script.
+pub fn play_script(alloc: Global, lines: &[NumberedLine]) -> Result<World, Stop>
+    requires few { length lines.now ≤ 65536 }
+    requires is_script { IsScript lines.now }
+    ensures played { Gives result (by_play (play_of lines.now)) }
+    ensures reached { IfOk result (λ w. IsReached (nodes_in lines.now) w.world.nodes) }
+    ensures calm { result ≢ Err Stop.ReadFault }
+{
+    let nodes = nodes_named(lines);
+    let mut world = World::start(alloc, nodes)?;
+    match play_all(&mut world, nodes, behind_first(lines)) {
+        Ok(()) => Ok(world),
+        Err(fault) => Err(stop_of_play(fault)),
+    }
+}
+
+/// A view in a form.
+fn written(alloc: Global, view: &View, form: Form) -> Result<Text, NoMemory>
+    requires { IsShownView view.now }
+    ensures { IfOk result (λ text. text ≡ written form view.now) }
+{
+    let mut text = Text::new(alloc);
+    match form {
+        Form::Text => write_text(view, &mut text)?,
+        Form::Json => write_json(view, &mut text)?,
+        Form::Summary => write_summary(view, &mut text)?,
+    }
+    Ok(text)
 }

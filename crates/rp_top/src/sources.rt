@@ -1,17 +1,16 @@
 //! The reading of a script from a source.
 ghost use Rattle.std.specs.Prelude.{◌≡◌, ◌≢◌, ℕ, ◌+◌, ◌≤◌, List, Err, length, IfOk, OnOk};
 ghost use Rattle.rp_outside.specs.Devices.{Rose, IsAtEnd, IsAll};
-ghost use Rattle.std.specs.List.{AllByRecursion};
-ghost use Rattle.rp_script.specs.Bounds.{IsTaken};
-ghost use Rattle.rp_script.specs.declared.built.Forms.TheVariants.{OneNode};
+ghost use Rattle.rp_script.specs.Bounds.{IsScript};
 ghost use Rattle.rp_script.specs.Reading.{fed_all, finished, weight};
+ghost use Rattle.rp_script.specs.declared.faults.ScriptFault.{ScriptFault};
 ghost use Rattle.rp_top.specs.Scripts.{script_of};
-ghost use Rattle.rp_top.specs.Gives.{Gives};
+ghost use Rattle.rp_top.specs.Gives.{Gives, HasStopped};
 
 use crate::stops::{Stop, stop_of};
 use rp_base::Seq;
 use rp_outside::Source;
-use rp_script::{Forms, NumberedLine, ScriptReader};
+use rp_script::{NumberedLine, ScriptReader};
 use std::alloc::Global;
 
 /// Feeds a piece of the source.
@@ -20,7 +19,6 @@ fn feed(reader: ScriptReader, piece: &[u8]) -> Result<ScriptReader, Stop>
     ensures calm { result ≢ Err Stop.ReadFault }
     ensures further { IfOk result (λ fed. weight reader + length piece.now ≤ weight fed) }
     ensures ends { IfOk result (λ fed. weight fed ≤ 16842752) }
-    ensures forms { IfOk result (λ fed. fed.forms ≡ reader.forms) }
 {
     match reader.feed(piece) {
         Ok(fed) => Ok(fed),
@@ -33,7 +31,7 @@ fn finish(reader: ScriptReader) -> Result<Seq<NumberedLine>, Stop>
     ensures gives { Gives result (finished reader reader.line) }
     ensures calm { result ≢ Err Stop.ReadFault }
     ensures few { IfOk result (λ lines. length lines ≤ 65536) }
-    ensures taken { IfOk result (λ lines. AllByRecursion (IsTaken reader.forms) lines) }
+    ensures is_script { IfOk result IsScript }
 {
     match reader.finish() {
         Ok(lines) => Ok(lines),
@@ -47,13 +45,15 @@ pub fn read_script<S: Source>(alloc: Global, source: &mut S) -> Result<Seq<Numbe
     ensures script { (bytes : List ℕ) × IsAll (S.left source.old) bytes
         × Gives result (script_of bytes) }
     ensures end { OnOk result (IsAtEnd (S.left source.new)) }
+    ensures stops { (fault : ScriptFault) → result ≡ Err (Stop.Judged fault)
+        → HasStopped (S.left source.old) (S.left source.new) fault }
     ensures few { IfOk result (λ lines. length lines ≤ 65536) }
-    ensures taken { IfOk result (λ lines. AllByRecursion (IsTaken OneNode) lines) }
+    ensures is_script { IfOk result IsScript }
     ensures faults { S.faults source.old ≤ S.faults source.new }
     ensures cause { result ≡ Err Stop.ReadFault → Rose (S.faults source.old) (S.faults source.new) }
     ensures calm { result ≢ Err Stop.ReadFault → S.faults source.new ≡ S.faults source.old }
 {
-    let mut reader = ScriptReader::new(alloc, false, Forms::OneNode);
+    let mut reader = ScriptReader::new(alloc, false);
     let mut buffer = [0u8; 4096];
     loop {
         let Ok(n) = source.read(&mut buffer) else {

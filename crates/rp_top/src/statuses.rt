@@ -5,15 +5,6 @@ ghost use Rattle.rp_top.specs.Status.{code_of};
 use rp_base::Which;
 use rp_script::LineKind;
 
-/// In which form a report is written.
-#[derive(Clone, Copy, PartialEq, Eq)]
-pub enum Form {
-    /// The report.
-    Text,
-    /// Ten lines that count what the report shows.
-    Summary,
-}
-
 /// How a call of the program ended.
 #[derive(Clone, Copy, PartialEq, Eq)]
 pub enum Status {
@@ -27,7 +18,7 @@ pub enum Status {
         word: u32,
         kind: LineKind,
     },
-    /// The script passes a limit, by this count.
+    /// The script, or its play, passes a limit, by this count.
     Limit {
         which: Which,
         count: u64,

@@ -1,5 +1,5 @@
 -- What the words of the program ask for.
-use Rattle.std.specs.Prelude.{ℕ, ◌^◌, ◌-◌, ◌&&◌, ◌||◌, nat_le, is_some, if◌then◌else◌, List, [], ◌∷◌, Option, None, Some, option_map, option_and_then, codes, Result, Ok, Err}
+use Rattle.std.specs.Prelude.{ℕ, ◌≤◌, ◌^◌, ◌-◌, ◌&&◌, ◌||◌, nat_le, is_some, if◌then◌else◌, List, [], ◌∷◌, Option, None, Some, option_map, option_and_then, codes, Result, Ok, Err}
 use Rattle.std.specs.List.{list_any}
 use Rattle.std.specs.Str.{bytes_eq}
 use Rattle.rp_base.specs.Numbers.{u64_of}
@@ -82,6 +82,12 @@ abbrev pub script_by : (number size : Text) → Option Asked
 script_by number size =
     option_and_then (λ n. option_map (asks.Gen n) (number_in 1 20000 size))
     (number_in 0 (2 ^ 64 - 1) number)
+
+-- a script that is asked for has 1 to 20,000 commands
+abbrev pub IsSized : Asked → Type 0
+IsSized (asks.Run form) = Unit {0}
+IsSized (asks.Race plan) = Unit {0}
+IsSized (asks.Gen number size) = (1 ≤ size) × (size ≤ 20000)
 
 -- what a command asks for
 abbrev pub asked_in : Line → Option Asked

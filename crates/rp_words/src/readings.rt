@@ -5,7 +5,7 @@ ghost use Rattle.clap.specs.Matches.{found_of, first_value};
 ghost use Rattle.clap.specs.Simple.{subcommand_rows_of};
 ghost use Rattle.clap.specs.Values.{kind_of};
 ghost use Rattle.rp_words.specs.Words.{is_odd};
-ghost use Rattle.rp_words.specs.Asked.{Line, line_of, form_named, form_or_text, number_in, number_or, plan_by, script_by, asked_in, asked_of};
+ghost use Rattle.rp_words.specs.Asked.{Line, line_of, form_named, form_or_text, number_in, number_or, plan_by, script_by, asked_in, asked_of, IsSized};
 ghost use Rattle.rp_words.specs.Shown.{shown, asked_at};
 
 use crate::asks::{Asked, Form, RacePlan, WordsFault};
@@ -51,6 +51,7 @@ fn form_or_text(found: Option<&str>) -> Option<Form>
 /// A number from `low` to `high`.
 fn number_in(word: &str, low: u64, high: u64) -> Option<u64>
     ensures value { result ≡ number_in low high word.now }
+    ensures least { IfSome result (λ n. low ≤ n) }
     ensures most { IfSome result (λ n. n ≤ high) }
 {
     match read_u64(word.as_bytes()) {
@@ -89,7 +90,8 @@ fn plan(matches: &ArgMatches<'_>) -> Option<RacePlan>
 
 /// A script's number, and how many commands it has.
 fn script(number: &str, size: &str) -> Option<Asked>
-    ensures { result ≡ script_by number.now size.now }
+    ensures asked { result ≡ script_by number.now size.now }
+    ensures sized { IfSome result IsSized }
 {
     let number = number_in(number, 0, u64::MAX)?;
     let size = number_in(size, 1, 20_000)?;
@@ -98,7 +100,8 @@ fn script(number: &str, size: &str) -> Option<Asked>
 
 /// What a command asks for, by its name and what was found for it.
 fn asked(name: &str, matches: &ArgMatches<'_>) -> Option<Asked>
-    ensures { result ≡ asked_at name.now (first_value (found_of matches.now)) }
+    ensures asked { result ≡ asked_at name.now (first_value (found_of matches.now)) }
+    ensures sized { IfSome result IsSized }
 {
     match name {
         "run" => {
@@ -115,8 +118,9 @@ fn asked(name: &str, matches: &ArgMatches<'_>) -> Option<Asked>
 
 /// What was found for the command that clap entered asks for.
 fn found(matches: &ArgMatches<'_>) -> Option<Asked>
-    ensures { (line : Line) → subcommand_rows_of matches.now ≡ Some (shown line)
+    ensures asked { (line : Line) → subcommand_rows_of matches.now ≡ Some (shown line)
         → result ≡ asked_in line }
+    ensures sized { IfSome result IsSized }
 {
     match matches.subcommand() {
         Some((name, inner)) => asked(name, inner),
@@ -161,6 +165,7 @@ fn any_odd(words: &[String]) -> bool
 fn judged(alloc: Global, words: &[String]) -> Result<Asked, WordsFault>
     requires { list_any is_odd (map string_bytes words.now) ≡ false }
     ensures ok { IfOk result (λ asked. asked_of (map string_bytes words.now) ≡ Some asked) }
+    ensures sized { IfOk result IsSized }
     ensures err { IfErr result (λ fault. fault ≡ WordsFault.Usage
         → asked_of (map string_bytes words.now) ≡ None) }
 {
@@ -174,6 +179,7 @@ fn judged(alloc: Global, words: &[String]) -> Result<Asked, WordsFault>
 /// `Usage` comes exactly where they ask for nothing.
 pub fn read_words(alloc: Global, words: &[String]) -> Result<Asked, WordsFault>
     ensures ok { IfOk result (λ asked. asked_of (map string_bytes words.now) ≡ Some asked) }
+    ensures sized { IfOk result IsSized }
     ensures err { IfErr result (λ fault. fault ≡ WordsFault.Usage
         → asked_of (map string_bytes words.now) ≡ None) }
 {

@@ -8,13 +8,13 @@ pub returns-in-Ok-clause-ok : goal.returns-in-Ok-clause-ok
 returns-in-Ok-clause-ok c =
     let line = c.in-Ok.ensures.ok in
     answer_ok c.found.result (asked_of (map string_bytes c.args.words.now)) c.ok_or.result
-    (line_asks (map string_bytes c.args.words.now) line.0 c.found.result c.requires line.1 (c.found.ensures line.0 line.2)) c.ok_or.ensures.value
+    (line_asks (map string_bytes c.args.words.now) line.0 c.found.result c.requires line.1 (c.found.ensures.asked line.0 line.2)) c.ok_or.ensures.value
 
 pub returns-in-Ok-clause-err : goal.returns-in-Ok-clause-err
 returns-in-Ok-clause-err c =
     let line = c.in-Ok.ensures.ok in
     answer_err c.found.result (asked_of (map string_bytes c.args.words.now)) c.ok_or.result
-    (line_asks (map string_bytes c.args.words.now) line.0 c.found.result c.requires line.1 (c.found.ensures line.0 line.2)) c.ok_or.ensures.value
+    (line_asks (map string_bytes c.args.words.now) line.0 c.found.result c.requires line.1 (c.found.ensures.asked line.0 line.2)) c.ok_or.ensures.value
 
 pub returns-in-Err-clause-err : goal.returns-in-Err-clause-err
 returns-in-Err-clause-err c = λ usage. no_line_asks_nothing (map string_bytes c.args.words.now) c.requires (c.in-Err.ensures.err usage)

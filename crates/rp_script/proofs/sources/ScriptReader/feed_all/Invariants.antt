@@ -8,5 +8,4 @@ invariant-loop-byte l = record {
   leads : fed_all l.self (drop l.byte-index l.piece) ≡ fed_all l.fn.self l.piece;
   further : weight l.fn.self + l.byte-index ≤ weight l.self;
   ends : weight l.self ≤ 16842752;
-  forms : l.self.forms ≡ l.fn.self.forms;
 }

@@ -5,7 +5,6 @@ pub invariant_of-self-2 : goal.invariant_of-self-2
 invariant_of-self-2 c =
     let room = rw (← c.self.view_is) at c.requires.room in
     let follows = rw (← c.self.view_is) at c.requires.follows in
-    let built = rw (← c.self.view_is) at c.requires.built in
-    line_told c.self.inside.forms c.self.inside.script c.keep.new.self c.self.inside.line.items c.clear.new.self.items c.self.inside.taken.items
+    line_told c.self.inside.script c.keep.new.self c.self.inside.line.items c.clear.new.self.items c.self.inside.taken.items
     c.push_line.new.taken.items _ c.args.said c.self.invariant room c.keep.ensures.lines c.clear.ensures.items c.keep.ensures.kept
-    c.in_ok-push_line.ensures.more c.requires.bounded built follows
+    c.in_ok-push_line.ensures.more follows

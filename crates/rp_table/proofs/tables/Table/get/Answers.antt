@@ -6,10 +6,10 @@ use Rattle.rp_table.proofs.tables.Table.get.Goals as goal
 
 pub returns-in-Ok : goal.returns-in-Ok
 returns-in-Ok c =
-    sym (get_here _ c.self.invariant _ ∙ read_found _ _ _ _ (rw c.deref.ensures.value at c.in-Ok.ensures.found) c.index.ensures)
+    sym (get_here _ c.self.invariant _ ∙ read_found _ _ _ _ c.in-Ok.ensures.found c.at.ensures)
     ∙ ap (λ h. get h.map c.args.key) c.self.view_is
 
 pub returns-in-Err : goal.returns-in-Err
 returns-in-Err c =
-    sym (get_here _ c.self.invariant _ ∙ find_absent _ _ _ c.self.invariant (rw c.deref.ensures.value at c.in-Err.ensures.absent))
+    sym (get_here _ c.self.invariant _ ∙ find_absent _ _ _ c.self.invariant c.in-Err.ensures.absent)
     ∙ ap (λ h. get h.map c.args.key) c.self.view_is

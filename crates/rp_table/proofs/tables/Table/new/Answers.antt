@@ -5,4 +5,4 @@ use Rattle.rp_table.proofs.Edits.{len_here}
 use Rattle.rp_table.proofs.tables.Table.new.Goals as goal
 
 pub returns : goal.returns
-returns c = ap (from_sorted {R = nat_cmp}) c.new.ensures.items ∙ empty_of_len _ (len_here _ refl)
+returns c = ap (from_sorted {R = nat_cmp}) c.new.ensures ∙ empty_of_len _ (len_here _ refl)

@@ -6,20 +6,22 @@ use Rattle.rp_table.proofs.tables.Table.write_one.Goals as goal
 
 pub invariant_of-self : goal.invariant_of-self
 invariant_of-self c =
-    (written c.self.inside.rows.items c.self.invariant _ c.args.key c.args.value (put_found _ _ _ _ (rw c.deref.ensures.value at c.in-Ok.ensures.found))).0
+    rw c.replace.ensures.list
+    (written c.self.inside.rows.list c.self.invariant _ c.args.key c.args.value (put_found _ _ _ _ c.in-Ok.ensures.found)).0
 
 pub invariant_of-self-in-Err : goal.invariant_of-self-in-Err
 invariant_of-self-in-Err c =
-    rw (c.insert.ensures.items, c.unwrap.ensures)
-    (written c.self.inside.rows.items c.self.invariant _ c.args.key c.args.value (put_absent _ _ _ _ (rw c.deref.ensures.value at c.in-Err.ensures.absent))).0
+    rw c.insert.ensures.list
+    (written c.self.inside.rows.list c.self.invariant _ c.args.key c.args.value (put_absent _ _ _ _ c.in-Err.ensures.absent)).0
 
 pub returns-in-Ok-clause-map : goal.returns-in-Ok-clause-map
 returns-in-Ok-clause-map c =
-    (written c.self.inside.rows.items c.self.invariant _ c.args.key c.args.value (put_found _ _ _ _ (rw c.deref.ensures.value at c.in-Ok.ensures.found))).1
-    ∙ ap (λ h. insert h.map c.args.key c.args.value) c.self.view_is
+    rw c.replace.ensures.list
+    ((written c.self.inside.rows.list c.self.invariant _ c.args.key c.args.value (put_found _ _ _ _ c.in-Ok.ensures.found)).1
+    ∙ ap (λ h. insert h.map c.args.key c.args.value) c.self.view_is)
 
 pub returns-in-Err-clause-map : goal.returns-in-Err-clause-map
 returns-in-Err-clause-map c =
-    rw (c.insert.ensures.items, c.unwrap.ensures)
-    ((written c.self.inside.rows.items c.self.invariant _ c.args.key c.args.value (put_absent _ _ _ _ (rw c.deref.ensures.value at c.in-Err.ensures.absent))).1
+    rw c.insert.ensures.list
+    ((written c.self.inside.rows.list c.self.invariant _ c.args.key c.args.value (put_absent _ _ _ _ c.in-Err.ensures.absent)).1
     ∙ ap (λ h. insert h.map c.args.key c.args.value) c.self.view_is)

@@ -1,0 +1,16 @@
+pub mod Buffers
+pub mod Worlds
+pub mod Books
+pub mod Coming
+pub mod Keeping
+pub mod Events
+pub mod Beside
+pub mod Asks
+pub mod Nexts
+pub mod Lines
+pub mod Playing
+pub mod Addressed
+pub mod Homes
+pub mod HomeHands
+pub mod HomeStates
+pub mod Receivers

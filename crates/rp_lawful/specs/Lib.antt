@@ -1,0 +1,4 @@
+pub mod Sound
+pub mod Comings
+pub mod Onward
+pub mod Playable

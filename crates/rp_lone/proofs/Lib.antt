@@ -1,6 +1,0 @@
-pub mod Known
-pub mod Assigning
-pub mod Flushing
-pub mod Carrying
-pub mod Writing
-pub mod Awaiting

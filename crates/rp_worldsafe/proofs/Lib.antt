@@ -1,6 +1,0 @@
-pub mod Runs
-pub mod Lookups
-pub mod Told
-pub mod Playing
-pub mod Answered
-pub mod HeadlineProof
