@@ -9,7 +9,7 @@ use crate::pieces::{base_of, records_to};
 use crate::seats::furthest;
 use rp_base::{NoMemory, RangeId, Seq};
 use rp_bufcore::BufferEnd;
-use rp_node::Node;
+use rp_node::{Node, Nodes};
 use rp_request::Record;
 use std::alloc::Global;
 
@@ -31,9 +31,8 @@ fn last_index<B: BufferEnd + Drop>(nodes: &[Node<B>], range: RangeId) -> u64
     }
 }
 
-/// The one list of a range: a record for each index up to the greatest that any node has applied, out
-/// of all that nodes keep, also where a replica was removed.
-pub fn assemble<B: BufferEnd + Drop>(
+/// The one list of a range, out of all that these nodes keep.
+fn list_of<B: BufferEnd + Drop>(
     alloc: Global,
     nodes: &[Node<B>],
     range: RangeId,
@@ -48,4 +47,18 @@ pub fn assemble<B: BufferEnd + Drop>(
         first: base_of(range) + 1,
         records,
     })
+}
+
+/// The one list of a range: a record for each index up to the greatest that any node has applied, out
+/// of all that nodes keep, also where a replica was removed.
+pub fn assemble<B: BufferEnd + Drop>(
+    alloc: Global,
+    nodes: &Nodes<B>,
+    range: RangeId,
+) -> Result<RangeList, NoMemory>
+    requires { IsReached (length nodes.now) (world_of nodes.now) }
+    ensures first { IfOk result (λ list. list.first ≡ base_of range + 1) }
+    ensures list { IfOk result (λ list. IsOneList (world_of nodes.now) range list.records) }
+{
+    list_of(alloc, nodes.as_slice(), range)
 }

@@ -12,7 +12,7 @@ use rp_apply::ApplyState;
 use rp_base::{NoMemory, RangeId, Seq};
 use rp_bufcore::BufferEnd;
 use rp_events::Parcel;
-use rp_node::Node;
+use rp_node::{Node, Nodes};
 use rp_report::{RangeView, View};
 use rp_request::{Notes, Replies};
 use rp_snapshot::Snapshot;
@@ -78,9 +78,8 @@ fn messages<B: BufferEnd + Drop>(nodes: &[Node<B>]) -> u64
     count
 }
 
-/// What the nodes of a world show beside these replies and notes: each range that some node has or
-/// had, with its one list, its state after the whole list, and what each node has of it.
-pub fn view<B: BufferEnd + Drop>(
+/// What these nodes show beside these replies and notes.
+fn view_of<B: BufferEnd + Drop>(
     alloc: Global,
     nodes: &[Node<B>],
     replies: Replies,
@@ -88,8 +87,6 @@ pub fn view<B: BufferEnd + Drop>(
 ) -> Result<View, NoMemory>
     requires { IsReached (length nodes.now) (world_of nodes.now) }
     ensures view { IfOk result (IsViewWith (world_of nodes.now) replies notes) }
-
-    // It can be written where the replies can.
     ensures shown { All IsShownAnswer replies → IfOk result IsShownView }
 {
     Ok(View {
@@ -99,4 +96,21 @@ pub fn view<B: BufferEnd + Drop>(
         replies,
         notes,
     })
+}
+
+/// What the nodes of a world show beside these replies and notes: each range that some node has or
+/// had, with its one list, its state after the whole list, and what each node has of it.
+pub fn view<B: BufferEnd + Drop>(
+    alloc: Global,
+    nodes: &Nodes<B>,
+    replies: Replies,
+    notes: Notes,
+) -> Result<View, NoMemory>
+    requires { IsReached (length nodes.now) (world_of nodes.now) }
+    ensures view { IfOk result (IsViewWith (world_of nodes.now) replies notes) }
+
+    // It can be written where the replies can.
+    ensures shown { All IsShownAnswer replies → IfOk result IsShownView }
+{
+    view_of(alloc, nodes.as_slice(), replies, notes)
 }
