@@ -1,3 +1,4 @@
 pub mod ReadsSource
 pub mod RunProof
 pub mod Playing
+pub mod Showing
