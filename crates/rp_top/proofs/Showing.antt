@@ -1,5 +1,6 @@
 -- What is shown of a world, from its nodes, its replies and its notes.
-use Rattle.std.proofs.Common.{◌≡◌, ℕ, List, length, map, Ok, refl, ap, sym, subst, length-map}
+use Rattle.std.proofs.Common.{◌≡◌, ℕ, List, length, map, Ok, refl, ap, sym, subst}
+use Rattle.std.proofs.lemmas.List.{length-map}
 use Rattle.rp_events.specs.Lawful.{IsReached}
 use Rattle.rp_events.specs.Worlds.{World}
 use Rattle.rp_lines.specs.Players.{Player}
@@ -16,7 +17,7 @@ use Rattle.rp_words.specs.declared.asks.Form.{Form}
 
 pub nodes_reached : {B : Type 0} (w : World) (nodes : List (Held B)) → world_of nodes ≡ w → IsReached (length w) w → IsReached (length nodes) (world_of nodes)
 nodes_reached {B} w nodes same h =
-    subst (λ (n : ℕ). IsReached n (world_of nodes)) (length-map (λ (k : Held B). k.node) nodes)
+    subst (λ (n : ℕ). IsReached n (world_of nodes)) (length-map nodes (λ (k : Held B). k.node))
     (subst (λ (v : World). IsReached (length v) v) (sym same) h)
 
 pub shows_world : {B : Type 0} (w : World) (nodes : List (Held B)) (notes kept : List Note) (replies : List ReplyLine) (v : View) → world_of nodes ≡ w → kept ≡ notes
