@@ -4,3 +4,4 @@ pub mod Plays
 pub mod Keeping
 pub mod Going
 pub mod Latest
+pub mod Runs
