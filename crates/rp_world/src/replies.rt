@@ -9,7 +9,6 @@ use rp_request::Replies;
 
 impl World {
     /// The reply lines of all attempts, by client, command and attempt.
-    #[tactic(auto, using(crate::proofs::Replying::replies_by_book))]
     pub fn replies(&self) -> Result<Replies, NoMemory>
         requires { IsReached (length self.now.world.nodes) self.now.world.nodes }
         ensures { IfOk result (λ replies. replies ≡ replies_of self.now.world.nodes) }
