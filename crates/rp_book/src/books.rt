@@ -1,33 +1,45 @@
-//! STUB until the book stands.
-ghost use Rattle.std.specs.Prelude.{◌≡◌, ◌+◌, ◌≤◌, [], None, Some, OnOk, if◌then◌else◌};
+//! The book of the attempts that clients made.
+ghost use Rattle.std.specs.Prelude.{◌≡◌, ◌+◌, ◌≤◌, [], None, Some, Option, IfOk, OnOk, if◌then◌else◌, map, IfOk};
 ghost use Rattle.std.specs.Option.{option_copied, option_map};
 ghost use Rattle.rp_base.specs.Ids.{same_id};
 ghost use Rattle.rp_base.specs.declared.ids.CmdId.{CmdId};
 ghost use Rattle.rp_request.specs.declared.outcomes.Outcome.TheVariants.{Pending};
 ghost use Rattle.rp_book.specs.declared.bookings.Booked.{Booked};
-ghost use Rattle.rp_book.specs.Books.{booked, booking_of, latest_of, told_of};
+ghost use Rattle.rp_book.specs.Books.{booked, booking_of, by_attempt, latest_of, reply_of, told_of};
 
 use crate::bookings::{Booked, Draw};
+use crate::keeps::{Command, Kept};
+use crate::stores;
+use indexmap::IndexMap;
 use rp_base::{CmdId, NoMemory, Seq};
-use rp_request::Outcome;
+use rp_request::{Outcome, Replies};
 use std::alloc::Global;
 use std::marker::Model;
 
-/// A stub.
+/// The attempts that clients made, in the order in which they came. Contracts see them, what was told
+/// of the outcome of each, and how many more take no memory.
 #[derive(Drop)]
 pub struct Book {
-    alloc: Global,
-    entries: Seq<(CmdId, Booked)>,
-    told: Seq<Outcome>,
+    kept: IndexMap<CmdId, Kept>,
+    latest: IndexMap<Command, u16>,
 }
 
 impl Model for Book {
-    ghost use Rattle.std.specs.Prelude.{[]};
+    ghost use Rattle.std.specs.Prelude.{min};
+    ghost use Rattle.std.specs.Map.{keys_of};
+    ghost use Rattle.indexmap.specs.IndexMap.{spare};
     ghost use Rattle.rp_book.specs.Books.{BookState};
+    ghost use Rattle.rp_book.specs.Keeping.{bookings, outcomes, IsIndexed};
 
     ghost Value = { BookState };
 
-    ghost view = { λ b. record { entries = []; told = []; spare = 0 } };
+    ghost view = { λ b. record {
+      entries = bookings b.kept.entries;
+      told = outcomes b.kept.entries;
+      spare = min (spare b.kept) (spare b.latest);
+    } };
+
+    ghost invariant = { λ b. IsIndexed (keys_of b.kept.entries) b.latest.entries };
 }
 
 impl Book {
@@ -37,9 +49,8 @@ impl Book {
         ensures told { (id : CmdId) → told_of id result.told ≡ None }
     {
         Book {
-            alloc,
-            entries: Seq::new(alloc),
-            told: Seq::new(alloc),
+            kept: IndexMap::new(alloc),
+            latest: IndexMap::new(alloc),
         }
     }
 
@@ -50,9 +61,9 @@ impl Book {
         ensures room { OnOk result (n ≤ self.new.spare) }
         ensures kept { self.old.spare ≤ self.new.spare }
     {
-        let _alloc = &self.alloc;
-        let _n = n;
-        Err(NoMemory)
+        self.kept.reserve(n)?;
+        self.latest.reserve(n)?;
+        Ok(())
     }
 
     /// Puts a new attempt behind the others, without memory. Its outcome is pending.
@@ -64,19 +75,15 @@ impl Book {
             ≡ (if same_id other id then Some Pending else told_of other self.old.told) }
         ensures spare { self.old.spare ≤ self.new.spare + 1 }
     {
-        let _alloc = &self.alloc;
-        let _id = id;
-        let _booking = booking;
-        unreachable!()
+        stores::put(&mut self.kept, id, booking);
+        stores::note_latest(&mut self.latest, id);
     }
 
     /// What the book has of an attempt.
     pub fn get(&self, id: CmdId) -> Option<&Booked>
         ensures { option_copied result ≡ booking_of id self.now.entries }
     {
-        let _alloc = &self.alloc;
-        let _id = id;
-        None
+        stores::booking(&self.kept, id)
     }
 
     /// The attempt has come so far in its buffer. Where the book lacks it, nothing changes.
@@ -87,27 +94,31 @@ impl Book {
         ensures told { (other : CmdId) → told_of other self.new.told ≡ told_of other self.old.told }
         ensures spare { self.old.spare ≤ self.new.spare }
     {
-        let _alloc = &self.alloc;
-        let _id = id;
-        let _draw = draw;
+        stores::set_draw(&mut self.kept, id, draw);
     }
 
     /// The last attempt that the book got of a command.
     pub fn latest(&self, client: u16, seq: u32) -> Option<(CmdId, Booked)>
         ensures { result ≡ latest_of client seq self.now.entries }
     {
-        let _alloc = &self.alloc;
-        let _id = (client, seq);
-        None
+        match stores::last_attempt(&self.latest, client, seq) {
+            None => None,
+            Some(attempt) => {
+                let id = CmdId {
+                    client,
+                    seq,
+                    attempt,
+                };
+                stores::with_booking(&self.kept, id)
+            }
+        }
     }
 
     /// What was told of an attempt's outcome: none where the book lacks it.
     pub fn outcome(&self, id: CmdId) -> Option<Outcome>
         ensures { result ≡ told_of id self.now.told }
     {
-        let _alloc = &self.alloc;
-        let _id = id;
-        None
+        stores::outcome(&self.kept, id)
     }
 
     /// This is told of an attempt's outcome. Where the book lacks it, nothing changes.
@@ -117,8 +128,22 @@ impl Book {
             ≡ (if same_id other id then option_map (λ _. outcome) (told_of other self.old.told) else told_of other self.old.told) }
         ensures spare { self.old.spare ≤ self.new.spare }
     {
-        let _alloc = &self.alloc;
-        let _id = id;
-        let _outcome = outcome;
+        stores::tell(&mut self.kept, id, outcome);
+    }
+
+    /// All attempts, by client, command and attempt.
+    pub fn by_attempt(&self) -> Result<Seq<(CmdId, Booked)>, NoMemory>
+        ensures { IfOk result (λ list. list ≡ by_attempt self.now.entries) }
+    {
+        let list = stores::by_attempt(&self.kept)?;
+        Ok(Seq::from_vec(list))
+    }
+
+    /// The reply lines of all attempts, by client, command and attempt, as was told.
+    pub fn replies(&self) -> Result<Replies, NoMemory>
+        ensures { IfOk result (λ r. r ≡ map (reply_of self.now.told) (by_attempt self.now.entries)) }
+    {
+        let lines = stores::lines(&self.kept)?;
+        Ok(Seq::from_vec(lines))
     }
 }
