@@ -12,7 +12,7 @@ returns c =
     let w = c.self.inside.stage.nodes in
     subst (λ (p : Player). IfOk c.replies.result (λ r. r ≡ replies_of p.world.nodes)) c.self.view_is
     (subst (λ (lines : List ReplyLine). IfOk c.replies.result (λ r. r ≡ lines))
-      (replies_by_book (length w) w c.self.inside.book
-        (subst (λ (p : Player). IsReached (length p.world.nodes) p.world.nodes) (sym c.self.view_is) c.requires)
-        c.self.invariant.book)
-      c.replies.ensures)
+    (replies_by_book (length w) w c.self.inside.book
+    (subst (λ (p : Player). IsReached (length p.world.nodes) p.world.nodes) (sym c.self.view_is) c.requires)
+    c.self.invariant.book)
+    c.replies.ensures)

@@ -12,8 +12,8 @@ returns-then-was_refused c =
     subst (λ (p : Player). c.is_same.result ≡ was_refused_for p.world.nodes c.args.id c.args.request.now) c.self.view_is
     (c.is_same.ensures
     ∙ refused_for c.self.inside.stage.nodes c.args.id c.args.request.now c.in-Some.booked.now.request
-      (subst (λ (p : Player). was_refused p.world.nodes c.args.id ≡ true) (sym c.self.view_is) (sym c.was_refused.ensures ∙ c.if-was_refused.true))
-      (c.self.invariant.book.requests c.args.id c.in-Some.booked.now (sym c.get.ensures ∙ ap option_copied c.in-Some.is)))
+    (subst (λ (p : Player). was_refused p.world.nodes c.args.id ≡ true) (sym c.self.view_is) (sym c.was_refused.ensures ∙ c.if-was_refused.true))
+    (c.self.invariant.book.requests c.args.id c.in-Some.booked.now (sym c.get.ensures ∙ ap option_copied c.in-Some.is)))
 
 pub returns-in-None : goal.returns-in-None
 returns-in-None c =
