@@ -3,5 +3,9 @@
 #![tactic(auto)]
 
 mod bookings;
+mod books;
+mod handled;
 
 pub use bookings::{Booked, Draw};
+pub use books::Book;
+pub use handled::Handled;

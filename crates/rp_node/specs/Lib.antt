@@ -3,3 +3,4 @@ pub mod Plans
 pub mod Steps
 pub mod Seen
 pub mod Waits
+pub mod Several

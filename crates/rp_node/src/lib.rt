@@ -8,7 +8,10 @@ mod nodes;
 mod rounds;
 mod seats;
 mod steps;
+mod stub;
+mod worlds;
 
 pub use logs::{Journal, Outcomes, Requests, Sent};
 pub use nodes::Node;
 pub use seats::Seen;
+pub use worlds::Nodes;

@@ -1,0 +1,4 @@
+pub mod Turns
+pub mod Outcomes
+pub mod Puts
+pub mod Replies

@@ -1,0 +1,6 @@
+pub mod Comes
+pub mod Weighing
+pub mod Plays
+pub mod Keeping
+pub mod Going
+pub mod Latest
