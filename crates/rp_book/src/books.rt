@@ -8,7 +8,7 @@ ghost use Rattle.rp_book.specs.declared.bookings.Booked.{Booked};
 ghost use Rattle.rp_book.specs.Books.{booked, booking_of, latest_of, told_of};
 
 use crate::bookings::{Booked, Draw};
-use rp_base::{CmdId, NoMemory};
+use rp_base::{CmdId, NoMemory, Seq};
 use rp_request::Outcome;
 use std::alloc::Global;
 use std::marker::Model;
@@ -17,6 +17,8 @@ use std::marker::Model;
 #[derive(Drop)]
 pub struct Book {
     alloc: Global,
+    entries: Seq<(CmdId, Booked)>,
+    told: Seq<Outcome>,
 }
 
 impl Model for Book {
@@ -34,7 +36,11 @@ impl Book {
         ensures entries { result.entries ≡ [] }
         ensures told { (id : CmdId) → told_of id result.told ≡ None }
     {
-        Book { alloc }
+        Book {
+            alloc,
+            entries: Seq::new(alloc),
+            told: Seq::new(alloc),
+        }
     }
 
     /// Makes room for n attempts more.

@@ -24,7 +24,7 @@ use Rattle.rp_node.specs.Cores.{status_of, seat_in, node_of}
 use Rattle.rp_node.specs.Plans.{SeatReady, TurnReady, StaysLive, IsPrepared, with_left, turned_by, turned, refused, handed_out, status_by, effects_by, answered}
 use Rattle.rp_node.proofs.Seating.{kept_node, seat_is, seat_of, with_status}
 
-some_same : (a b : Effects AppliedState) → ◌≡◌ {A = Option (Effects AppliedState)} (Some a) (Some b) → a ≡ b
+pub some_same : (a b : Effects AppliedState) → ◌≡◌ {A = Option (Effects AppliedState)} (Some a) (Some b) → a ≡ b
 some_same a b e = cc
 
 -- without a replica a plan does nothing

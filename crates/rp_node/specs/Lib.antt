@@ -4,3 +4,5 @@ pub mod Steps
 pub mod Seen
 pub mod Waits
 pub mod Several
+pub mod Ticks
+pub mod Asked

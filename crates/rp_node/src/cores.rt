@@ -6,6 +6,7 @@ ghost use Rattle.rp_replica.specs.Plans.{planned};
 ghost use Rattle.rp_node.specs.Cores.{node_of, seat_in};
 ghost use Rattle.rp_events.specs.MaySteps.{SeatAllows};
 ghost use Rattle.rp_node.specs.Plans.{IsPrepared, TurnReady, answered, turned};
+ghost use Rattle.rp_node.specs.Ticks.{TurnedAt};
 
 use crate::logs::{Journal, Logs, Outcomes, Requests, Sent};
 use crate::seats::Seat;
@@ -34,7 +35,7 @@ pub struct Core {
 }
 
 /// How many messages and outcomes a plan will hand out.
-fn sizes(plan: &Option<ReplicaPlan>) -> (usize, usize)
+pub(crate) fn sizes(plan: &Option<ReplicaPlan>) -> (usize, usize)
     ensures { MatchOption plan.now (Unit {0}) (λ p. (r : replicas.Replica) →
         (result.0 ≡ length (planned r p).messages) × (result.1 ≡ length (planned r p).outcomes)) }
 {
@@ -126,6 +127,7 @@ impl Core {
             ≡ turned (node_of self.old) range plan (seat_in self.old.seats range) }
         ensures journal { self.new.logs.journal ≡ self.old.logs.journal }
         ensures nodes { self.new.nodes ≡ self.old.nodes }
+        ensures stays { TurnedAt range plan self.old self.new }
     {
         let refused = EventAnswer::Refused(Refusal::NoReplica);
         let Some(mut plan) = plan else {

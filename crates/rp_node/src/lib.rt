@@ -2,13 +2,17 @@
 //! planned for as much memory as it may want, and then done.
 #![tactic(auto)]
 
+mod collects;
 mod cores;
+mod deliveries;
+mod events;
 mod logs;
 mod nodes;
+mod producers;
 mod rounds;
 mod seats;
 mod steps;
-mod stub;
+mod ticks;
 mod worlds;
 
 pub use logs::{Journal, Outcomes, Requests, Sent};

@@ -1,5 +1,5 @@
 //! What a node keeps of all that happened to it. These lists only grow.
-ghost use Rattle.std.specs.Prelude.{◌≡◌, ◌≤◌, ◌++◌, ◌∷◌, [], length, OnOk};
+ghost use Rattle.std.specs.Prelude.{◌≡◌, ◌+◌, ◌≤◌, ◌++◌, ◌∷◌, [], length, OnOk};
 ghost use Rattle.rp_events.specs.Nodes.{parcels};
 ghost use Rattle.rp_node.specs.Cores.{AreAlike, HasSpare};
 
@@ -33,7 +33,8 @@ pub struct Logs {
 /// Puts messages of a range at the end. It takes no memory.
 fn push_parcels(sent: &mut Sent, range: RangeId, messages: Seq<(NodeId, Message<Snapshot>)>)
     requires { length messages ≤ sent.old.spare }
-    ensures { sent.new.list ≡ sent.old.list ++ parcels range messages }
+    ensures list { sent.new.list ≡ sent.old.list ++ parcels range messages }
+    ensures spare { sent.old.spare ≤ sent.new.spare + length messages }
 {
     for (to, message) in messages.into_vec() {
         sent.push(Parcel { to, range, message });
@@ -65,6 +66,9 @@ impl Logs {
         ensures outcomes { self.new.outcomes.list ≡ self.old.outcomes.list ++ outcomes }
         ensures journal { self.new.journal ≡ self.old.journal }
         ensures requests { self.new.requests ≡ self.old.requests }
+        ensures sent_spare { self.old.sent.spare ≤ self.new.sent.spare + length messages }
+        ensures outcomes_spare { self.old.outcomes.spare
+            ≤ self.new.outcomes.spare + length outcomes }
     {
         push_parcels(&mut self.sent, range, messages);
         self.outcomes.append(outcomes);

@@ -1,5 +1,5 @@
 -- An event at one of the nodes is the event of the world with buffers.
-use Rattle.std.proofs.Common.{◌≡◌, ℕ, zero, suc, ◌+◌, ◌-◌, Bool, true, false, Option, None, Some, List, [], ◌∷◌, ◌++◌, map, set, length, refl, sym, ap, subst, ◌∙◌, arith, slice_get, slice_index_or, if◌then◌else◌, cond, IsTrue}
+use Rattle.std.proofs.Common.{◌≡◌, ℕ, zero, suc, ◌+◌, ◌-◌, Bool, true, false, Option, None, Some, List, [], ◌∷◌, ◌++◌, map, set, length, refl, sym, ap, subst, ◌∙◌, arith, slice_get, slice_index_or, cond, IsTrue, Result, Ok, Err, IfOk, ◌<◌, ◌≤◌}
 use Rattle.std.specs.Option.{option_map, option_map_or}
 use Rattle.std.proofs.lemmas.List.{length-append, map-set}
 use Rattle.rp_base.specs.declared.items.Item.{Item}
@@ -22,7 +22,11 @@ use Rattle.rp_book.specs.Books.{last_of}
 use Rattle.rp_journals.proofs.Growing.{with_same}
 use Rattle.rp_journals.proofs.Lists.{get_end}
 use Rattle.rp_node.specs.Steps.{Held, IsLeft, Collected, Taken, Steps}
-use Rattle.rp_node.specs.Several.{StepsAt, held_at}
+use Rattle.rp_node.specs.Several.{HasThatMay, StepsAt, end_at, held_at, with_end_at}
+use Rattle.rp_base.specs.declared.memory.NoMemory.{NoMemory}
+use Rattle.rp_events.specs.MaySteps.{MayStep}
+use Rattle.rp_script.specs.Bounds.{IsNode}
+use Rattle.std.specs.Prelude.{option_and_then}
 use Rattle.rp_lawful.specs.Comings.{Comes, ComesAs, ComesBy, happening_of, node_in, scene_at, taken_at}
 use Rattle.rp_world.specs.Comes.{Happens, answer_in, buffered_of, is_peek, is_value, node_event}
 use Rattle.rp_world.proofs.Answering.{reads_key, step_tells_none}
@@ -274,3 +278,75 @@ pub stepped : (old : Ends) (e : WorldEvent) (ev : Event AppliedState) (new : End
 stepped old e ev new answer c is s =
     let l : Left old (node_in e) (buffered_step (buffered_of old) e) (is_peek e) new answer = step_left old e ev new answer c is s in
     record { left = l.left; told = l.told; value = l.value }
+
+-- a node of the world is one that is held
+get_unmap : {A B : Type 0} (f : A → B) (xs : List A) (i : ℕ) (y : B) → slice_get (map f xs) i ≡ Some y → (x : A) × (slice_get xs i ≡ Some x) × (f x ≡ y)
+get_unmap f [] i y e = absurd cc
+get_unmap {A} {B} f (x ∷ xs) zero y e = (x, refl, same (f x) y e) where
+  same : (a c : B) → ◌≡◌ {A = Option B} (Some a) (Some c) → a ≡ c
+  same a c e = cc
+get_unmap f (x ∷ xs) (suc i) y e = get_unmap f xs i y e
+
+held_from : (old : Ends) (node : ℕ) (n : Node) → node_of (buffered_of old).nodes node ≡ Some n → (h : Held (List Buffer)) × (held_at old node ≡ Some h) × (h.node ≡ n)
+held_from old zero n e = absurd (nothing e) where
+  nothing : ◌≡◌ {A = Option Node} None (Some n) → ⊥
+  nothing e = cc
+held_from old (suc place) n e = get_unmap (λ h. h.node) old place n e
+
+-- it may take the event
+pub may_step : (old : Ends) (e : WorldEvent) (ev : Event AppliedState) → Comes (buffered_of old) e → node_event (buffered_of old) e ≡ Some ev → HasThatMay old (node_in e) ev
+may_step old e ev c is = go (happening_of (buffered_of old) e) refl c.comes where
+  some_event : (a b : Event AppliedState) → ◌≡◌ {A = Option (Event AppliedState)} (Some a) (Some b) → a ≡ b
+  some_event a b e = cc
+
+  go : (o : Option Happening) → happening_of (buffered_of old) e ≡ o → ComesBy (buffered_of old) (node_in e) o → HasThatMay old (node_in e) ev
+  go None at comes = absurd comes
+  go (Some what) at comes =
+      let h = held_from old (node_in e) comes.at comes.has in
+      let same : comes.event ≡ ev = some_event comes.event ev (sym comes.is ∙ sym (ap (option_and_then (event_of (buffered_of old).nodes)) at) ∙ is) in
+      record {
+        held = h.0;
+        has = h.1;
+        may = subst (λ n. MayStep n ev) (sym h.2) (subst (MayStep comes.at) same comes.may);
+      }
+
+pub stepped_ok : (old : Ends) (e : WorldEvent) (ev : Event AppliedState) (new : Ends) (node : ℕ) (r : Result EventAnswer NoMemory) → Comes (buffered_of old) e
+    → node_event (buffered_of old) e ≡ Some ev → node ≡ node_in e → IfOk r (λ answer. StepsAt Collects old node ev new answer) → IfOk r (λ answer. Happens old e new answer)
+stepped_ok old e ev new node (Ok answer) c is at s = stepped old e ev new answer c is (subst (λ k. StepsAt Collects old k ev new answer) at s)
+stepped_ok old e ev new node (Err no_memory) c is at s = tt
+
+-- the world has each of its nodes
+none_at : {A : Type 0} (xs : List A) (i : ℕ) → i < length xs → slice_get xs i ≡ None → ⊥
+none_at [] i h e = omega (arith, h)
+none_at {A} (x ∷ xs) zero h e = clash x e where
+  clash : (x : A) → ◌≡◌ {A = Option A} (Some x) None → ⊥
+  clash x e = cc
+none_at (x ∷ xs) (suc i) h e = none_at xs i (omega (arith, h)) e
+
+none_held : (old : Ends) (node : ℕ) → IsNode (length old) node → held_at old node ≡ None → ⊥
+none_held old zero at e = omega (arith, at.0)
+none_held old (suc place) at e = none_at old place (omega (arith, at.1)) e
+
+node_stays : (w : World) (node : ℕ) (n : Node) → node_of w node ≡ Some n → with_node w node n ≡ w
+node_stays w zero n e = refl
+node_stays w (suc place) n e = set_stays w place n e
+
+-- a change of a buffer end is that of the world's buffer
+pub end_changed : (old : Ends) (node range : ℕ) (change : Buffer → Buffer) → IsNode (length old) node
+    → buffered_of (with_end_at (λ end. with_buffer end range (change (buffer_of end range))) old node) ≡ changed (buffered_of old) node range change
+end_changed old node range change at = go (held_at old node) refl where
+  go : (o : Option (Held (List Buffer))) → held_at old node ≡ o
+      → buffered_of (option_map_or (λ (h : Held (List Buffer)). set old (node - 1) (record h { end = with_buffer h.end range (change (buffer_of h.end range)) })) o old) ≡ changed (buffered_of old) node range change
+  go None has = absurd (none_held old node at has)
+  go (Some h) has =
+      let end : buffers_at (buffered_of old) node ≡ h.end = held_end old node h has in
+      same_buffered (buffered_of (set old (node - 1) (record h { end = with_buffer h.end range (change (buffer_of h.end range)) }))) (changed (buffered_of old) node range change)
+      (with_held old node h (record h { end = with_buffer h.end range (change (buffer_of h.end range)) }) has ∙ node_stays (buffered_of old).nodes node h.node (held_node old node h has))
+      (with_ends old node h (record h { end = with_buffer h.end range (change (buffer_of h.end range)) })
+      ∙ ap (λ l. set (buffered_of old).buffers (node - 1) (with_buffer l range (change (buffer_of l range)))) (sym end))
+
+pub end_here : (old : Ends) (node : ℕ) → IsNode (length old) node → end_at fresh old node ≡ buffers_at (buffered_of old) node
+end_here old node at = go (held_at old node) refl where
+  go : (o : Option (Held (List Buffer))) → held_at old node ≡ o → option_map_or (λ (h : Held (List Buffer)). h.end) o fresh ≡ buffers_at (buffered_of old) node
+  go None has = absurd (none_held old node at has)
+  go (Some h) has = sym (held_end old node h has)

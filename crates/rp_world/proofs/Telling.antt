@@ -1,5 +1,6 @@
 -- The book beside the nodes, along events.
-use Rattle.std.proofs.Common.{◌≡◌, ℕ, Bool, true, false, ◌||◌, Option, None, Some, List, [], ◌∷◌, refl, sym, ap, subst, ◌∙◌, cond, if◌then◌else◌, is_some, length}
+use Rattle.std.proofs.Common.{◌≡◌, ℕ, Bool, true, false, ◌||◌, Option, None, Some, List, [], ◌∷◌, refl, sym, ap, subst, ◌∙◌, cond, is_some, length, ◌++◌, ◌+◌, ◌<◌, get_or, take}
+use Rattle.std.proofs.lemmas.List.{take_more}
 use Rattle.std.specs.Option.{option_map}
 use Rattle.std.specs.List.{AllByRecursion}
 use Rattle.rp_base.specs.Ids.{same_id}
@@ -9,6 +10,7 @@ use Rattle.rp_request.specs.declared.outcomes.Outcome.{Outcome}
 use Rattle.rp_request.specs.declared.outcomes.Outcome.TheVariants as outcomes
 use Rattle.rp_request.specs.declared.requests.Request.{Request}
 use Rattle.rp_book.specs.declared.bookings.Booked.{Booked}
+use Rattle.rp_book.specs.declared.bookings.Draw.{Draw}
 use Rattle.rp_book.specs.Books.{BookState, booked, booking_of, told_of}
 use Rattle.rp_events.specs.declared.answers.Ended.{Ended}
 use Rattle.rp_events.specs.declared.answers.EventAnswer.{EventAnswer}
@@ -130,3 +132,50 @@ new_book k w node range id request n now reached turns s t b asks_for entries to
         ap (λ a. cond a (Some (first_outcome (answer_of now))) (told_of other s.told)) same
         ∙ ap (λ o. cond c (Some (first_outcome (answer_of now))) o) (book.told other)
         ∙ sym (ap (λ a. cond a (Some (first_outcome (answer_of now))) (outcome_of w other)) (same_back id other ∙ same))
+
+-- an attempt comes further in its buffer
+pub drawn_book : (w : World) (id : CmdId) (b : Booked) (draw : Draw) (s t : BookState) → booking_of id s.entries ≡ Some b
+    → t.entries ≡ booked id (record b { draw = draw }) s.entries → ((other : CmdId) → told_of other t.told ≡ told_of other s.told) → IsBookOf w s → IsBookOf w t
+drawn_book w id b draw s t has entries told book = record {
+  asked = λ other. by_asked other (same_id other id) refl;
+  requests = λ other had is. by_request other had (same_id other id) refl (subst (λ es. booking_of other es ≡ Some had) entries is);
+  told = λ other. told other ∙ book.told other;
+}
+  where
+    some_booked : (a c : Booked) → ◌≡◌ {A = Option Booked} (Some a) (Some c) → a ≡ c
+    some_booked a c e = cc
+
+    at_here : (other : CmdId) → same_id other id ≡ true → booking_of other (booked id (record b { draw = draw }) s.entries) ≡ Some (record b { draw = draw })
+    at_here other same =
+        subst (λ i. booking_of i (booked id (record b { draw = draw }) s.entries) ≡ Some (record b { draw = draw })) (sym (same_is other id same))
+        (booked_here id (record b { draw = draw }) s.entries)
+
+    had_here : (other : CmdId) → same_id other id ≡ true → booking_of other s.entries ≡ Some b
+    had_here other same = subst (λ i. booking_of i s.entries ≡ Some b) (sym (same_is other id same)) has
+
+    by_asked : (other : CmdId) (c : Bool) → same_id other id ≡ c → is_some (booking_of other t.entries) ≡ was_asked w other
+    by_asked other true same =
+        ap (λ es. is_some (booking_of other es)) entries ∙ ap is_some (at_here other same) ∙ sym (ap is_some (had_here other same)) ∙ book.asked other
+    by_asked other false same =
+        ap (λ es. is_some (booking_of other es)) entries ∙ ap is_some (booked_other id other (record b { draw = draw }) s.entries same) ∙ book.asked other
+
+    by_request : (other : CmdId) (had : Booked) (c : Bool) → same_id other id ≡ c → booking_of other (booked id (record b { draw = draw }) s.entries) ≡ Some had
+        → asked_request w other ≡ Some had.request
+    by_request other had true same is =
+        book.requests other b (had_here other same)
+        ∙ ap (λ (z : Booked). Some z.request) (some_booked (record b { draw = draw }) had (sym (at_here other same) ∙ is))
+    by_request other had false same is = book.requests other had (sym (booked_other id other (record b { draw = draw }) s.entries same) ∙ is)
+
+-- one more end is told
+told_push : (es : List Ended) (e : Ended) (id : CmdId) (before : Option Outcome)
+    → told_after (es ++ e ∷ []) id before ≡ cond (same_id id e.id) (option_map (λ _. e.outcome) (told_after es id before)) (told_after es id before)
+told_push [] e id before = refl
+told_push (x ∷ es) e id before = told_push es e id (cond (same_id id x.id) (option_map (λ _. x.outcome) before) before)
+
+pub tell_more : (es : List Ended) (i : ℕ) (e : Ended) (id : CmdId) (before now new : Option Outcome) → i < length es → e ≡ get_or es i e
+    → now ≡ told_after (take i es) id before → new ≡ cond (same_id id e.id) (option_map (λ _. e.outcome) now) now → new ≡ told_after (take (i + 1) es) id before
+tell_more es i e id before now new h is so_far step =
+    step ∙ ap (λ o. cond (same_id id e.id) (option_map (λ _. e.outcome) o) o) so_far
+    ∙ sym (told_push (take i es) e id before)
+    ∙ ap (λ x. told_after (take i es ++ x ∷ []) id before) is
+    ∙ ap (λ l. told_after l id before) (sym (take_more es i e h))

@@ -1,5 +1,5 @@
 -- Nodes with buffers as a world, and what an event of theirs leaves.
-use Rattle.std.specs.Prelude.{◌≡◌, ℕ, ◌≤◌, Bool, true, false, List, [], map, length, option_and_then, Option}
+use Rattle.std.specs.Prelude.{◌≡◌, ℕ, Bool, true, false, List, [], map, option_and_then, Option, None, Some}
 use Rattle.std.specs.Option.{option_map_or}
 use Rattle.rp_bufcore.specs.Buffers.{Buffer, fresh}
 use Rattle.rp_request.specs.Applied.{AppliedState}
@@ -9,7 +9,8 @@ use Rattle.rp_events.specs.declared.answers.EventAnswer.TheVariants as answers
 use Rattle.rp_events.specs.declared.node_events.Event.{Event}
 use Rattle.rp_events.specs.declared.world_events.WorldEvent.{WorldEvent}
 use Rattle.rp_events.specs.declared.world_events.WorldEvent.TheVariants as events
-use Rattle.rp_events.specs.Nodes.{first_node}
+use Rattle.rp_events.specs.Nodes.{Status, Absent, Live, Removed, first_node, seat}
+use Rattle.rp_events.specs.Replicas.{Replica}
 use Rattle.rp_events.specs.Worlds.{World, node_of, event_of}
 use Rattle.rp_events.specs.Buffered.{Buffered, buffered_step}
 use Rattle.rp_book.specs.Books.{last_of}
@@ -60,6 +61,12 @@ pub record Happens (old : List (Held (List Buffer))) (e : WorldEvent)
   pub told : answer ≡ answer_in (buffered_of new).nodes (node_in e)
   pub value : is_peek e ≡ false → is_value answer ≡ false
 
--- the world has this node
-abbrev pub HasNode : World → (node : ℕ) → Type 0
-HasNode w node = node ≤ length w
+-- the live replica in a seat
+abbrev pub live_in : Status → Option Replica
+live_in Absent = None
+live_in (Live r) = Some r
+live_in (Removed applied) = None
+
+-- the live replica of a range at a node, where there is one
+abbrev pub live_at : World → (node range : ℕ) → Option Replica
+live_at w node range = option_and_then (λ n. live_in (seat n range)) (node_of w node)

@@ -1,17 +1,17 @@
 //! Lines of clients' commands: send, admit, again, draw, publish.
-ghost use Rattle.std.specs.Prelude.{◌≡◌, ◌+◌, ◌<◌, ◌^◌, true, None, Some, IfOk, OnOk, length};
+ghost use Rattle.std.specs.Option.{option_map_or};
+ghost use Rattle.std.specs.Prelude.{◌≡◌, ◌+◌, ◌<◌, ◌^◌, false, true, None, Some, IfOk, OnOk, length};
 ghost use Rattle.rp_base.specs.ClientCounts.{count_of};
 ghost use Rattle.rp_request.specs.Fits.{FitsRequest};
 ghost use Rattle.rp_book.specs.Books.{booking_of, latest_of};
 ghost use Rattle.rp_book.specs.declared.bookings.Draw.TheVariants as draw_states;
-ghost use Rattle.rp_events.specs.Lawful.{IsReached};
+ghost use Rattle.rp_events.specs.Lawful.{IsReached, is_refusal};
 ghost use Rattle.rp_lawful.specs.Comings.{Comes};
 ghost use Rattle.rp_lawful.specs.Onward.{IsBookedAs};
-ghost use Rattle.rp_lines.specs.Commands.{asks, asks_and_goes_on, booking, buffer_at, draws, draws_and_publishes, draws_latest, following, publishes, publishes_by, publishes_latest, tries_again};
+ghost use Rattle.rp_lines.specs.Commands.{asks, asks_and_goes_on, booking, buffer_at, draws, draws_and_publishes, draws_latest, following, publishes, publishes_by, publishes_latest, tries_again, with_draw};
 ghost use Rattle.rp_lines.specs.Players.{counted, next_command};
 ghost use Rattle.rp_lines.specs.Scripts.{played};
 ghost use Rattle.rp_script.specs.Bounds.{Fits, IsClient, IsCommand, IsNode};
-ghost use Rattle.rp_world.specs.Comes.{HasNode};
 ghost use Rattle.rp_world.specs.Going.{AsMany, Going, is_command, with_place};
 ghost use Rattle.rp_world.specs.Latest.{refused_latest, undrawn_latest};
 ghost use Rattle.rp_world.specs.Plays.{Does, admission, place_in};
@@ -19,7 +19,7 @@ ghost use Rattle.rp_world.specs.Plays.{Does, admission, place_in};
 use crate::faults::PlayFault;
 use crate::seats::is_waiting;
 use crate::worlds::World;
-use rp_base::{CmdId, Item, NodeId, RangeId};
+use rp_base::{CmdId, Item, NoMemory, NodeId, RangeId};
 use rp_book::{Booked, Draw};
 use rp_events::EventAnswer;
 use rp_request::{Outcome, Request};
@@ -48,10 +48,26 @@ fn following(id: CmdId) -> CmdId
     }
 }
 
+/// This was told of an attempt: it was refused.
+fn is_refused(outcome: Option<Outcome>) -> bool
+    ensures { result ≡ option_map_or is_refusal outcome false }
+{
+    matches!(outcome, Some(Outcome::Refused(_)))
+}
+
 impl World {
+    /// An attempt has come so far in its buffer.
+    fn set_draw(&mut self, id: CmdId, booked: &Booked, draw: Draw) -> Result<(), NoMemory>
+        requires { IsBookedAs self.old id booked.now }
+        ensures { OnOk result (self.new ≡ with_draw id booked.now draw self.old) }
+    {
+        self.book.set_draw(id, draw);
+        Ok(())
+    }
+
     /// An attempt draws a place: where there is none, the line is told.
     fn draws(&mut self, line: u32, id: CmdId, booked: &Booked) -> Result<Option<u8>, PlayFault>
-        requires node { HasNode self.old.world.nodes booked.now.node }
+        requires node { IsNode (length self.old.world.nodes) booked.now.node }
         requires has { booking_of id self.old.book ≡ Some booked.now }
         ensures does { Does result self.new (draws line id booked.now self.old) }
         ensures place { IfOk result (λ place. place
@@ -75,7 +91,7 @@ impl World {
         booked: &Booked,
         place: u8,
     ) -> Result<(), PlayFault>
-        requires node { HasNode self.old.world.nodes booked.now.node }
+        requires node { IsNode (length self.old.world.nodes) booked.now.node }
         requires has { IsBookedAs self.old id booked.now }
         ensures { Does result self.new (publishes id booked.now place self.old) }
     {
@@ -90,7 +106,7 @@ impl World {
         id: CmdId,
         booked: &Booked,
     ) -> Result<(), PlayFault>
-        requires node { HasNode self.old.world.nodes booked.now.node }
+        requires node { IsNode (length self.old.world.nodes) booked.now.node }
         requires has { booking_of id self.old.book ≡ Some booked.now }
         requires undrawn { booked.now.draw ≡ draw_states.Undrawn }
         ensures { Does result self.new (draws_and_publishes line id booked.now self.old) }
@@ -106,7 +122,7 @@ impl World {
         requires reached { IsReached (length self.old.world.nodes) self.old.world.nodes }
         requires comes { Comes self.old.world (admission id booked.now) }
         requires is_new { booking_of id self.old.book ≡ None }
-        requires node { HasNode self.old.world.nodes booked.now.node }
+        requires node { IsNode (length self.old.world.nodes) booked.now.node }
         requires undrawn { booked.now.draw ≡ draw_states.Undrawn }
         ensures { Does result self.new (asks_and_goes_on line id booked.now self.old) }
     {
@@ -163,18 +179,20 @@ impl World {
         ensures { result ≡ refused_latest self.now client seq }
     {
         let (id, booked) = self.book.latest(client, seq)?;
-        match self.book.outcome(id)? {
-            Outcome::Refused(_) => Some((id, booked)),
-            Outcome::Success(_) | Outcome::Ambiguous(_) | Outcome::Pending => None,
+        if is_refused(self.book.outcome(id)) {
+            return Some((id, booked));
         }
+        None
     }
 
     /// A further attempt of a command whose latest was refused.
     fn tries_again(
         &mut self,
         line: u32,
-        (node, range): (NodeId, RangeId),
-        (client, seq): (u16, u32),
+        node: NodeId,
+        range: RangeId,
+        client: u16,
+        seq: u32,
     ) -> Result<(), PlayFault>
         requires going { Going self.old }
         requires node { IsNode (length self.old.world.nodes) node }
@@ -216,7 +234,7 @@ impl World {
 
     /// An attempt is published at the place that it has drawn, where it has one.
     fn publishes_by(&mut self, line: u32, id: CmdId, booked: &Booked) -> Result<(), PlayFault>
-        requires node { HasNode self.old.world.nodes booked.now.node }
+        requires node { IsNode (length self.old.world.nodes) booked.now.node }
         requires has { IsBookedAs self.old id booked.now }
         ensures { Does result self.new (publishes_by line id booked.now booked.now.draw self.old) }
     {
@@ -264,7 +282,7 @@ impl World {
                 range,
                 client,
                 seq,
-            } => self.tries_again(number, (node, range), (client, seq)),
+            } => self.tries_again(number, node, range, client, seq),
             ScriptLine::Draw { client, seq } => self.draws_latest(number, client, seq),
             ScriptLine::Publish { client, seq } => self.publishes_latest(number, client, seq),
             _ => Ok(()),

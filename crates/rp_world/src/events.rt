@@ -4,9 +4,11 @@ ghost use Rattle.rp_book.specs.Books.{booking_of, told_of};
 ghost use Rattle.rp_events.specs.declared.world_events.WorldEvent.TheVariants as events;
 ghost use Rattle.rp_events.specs.Lawful.{IsReached};
 ghost use Rattle.rp_lawful.specs.Comings.{Comes, IsPlain, node_in};
+ghost use Rattle.rp_script.specs.Bounds.{IsNode};
 ghost use Rattle.rp_lines.specs.Commands.{asks, buffer_at};
 ghost use Rattle.rp_lines.specs.Players.{did, last_answer, most_events, weighed, with_booking};
-ghost use Rattle.rp_world.specs.Comes.{HasNode, IsNoAdmission, answer_in, is_peek, is_value};
+ghost use Rattle.rp_told.specs.Outcomes.{first_outcome};
+ghost use Rattle.rp_world.specs.Comes.{IsNoAdmission, answer_in, is_peek, is_value};
 ghost use Rattle.rp_world.specs.Keeping.{told_after};
 ghost use Rattle.rp_base.specs.declared.ids.CmdId.{CmdId};
 ghost use Rattle.rp_world.specs.Going.{AsMany, Going};
@@ -33,8 +35,8 @@ fn tell_all(book: &mut Book, ends: &[Ended])
         ≡ told_after ends.now id (told_of id book.old.told) }
     ensures spare { book.old.spare ≤ book.new.spare }
 {
-    for end in ends {
-        book.tell(end.id, end.outcome);
+    for ended in ends {
+        book.tell(ended.id, ended.outcome);
     }
 }
 
@@ -130,9 +132,7 @@ impl World {
         self.book.make_room(1)?;
         let answer = self.stage.step(&admission(id, booked))?;
         self.book.put(id, *booked);
-        if let EventAnswer::Refused(refusal) = answer {
-            self.book.tell(id, Outcome::Refused(refusal));
-        }
+        self.book.tell(id, first_outcome(&answer));
         Ok(answer)
     }
 
@@ -154,7 +154,7 @@ impl World {
 
     /// A place is drawn in the buffer of a node and a range, where there is one; that is counted.
     pub(crate) fn draw(&mut self, node: NodeId, range: RangeId) -> Result<Option<u8>, PlayFault>
-        requires { HasNode self.old.world.nodes node }
+        requires { IsNode (length self.old.world.nodes) node }
         ensures does { Does result self.new (did (events.Draw node range) self.old) }
         ensures place { IfOk result (λ place. place ≡ place_in (buffer_at self.old node range)) }
         ensures book { self.new.book ≡ self.old.book }
@@ -175,7 +175,7 @@ impl World {
         place: u8,
         item: Item,
     ) -> Result<(), PlayFault>
-        requires { HasNode self.old.world.nodes node }
+        requires { IsNode (length self.old.world.nodes) node }
         ensures does { Does result self.new
             (did (events.Publish node range place item) self.old) }
         ensures book { self.new.book ≡ self.old.book }
@@ -185,6 +185,16 @@ impl World {
         let _published = self.stage.publish(node, range, place, item);
         self.count();
         self.weighed()
+    }
+}
+
+/// What the answer to its admission tells of an attempt.
+fn first_outcome(answer: &EventAnswer) -> Outcome
+    ensures { result ≡ first_outcome answer.now }
+{
+    match answer {
+        EventAnswer::Refused(refusal) => Outcome::Refused(*refusal),
+        _ => Outcome::Pending,
     }
 }
 

@@ -6,7 +6,6 @@ mod events;
 mod faults;
 mod lines;
 mod notes;
-mod runs;
 mod scenes;
 mod seats;
 mod settling;

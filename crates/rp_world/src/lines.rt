@@ -1,16 +1,16 @@
 //! Lines of events at a node, and how a line is played.
-ghost use Rattle.std.specs.Prelude.{◌≡◌, ◌≤◌, ◌<◌, ◌^◌, false, IfOk, OnOk, length};
-ghost use Rattle.rp_base.specs.declared.ids.CmdId.{CmdId};
+ghost use Rattle.std.specs.Prelude.{◌≡◌, ◌≤◌, ℕ, false, Some, OnOk, length};
+ghost use Rattle.std.specs.Option.{option_map};
 ghost use Rattle.rp_events.specs.Nodes.{parcel_of};
 ghost use Rattle.rp_events.specs.Worlds.{sent_by};
 ghost use Rattle.rp_events.specs.declared.world_events.WorldEvent.TheVariants as events;
-ghost use Rattle.rp_lawful.specs.Comings.{Comes, IsPlain, node_in};
+ghost use Rattle.rp_lawful.specs.Comings.{IsPlain, node_in};
 ghost use Rattle.rp_lawful.specs.Playable.{CanPlay};
 ghost use Rattle.rp_lines.specs.Players.{did};
 ghost use Rattle.rp_lines.specs.Scripts.{does, flushes, played, puts_ask, tells, tells_refusal, told_absent};
 ghost use Rattle.rp_lines.specs.Settling.{delivers, ticks, with_handled};
-ghost use Rattle.rp_script.specs.Bounds.{Fits, IsNode, IsTurns};
-ghost use Rattle.rp_world.specs.Comes.{HasNode, is_peek, is_value};
+ghost use Rattle.rp_script.specs.Bounds.{Fits, IsNode};
+ghost use Rattle.rp_world.specs.Comes.{is_peek, is_value};
 ghost use Rattle.rp_world.specs.Going.{Going, is_command};
 ghost use Rattle.rp_world.specs.Plays.{Does};
 
@@ -43,7 +43,7 @@ impl World {
         range: RangeId,
         ask: LeaseAsk,
     ) -> Result<(), PlayFault>
-        requires { HasNode self.old.world.nodes node }
+        requires { IsNode (length self.old.world.nodes) node }
         ensures { Does result self.new (puts_ask line node range ask self.old) }
     {
         match self.draw(node, range)? {
@@ -73,7 +73,7 @@ impl World {
         range: RangeId,
         answer: &EventAnswer,
     ) -> Result<(), PlayFault>
-        requires node { HasNode self.old.world.nodes node }
+        requires node { IsNode (length self.old.world.nodes) node }
         requires no_value { is_value answer.now ≡ false }
         ensures { (key : ℕ) → Does result self.new (tells line node range key answer.now self.old) }
     {

@@ -1,8 +1,9 @@
 //! What the seats of nodes show of ranges and attempts.
-ghost use Rattle.std.specs.Prelude.{◌≡◌};
+ghost use Rattle.std.specs.Prelude.{◌≡◌, None, Some, MatchOption};
+ghost use Rattle.rp_events.specs.Nodes.{Live};
 ghost use Rattle.rp_events.specs.Buffered.{has_live};
-ghost use Rattle.rp_lines.specs.Commands.{is_waiting};
-ghost use Rattle.rp_world.specs.Comes.{buffered_of};
+ghost use Rattle.rp_lines.specs.Commands.{is_waiting, waits_in};
+ghost use Rattle.rp_world.specs.Comes.{buffered_of, live_at};
 
 use rp_base::{CmdId, NodeId, RangeId};
 use rp_book::Booked;
@@ -13,7 +14,8 @@ use rp_replica::Replica;
 
 /// The live replica of a range at a node, where there is one.
 pub(crate) fn live_at(nodes: &Nodes<PlainEnd>, node: NodeId, range: RangeId) -> Option<&Replica>
-    ensures { ShowsLive (buffered_of nodes.now).nodes node range result }
+    ensures { MatchOption result (live_at (buffered_of nodes.now).nodes node range ≡ None)
+        (λ r. live_at (buffered_of nodes.now).nodes node range ≡ Some r.now.replica) }
 {
     match nodes.get(node)?.seen(range) {
         Seen::Live(replica) => Some(replica),

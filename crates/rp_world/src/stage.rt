@@ -1,11 +1,12 @@
 //! The nodes with their buffers, and what all their messages weigh.
-ghost use Rattle.std.specs.Prelude.{◌≡◌, ◌≤◌, [], ◌∷◌, ◌++◌, IfOk, OnOk, OnErr};
+ghost use Rattle.std.specs.Prelude.{◌≡◌, ◌≤◌, false, [], ◌∷◌, ◌++◌, length, IfOk, OnOk, OnErr};
+ghost use Rattle.rp_script.specs.Bounds.{IsNode};
 ghost use Rattle.rp_bufcore.specs.Buffers.{buffer_of, draw_answer, publish_answer};
 ghost use Rattle.rp_events.specs.Buffered.{buffered_step, buffers_at, first_buffered};
 ghost use Rattle.rp_events.specs.declared.world_events.WorldEvent.TheVariants as events;
 ghost use Rattle.rp_lines.specs.Players.{weight};
 ghost use Rattle.rp_lawful.specs.Comings.{Comes, node_in};
-ghost use Rattle.rp_world.specs.Comes.{HasNode, answer_in, buffered_of, ended_by, first_held, is_peek, is_value};
+ghost use Rattle.rp_world.specs.Comes.{answer_in, buffered_of, ended_by, first_held, is_peek, is_value};
 ghost use Rattle.rp_world.specs.Weighing.{capped};
 
 use crate::scenes::{happen, node_of, sent_by};
@@ -135,7 +136,7 @@ impl Stage {
     /// Draws the next place in the buffer of a node and a range. `Full` exactly where that buffer is
     /// closed or all of its places are drawn.
     pub(crate) fn draw(&mut self, node: NodeId, range: RangeId) -> Result<u8, Full>
-        requires { HasNode self.old.nodes node }
+        requires { IsNode (length self.old.nodes) node }
         ensures answer { result ≡ draw_answer (buffer_of (buffers_at self.old node) range) }
         ensures stage { self.new ≡ buffered_step self.old (events.Draw node range) }
     {
@@ -151,7 +152,7 @@ impl Stage {
         place: u8,
         item: Item,
     ) -> Result<(), NotDrawn>
-        requires { HasNode self.old.nodes node }
+        requires { IsNode (length self.old.nodes) node }
         ensures answer { result
             ≡ publish_answer (buffer_of (buffers_at self.old node) range) place }
         ensures stage { self.new ≡ buffered_step self.old (events.Publish node range place item) }

@@ -39,7 +39,7 @@ impl Model for World {
     ghost use Rattle.std.specs.Coded.{codes};
     ghost use Rattle.rp_base.specs.Tables.{table_code};
     ghost use Rattle.rp_lines.specs.Players.{Player};
-    ghost use Rattle.rp_world.specs.Keeping.{IsBookOf};
+    ghost use Rattle.rp_world.specs.Keeping.{IsKept};
 
     ghost Value = { Player };
 
@@ -55,7 +55,7 @@ impl Model for World {
       events = w.events;
     } };
 
-    ghost invariant = { λ w. IsBookOf w.stage.nodes w.book };
+    ghost invariant = { λ w. IsKept w.stage.nodes w.book w.events };
 }
 
 /// Of each of so many senders no message was handled.

@@ -5,6 +5,7 @@ use Rattle.rp_replica.specs.declared.plans.ReplicaPlan.{ReplicaPlan}
 use Rattle.std.specs.Prelude.{Option}
 use Rattle.rp_node.specs.Cores.{node_of, seat_in}
 use Rattle.rp_node.specs.Plans.{answered, turned}
+use Rattle.rp_node.proofs.Ticking.{turn_stays}
 use Rattle.rp_node.proofs.Turning.{nothing_turned, hands_fit, turn_done}
 use Rattle.rp_node.proofs.cores.Core.turn.Goals as goal
 
@@ -40,3 +41,9 @@ returns-in_default-right-clause-done c =
     turn_done c.args.self.now c.args.range c.from.result (get_or seats c.from.result c.index-self-from.result) c.commit-effects.new.self c.in-Some.plan c.take_right-right.new.self c.args.plan None c.in-Some-effects.effects c.keep.new.self
     (search rules) (search rules) (search rules) (ap (λ d. get_or seats c.from.result d) c.index-self-from.is) c.commit-effects.ensures.status (search rules) c.take_right-right.ensures.does (search rules)
     (record { sent = c.keep.ensures.sent; outcomes = c.keep.ensures.outcomes; journal = c.keep.ensures.journal; requests = c.keep.ensures.requests })
+
+pub returns-in_default-right-clause-stays : goal.returns-in_default-right-clause-stays
+returns-in_default-right-clause-stays c =
+    turn_stays c.args.self.now c.args.range c.from.result (get_or c.args.self.now.seats c.from.result c.index-self-from.result) c.commit-effects.new.self c.in-Some.plan c.take_right-right.new.self c.args.plan c.in-Some-effects.effects c.keep.new.self
+    (search rules) (search rules) (search rules) c.take_right-right.ensures.does
+    (record { sent = c.keep.ensures.sent_spare; outcomes = c.keep.ensures.outcomes_spare })
