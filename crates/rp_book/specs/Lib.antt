@@ -1,2 +1,4 @@
 pub mod Books
+pub mod Keeping
 pub mod Handling
+pub mod Queueing

@@ -9,9 +9,7 @@ pub enum Draw {
     /// It had no place.
     Undrawn,
     /// It has drawn this place, and nothing is published there.
-    Drawn {
-        place: u8,
-    },
+    Drawn { place: u8 },
     /// Its item stands, or stood, at a place.
     Published,
 }

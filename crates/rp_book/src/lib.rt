@@ -4,8 +4,12 @@
 
 mod bookings;
 mod books;
-mod handled;
+mod handling;
+mod keeps;
+mod queues;
+mod stores;
 
 pub use bookings::{Booked, Draw};
 pub use books::Book;
-pub use handled::Handled;
+pub use handling::Handled;
+pub use queues::{QUEUES, Queues};

@@ -1,0 +1,5 @@
+pub mod Entries
+pub mod Firsts
+pub mod Fronts
+pub mod Latest
+pub mod Sorted
