@@ -1,17 +1,27 @@
 -- Attempts that are put into their buffers.
-use Rattle.std.specs.Prelude.{◌≡◌, ℕ, if◌then◌else◌, List, slice_get, Some, Ok}
+use Rattle.std.specs.Prelude.{◌≡◌, ℕ, if◌then◌else◌, List, slice_get, Option, None, Some, Ok}
 use Rattle.rp_base.specs.declared.ids.CmdId.{CmdId}
 use Rattle.rp_book.specs.declared.bookings.Booked.{Booked}
 use Rattle.rp_bufcore.specs.Buffers.{can_draw}
 use Rattle.rp_events.specs.declared.world_events.WorldEvent.TheVariants as events
 use Rattle.rp_lawful.specs.Onward.{IsBookedAs}
 use Rattle.rp_lines.specs.Commands.{buffer_at, draws_and_publishes}
-use Rattle.rp_lines.specs.Players.{Player, Played, did}
+use Rattle.rp_lines.specs.Players.{Player, Played, and_then, did, weighed}
 use Rattle.rp_lines.specs.Settling.{puts}
+use Rattle.rp_world.specs.Plays.{one_event_more, unspent}
 
 -- an entry of the book in its turn
 unfoldable pub put : CmdId × Booked → Player → Played
 put e p = puts e.0 e.1 e.1.draw p
+
+-- one more event is counted, and the weight is judged
+abbrev pub counted : Player → Played
+counted p = and_then (unspent p) (λ q. weighed (one_event_more q))
+
+-- so it is where a draw gave a place
+abbrev pub counted_if : Option ℕ → Player → Played
+counted_if None p = Ok p
+counted_if (Some place) p = counted p
 
 -- a draw where there is room
 abbrev pub drawn_if : (node range : ℕ) → Player → Played

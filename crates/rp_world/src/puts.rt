@@ -1,18 +1,14 @@
 //! First in a round of a settling: attempts go to their buffers.
-ghost use Rattle.std.specs.Prelude.{◌≡◌, ◌∷◌, ℕ, Some, IfOk, OnOk, if◌then◌else◌, length, slice_get};
-ghost use Rattle.rp_base.specs.declared.ids.CmdId.{CmdId};
-ghost use Rattle.rp_book.specs.declared.bookings.Booked.{Booked};
+ghost use Rattle.std.specs.Prelude.{◌≡◌, IfOk, OnOk, length};
 ghost use Rattle.rp_book.specs.declared.bookings.Draw.TheVariants as draw_states;
-ghost use Rattle.rp_bufcore.specs.Buffers.{can_draw};
 ghost use Rattle.rp_events.specs.declared.world_events.WorldEvent.TheVariants as events;
 ghost use Rattle.rp_lawful.specs.Onward.{IsBookedAs};
-ghost use Rattle.rp_lines.specs.Commands.{buffer_at, draws_and_publishes, publishes, with_draw};
-ghost use Rattle.rp_lines.specs.Players.{did};
+ghost use Rattle.rp_lines.specs.Commands.{buffer_at, publishes, with_draw};
 ghost use Rattle.rp_lines.specs.Settling.{for_each, is_latest, puts, puts_all};
-ghost use Rattle.rp_world.specs.Comes.{HasNode};
+ghost use Rattle.rp_script.specs.Bounds.{IsNode};
 ghost use Rattle.rp_world.specs.Going.{AsMany, Going};
-ghost use Rattle.rp_world.specs.Plays.{Does, place_in};
-ghost use Rattle.rp_world.specs.Putting.{AllBooked, StillBooked, drawn_if, put, put_if};
+ghost use Rattle.rp_world.specs.Plays.{Does, happened, place_in};
+ghost use Rattle.rp_world.specs.Putting.{AllBooked, StillBooked, counted, counted_if, drawn_if, put, put_if};
 
 use crate::faults::PlayFault;
 use crate::seats::is_waiting;
@@ -31,26 +27,50 @@ impl World {
         }
     }
 
-    /// A place is drawn where there is one, and that is counted; where there is none nothing happens.
-    fn draws_if_room(&mut self, node: NodeId, range: RangeId) -> Result<Option<u8>, PlayFault>
-        requires { HasNode self.old.world.nodes node }
-        ensures does { Does result self.new (drawn_if node range self.old) }
-        ensures place { IfOk result (λ place. place ≡ place_in (buffer_at self.old node range)) }
-        ensures book { self.new.book ≡ self.old.book }
-        ensures nodes { self.new.world.nodes ≡ self.old.world.nodes }
+    /// One more event is counted, and the weight is judged.
+    fn counted(&mut self) -> Result<(), PlayFault>
+        ensures { Does result self.new (counted self.old) }
     {
-        let Ok(place) = self.stage.draw(node, range) else {
-            return Ok(None);
-        };
         self.unspent()?;
         self.count();
-        self.weighed()?;
-        Ok(Some(place))
+        self.weighed()
+    }
+
+    /// A draw is counted where it gave a place.
+    fn counted_if(&mut self, place: Option<u8>) -> Result<(), PlayFault>
+        ensures { Does result self.new (counted_if place self.old) }
+    {
+        match place {
+            Some(_) => self.counted(),
+            None => Ok(()),
+        }
+    }
+
+    /// A place is drawn, where there is one.
+    fn draws_there(&mut self, node: NodeId, range: RangeId) -> Option<u8>
+        requires { IsNode (length self.old.world.nodes) node }
+        ensures place { result ≡ place_in (buffer_at self.old node range) }
+        ensures drawn { self.new ≡ happened (events.Draw node range) self.old }
+    {
+        self.stage.draw(node, range).ok()
+    }
+
+    /// A place is drawn where there is one, and that is counted; where there is none nothing happens.
+    fn draws_if_room(&mut self, node: NodeId, range: RangeId) -> Result<Option<u8>, PlayFault>
+        requires { IsNode (length self.old.world.nodes) node }
+        ensures does { Does result self.new (drawn_if node range self.old) }
+        ensures place { IfOk result (λ place. place ≡ place_in (buffer_at self.old node range)) }
+        ensures book { OnOk result (self.new.book ≡ self.old.book) }
+        ensures nodes { OnOk result (self.new.world.nodes ≡ self.old.world.nodes) }
+    {
+        let place = self.draws_there(node, range);
+        self.counted_if(place)?;
+        Ok(place)
     }
 
     /// An attempt is published at the place that it has just drawn.
     fn publishes_at(&mut self, id: CmdId, booked: &Booked, place: u8) -> Result<(), PlayFault>
-        requires node { HasNode self.old.world.nodes booked.now.node }
+        requires node { IsNode (length self.old.world.nodes) booked.now.node }
         requires has { IsBookedAs self.old id booked.now }
         ensures { Does result self.new (publishes id booked.now place
             (with_draw id booked.now (draw_states.Drawn place) self.old)) }
@@ -61,7 +81,7 @@ impl World {
 
     /// An attempt goes to its buffer, where there is room.
     fn puts_if_room(&mut self, id: CmdId, booked: &Booked) -> Result<(), PlayFault>
-        requires node { HasNode self.old.world.nodes booked.now.node }
+        requires node { IsNode (length self.old.world.nodes) booked.now.node }
         requires has { IsBookedAs self.old id booked.now }
         ensures { Does result self.new (put_if id booked.now self.old) }
     {
@@ -74,7 +94,7 @@ impl World {
     /// An attempt that had no place goes to the buffer, where it is its command's latest, waits, and
     /// there is room.
     fn puts_undrawn(&mut self, id: CmdId, booked: &Booked) -> Result<(), PlayFault>
-        requires node { HasNode self.old.world.nodes booked.now.node }
+        requires node { IsNode (length self.old.world.nodes) booked.now.node }
         requires has { IsBookedAs self.old id booked.now }
         ensures { Does result self.new (puts id booked.now draw_states.Undrawn self.old) }
     {
@@ -86,7 +106,7 @@ impl World {
 
     /// An attempt is put, by how far it has come: a drawn place is published.
     fn puts_by(&mut self, id: CmdId, booked: &Booked) -> Result<(), PlayFault>
-        requires node { HasNode self.old.world.nodes booked.now.node }
+        requires node { IsNode (length self.old.world.nodes) booked.now.node }
         requires has { IsBookedAs self.old id booked.now }
         ensures { Does result self.new (puts id booked.now booked.now.draw self.old) }
     {
