@@ -1,0 +1,12 @@
+pub mod Turning
+pub mod Finding
+pub mod Asks
+pub mod Ends
+pub mod Telling
+pub mod Requests
+pub mod Applying
+pub mod Sorting
+pub mod Replying
+pub mod Passing
+pub mod Looking
+pub mod Latests

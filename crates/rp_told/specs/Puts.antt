@@ -1,5 +1,5 @@
 -- Which attempts of a book a round of a settling may put into a buffer (this project).
-use Rattle.std.specs.Prelude.{ℕ, Bool, true, false}
+use Rattle.std.specs.Prelude.{Bool, true, false}
 use Rattle.rp_base.specs.declared.ids.CmdId.{CmdId}
 use Rattle.rp_book.specs.declared.bookings.Booked.{Booked}
 use Rattle.rp_book.specs.declared.bookings.Draw.{Draw}

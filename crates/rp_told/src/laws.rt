@@ -1,5 +1,5 @@
 //! Laws of what an event of a node tells and leaves. No program calls these functions.
-ghost use Rattle.std.specs.Prelude.{◌≡◌, ◌||◌, ℕ, ◌+◌, ◌-◌, ◌<◌, ◌≤◌, Bool, true, false, IsTrue, List, [], ◌++◌, map, length, filter, count_by, sum_by, slice_set, is_some, Option, None, Some};
+ghost use Rattle.std.specs.Prelude.{◌≡◌, ◌||◌, ℕ, ◌+◌, ◌-◌, ◌<◌, ◌≤◌, Bool, true, false, List, [], ◌++◌, map, length, filter, count_by, sum_by, slice_set, is_some, Option, None, Some};
 ghost use Rattle.std.specs.List.{AllByRecursion};
 ghost use Rattle.rp_base.specs.Ids.{same_id};
 ghost use Rattle.rp_base.specs.declared.ids.CmdId.{CmdId};
@@ -14,9 +14,9 @@ ghost use Rattle.rp_events.specs.Buffered.{Buffered, buffers_at, changed, at_nod
 ghost use Rattle.rp_journals.specs.Growth.{Grows};
 ghost use Rattle.rp_book.specs.declared.bookings.Booked.{Booked};
 ghost use Rattle.rp_book.specs.Books.{Book, booking_of, by_attempt};
-ghost use Rattle.rp_lines.specs.Players.{Player, weight_of, weight};
+ghost use Rattle.rp_lines.specs.Players.{Player, weight_of, weight, with_booking};
 ghost use Rattle.rp_lines.specs.Commands.{waits_in, is_waiting};
-ghost use Rattle.rp_lines.specs.Settling.{for_each, puts_all, left_to_apply, left_at};
+ghost use Rattle.rp_lines.specs.Settling.{for_each, is_latest, puts_all, left_to_apply, left_at};
 ghost use Rattle.rp_lines.specs.Views.{replies_of};
 ghost use Rattle.rp_told.specs.Turns.{Turns, answer_of, behind};
 ghost use Rattle.rp_told.specs.Outcomes.{EndsPending, asks, begun, begun_request, has_ended, is_open, is_pending, retold};
@@ -29,7 +29,7 @@ pub fn an_event_changes_its_node_alone()
     ensures others { (w : World) (x : Scene) (k : ℕ) → (k ≡ x.node → ⊥)
         → node_of (happens w x) k ≡ node_of w k }
     ensures size { (w : World) (x : Scene) → length (happens w x) ≡ length w }
-    ensures turns { (w : World) (x : Scene) → IsTrue (is_lawful w x) → (n : Node) × (now : Node)
+    ensures turns { (w : World) (x : Scene) → Lawful w x → (n : Node) × (now : Node)
         × Turns w x n now }
     ensures grows { (w : World) (x : Scene) (n : Node) (now : Node) → Turns w x n now → Grows n now }
     ensures left { (w : World) (x : Scene) (n : Node) (now : Node) → Turns w x n now
@@ -70,7 +70,7 @@ pub fn an_event_tells_its_answer_and_its_ends()
     ensures outcomes { (nodes : ℕ) (w : World) → IsReached nodes w → (x : Scene) (n : Node)
         → (now : Node) → Turns w x n now → (id : CmdId) → outcome_of (happens w x) id
         ≡ retold id (behind n.outcomes now.outcomes)
-            (begun id x.what (answer_of now) (outcome_of w id)) }
+        (begun id x.what (answer_of now) (outcome_of w id)) }
     ensures once { (nodes : ℕ) (w : World) → IsReached nodes w → (x : Scene) (n : Node)
         → (now : Node) → Turns w x n now → (id : CmdId)
         → count_by (λ e. same_id e.id id) (behind n.outcomes now.outcomes) ≤ 1 }
@@ -103,6 +103,13 @@ pub fn what_has_ended_never_waits_again()
         → (id : CmdId) → has_ended w id ≡ true → outcome_of later id ≡ outcome_of w id }
     ensures never { (nodes : ℕ) (w : World) (later : World) → IsReached nodes w → IsLater w later
         → (id : CmdId) (b : Booked) → has_ended w id ≡ true → is_waiting later id b ≡ false }
+{}
+
+/// An attempt of the book that is not the latest of its command never is again, whatever is booked.
+pub fn what_is_not_the_latest_never_is_again()
+    ensures { (p : Player) (id : CmdId) (other : CmdId) (b : Booked)
+        → is_some (booking_of id p.book) ≡ true → is_latest p id ≡ false
+        → is_latest (with_booking other b p) id ≡ false }
 {}
 
 /// A round of a settling passes over all entries of the book but those that may be put.

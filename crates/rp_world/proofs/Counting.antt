@@ -1,5 +1,5 @@
 -- An event in its parts: it may be counted, it happens, it is counted, and the weight is judged.
-use Rattle.std.proofs.Common.{◌≡◌, ℕ, ◌+◌, ◌==◌, Bool, true, false, Option, None, Some, Result, Ok, Err, List, ◌++◌, ◌∷◌, [], cond, min, refl, sym, ap, subst, ◌∙◌}
+use Rattle.std.proofs.Common.{◌≡◌, ℕ, ◌+◌, ◌==◌, Bool, true, false, Option, None, Some, Result, Ok, Err, List, ◌++◌, ◌∷◌, [], cond, min, refl, sym, ap, subst, ◌∙◌, ◌≤◌, arith, eq-eqb}
 use Rattle.std.specs.Prelude.{nat_lt}
 use Rattle.rp_base.specs.Gives.{Fails, Gives}
 use Rattle.rp_base.specs.declared.ids.CmdId.{CmdId}
@@ -127,3 +127,11 @@ fails_notes (Some l) e p line text h = go (p.events == most_events) (nat_lt most
   go true c is = is
   go false true is = is
   go false false is = absurd cc
+
+-- one more event may be counted
+pub one_more : (n most : ℕ) → (n == most) ≡ false → n ≤ most → n + 1 ≤ most
+one_more n most h le =
+    let ne : n ≡ most → ⊥ = λ e. clash (sym (eq-eqb n most e) ∙ h) in omega arith
+  where
+    clash : ◌≡◌ {A = Bool} true false → ⊥
+    clash e = cc

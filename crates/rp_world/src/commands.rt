@@ -126,9 +126,10 @@ impl World {
         requires undrawn { booked.now.draw ≡ draw_states.Undrawn }
         ensures { Does result self.new (asks_and_goes_on line id booked.now self.old) }
     {
-        match self.ask(id, booked)? {
-            EventAnswer::Admitted => self.draws_and_publishes(line, id, booked),
-            _ => Ok(()),
+        match self.ask(id, booked) {
+            Ok(EventAnswer::Admitted) => self.draws_and_publishes(line, id, booked),
+            Ok(_) => Ok(()),
+            Err(fault) => Err(fault),
         }
     }
 
@@ -170,8 +171,10 @@ impl World {
             (asks (next_command self.old client) booked.now (counted client self.old)) }
     {
         let id = self.next_command(client);
-        self.ask(id, booked)?;
-        Ok(())
+        match self.ask(id, booked) {
+            Ok(_) => Ok(()),
+            Err(fault) => Err(fault),
+        }
     }
 
     /// A command's latest attempt, where it was refused, with its request.

@@ -15,7 +15,7 @@ ghost use Rattle.rp_world.specs.Going.{AsMany, Going};
 ghost use Rattle.rp_world.specs.Plays.{Does, admission, happened, one_event_more, place_in, unspent};
 
 use crate::faults::PlayFault;
-use crate::scenes::node_of;
+use crate::scenes::{behind, node_of};
 use crate::worlds::World;
 use rp_base::{CmdId, Item, NoMemory, NodeId, RangeId, Which};
 use rp_book::{Book, Booked};
@@ -92,7 +92,7 @@ impl World {
         let node = node_of(event);
         let before = self.stage.ended(node).len();
         let answer = self.stage.step(event)?;
-        tell_all(&mut self.book, &self.stage.ended(node)[before..]);
+        tell_all(&mut self.book, behind(self.stage.ended(node), before));
         Ok(answer)
     }
 
@@ -116,6 +116,22 @@ impl World {
         self.count();
         self.weighed()?;
         Ok(answer)
+    }
+
+    /// An event of a node whose answer tells nothing.
+    pub(crate) fn pass(&mut self, event: &WorldEvent) -> Result<(), PlayFault>
+        requires going { Going self.old }
+        requires comes { Comes self.old.world event.now }
+        requires no_admission { IsNoAdmission event.now }
+        ensures does { Does result self.new (did event.now self.old) }
+        ensures going { IsPlain (length self.old.world.nodes) event.now
+            → OnOk result (Going self.new) }
+        ensures nodes { OnOk result (AsMany self.old self.new) }
+    {
+        match self.event(event) {
+            Ok(_) => Ok(()),
+            Err(fault) => Err(fault),
+        }
     }
 
     /// An attempt that was not asked before asks to be admitted, and stands in the book. At want of

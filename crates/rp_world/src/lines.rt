@@ -6,7 +6,8 @@ ghost use Rattle.rp_events.specs.Worlds.{sent_by};
 ghost use Rattle.rp_events.specs.declared.world_events.WorldEvent.TheVariants as events;
 ghost use Rattle.rp_lawful.specs.Comings.{IsPlain, node_in};
 ghost use Rattle.rp_lawful.specs.Playable.{CanPlay};
-ghost use Rattle.rp_lines.specs.Players.{did};
+ghost use Rattle.rp_lines.specs.Players.{did, noted};
+ghost use Rattle.rp_report.specs.Notes.{peek_text};
 ghost use Rattle.rp_lines.specs.Scripts.{does, flushes, played, puts_ask, tells, tells_refusal, told_absent};
 ghost use Rattle.rp_lines.specs.Settling.{delivers, ticks, with_handled};
 ghost use Rattle.rp_script.specs.Bounds.{Fits, IsNode};
@@ -19,7 +20,7 @@ use crate::notes::{held_text, not_holder_text, peek_text};
 use crate::scenes::{node_of, sent_by};
 use crate::seats::has_live;
 use crate::worlds::{Loss, World};
-use rp_base::{Item, Key, LeaseAsk, NoMemory, NodeId, RangeId};
+use rp_base::{Item, Key, LeaseAsk, NoMemory, NodeId, RangeId, Value};
 use rp_events::{EventAnswer, WorldEvent};
 use rp_request::Refusal;
 use rp_script::ScriptLine;
@@ -103,8 +104,24 @@ impl World {
     {
         let node = node_of(event);
         self.tell_absent(line, node, range)?;
-        let answer = self.event(event)?;
-        self.tell(line, node, range, &answer)
+        match self.event(event) {
+            Ok(answer) => self.tell(line, node, range, &answer),
+            Err(fault) => Err(fault),
+        }
+    }
+
+    /// A key's applied value, and the applied index, are told.
+    fn tell_value(
+        &mut self,
+        line: u32,
+        key: Key,
+        value: Option<Value>,
+        applied: u64,
+    ) -> Result<(), NoMemory>
+        ensures { OnOk result (self.new ≡ noted line (peek_text key value applied) self.old) }
+    {
+        let text = peek_text(self.alloc, key, value, applied)?;
+        self.note(line, text)
     }
 
     /// The applied value of a key is told.
@@ -121,12 +138,12 @@ impl World {
             (does line node range key (events.Peek node range key) self.old) }
     {
         self.tell_absent(line, node, range)?;
-        match self.event(&WorldEvent::Peek { node, range, key })? {
-            EventAnswer::Value { value, applied } => {
-                let text = peek_text(self.alloc, key, value, applied)?;
-                Ok(self.note(line, text)?)
+        match self.event(&WorldEvent::Peek { node, range, key }) {
+            Ok(EventAnswer::Value { value, applied }) => {
+                Ok(self.tell_value(line, key, value, applied)?)
             }
-            answer => self.tell(line, node, range, &answer),
+            Ok(answer) => self.tell(line, node, range, &answer),
+            Err(fault) => Err(fault),
         }
     }
 
@@ -137,8 +154,8 @@ impl World {
         ensures { Does result self.new (flushes line node range self.old) }
     {
         self.tell_absent(line, node, range)?;
-        self.event(&WorldEvent::Collect { node, range })?;
-        self.event(&WorldEvent::Flush { node, range })?;
+        self.pass(&WorldEvent::Collect { node, range })?;
+        self.pass(&WorldEvent::Flush { node, range })?;
         Ok(())
     }
 
@@ -149,7 +166,7 @@ impl World {
         ensures { Does result self.new (ticks node count self.old) }
     {
         for _ in 0..count {
-            self.event(&WorldEvent::Tick { node })?;
+            self.pass(&WorldEvent::Tick { node })?;
         }
         Ok(())
     }
@@ -193,12 +210,11 @@ impl World {
             (did (events.Deliver to sender number) (with_handled sender number self.old)) }
     {
         self.handle(sender, number)?;
-        self.event(&WorldEvent::Deliver {
+        self.pass(&WorldEvent::Deliver {
             node: to,
             from: sender,
             number,
-        })?;
-        Ok(())
+        })
     }
 
     /// A message is handled from now on.
@@ -253,7 +269,7 @@ impl World {
         requires node { IsNode (length self.old.world.nodes) node }
         ensures { Does result self.new (did (events.Restart node) self.old) }
     {
-        self.event(&WorldEvent::Restart { node })?;
+        self.pass(&WorldEvent::Restart { node })?;
         Ok(())
     }
 

@@ -1,5 +1,5 @@
 //! What happens at a node.
-ghost use Rattle.std.specs.Prelude.{◌≡◌, Some, IfOk, IsSome, OnErr, map};
+ghost use Rattle.std.specs.Prelude.{◌≡◌, ◌≤◌, Some, IfOk, IsSome, OnErr, drop, length, map};
 ghost use Rattle.std.specs.Option.{option_map};
 ghost use Rattle.rp_events.specs.Nodes.{parcel_of};
 ghost use Rattle.rp_events.specs.Worlds.{delivery, sent_by};
@@ -45,6 +45,14 @@ pub(crate) fn sent_by(nodes: &Nodes<PlainEnd>, node: NodeId) -> &[Parcel<Snapsho
         Some(node) => node.sent().as_slice(),
         None => &[],
     }
+}
+
+/// What stands behind so many items.
+pub(crate) fn behind<T>(list: &[T], count: usize) -> &[T]
+    requires { count ≤ length list.now }
+    ensures { result.now ≡ drop count list.now }
+{
+    &list[count..]
 }
 
 /// The message with this number, as an event of its receiver.

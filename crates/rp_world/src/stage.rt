@@ -9,7 +9,7 @@ ghost use Rattle.rp_lawful.specs.Comings.{Comes, node_in};
 ghost use Rattle.rp_world.specs.Comes.{answer_in, buffered_of, ended_by, first_held, is_peek, is_value};
 ghost use Rattle.rp_world.specs.Weighing.{capped};
 
-use crate::scenes::{happen, node_of, sent_by};
+use crate::scenes::{behind, happen, node_of, sent_by};
 use crate::weights::sent_weight;
 use rp_base::{Item, NoMemory, NodeId, RangeId};
 use rp_bufcore::{Full, NotDrawn, PlainEnd};
@@ -128,7 +128,7 @@ impl Stage {
         let node = node_of(event);
         let before = sent_by(&self.nodes, node).len();
         let answer = happen(self.alloc, &mut self.nodes, event)?;
-        let more = sent_weight(&sent_by(&self.nodes, node)[before..]);
+        let more = sent_weight(behind(sent_by(&self.nodes, node), before));
         self.weight = self.weight.saturating_add(more);
         Ok(answer)
     }
