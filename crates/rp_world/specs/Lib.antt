@@ -4,3 +4,5 @@ pub mod Plays
 pub mod Keeping
 pub mod Going
 pub mod Latest
+pub mod Settled
+pub mod Putting
