@@ -74,6 +74,10 @@ pub fn a_sound_player_makes_events_that_come()
         → parcel_of (sent_by p.world.nodes sender) number ≡ Some parcel
         → IsNode (length p.world.nodes) parcel.to
         → Comes p.world (events.Deliver parcel.to sender number) }
+    ensures message { (lines : ℕ) (p : Player) → Sound lines p → (sender : ℕ) (number : ℕ)
+        → (parcel : Parcel AppliedState)
+        → parcel_of (sent_by p.world.nodes sender) number ≡ Some parcel
+        → Comes p.world (events.Deliver parcel.to sender number) }
     ensures next { (lines : ℕ) (p : Player) → Sound lines p → lines + 1 < 2 ^ 16
         → (node : ℕ) (range : ℕ) (client : ℕ) (request : Request)
         → IsNode (length p.world.nodes) node → IsClient client → FitsRequest request
@@ -83,6 +87,14 @@ pub fn a_sound_player_makes_events_that_come()
         → IsNode (length p.world.nodes) node → latest_of client seq p.book ≡ Some (id, b)
         → was_refused p.world.nodes id ≡ true
         → Comes p.world (events.Admit node range (following id) b.request) }
+{}
+
+/// Each message that a node of a reached world has sent is for one of its nodes: replies go to who
+/// sent, and who leads a range, or holds its lease, is a node.
+pub fn each_message_is_for_a_node()
+    ensures { (nodes : ℕ) (w : World) → IsReached nodes w → (sender : ℕ) (number : ℕ)
+        → (parcel : Parcel AppliedState) → parcel_of (sent_by w sender) number ≡ Some parcel
+        → IsNode nodes parcel.to }
 {}
 
 /// A message at a node that the world lacks is skipped.

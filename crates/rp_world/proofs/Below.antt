@@ -26,7 +26,7 @@ use Rattle.rp_lawful.proofs.Books.{latest_had}
 use Rattle.rp_lawful.proofs.Coming.{comes_nodes, plain_comes}
 use Rattle.rp_lawful.proofs.Lines.{noted_leads, plain_keeps}
 use Rattle.rp_lawful.proofs.Nexts.{further_comes, further_new, next_comes, next_new, room}
-use Rattle.rp_lawful.proofs.Playing.{can_fits, can_room, can_size, can_sound}
+use Rattle.rp_lawful.proofs.Playing.{can_fits, can_room, can_sound, sent_comes}
 use Rattle.rp_lines.specs.Commands.{following}
 use Rattle.rp_lines.specs.Players.{Player, did, next_command, noted, weight, weight_of}
 use Rattle.rp_told.proofs.Asks.{no_ends, was_asked_now}
@@ -83,7 +83,7 @@ comes_plain lines p sound e plain = plain_comes (length p.world.nodes) p.world s
 
 pub comes_deliver : (lines : ℕ) (p : Player) → Sound lines p → (sender number : ℕ) (parcel : Parcel AppliedState)
     → parcel_of (sent_by p.world.nodes sender) number ≡ Some parcel → Comes p.world (events.Deliver parcel.to sender number)
-comes_deliver lines p sound sender number parcel is = ?
+comes_deliver lines p sound sender number parcel is = sent_comes lines p sound sender number parcel is
 
 pub comes_next : (lines : ℕ) (p : Player) → Sound lines p → lines + 1 < 2 ^ 16 → (node range client : ℕ) (request : Request)
     → IsNode (length p.world.nodes) node → IsClient client → FitsRequest request → Comes p.world (events.Admit node range (next_command p client) request)

@@ -6,6 +6,7 @@ mod events;
 mod faults;
 mod lines;
 mod notes;
+mod puts;
 mod replies;
 mod runs;
 mod scenes;
