@@ -1,40 +1,10 @@
-<<<<<<< HEAD
-//! STUB until the book stands.
-ghost use Rattle.std.specs.Prelude.{◌≡◌, ◌+◌, ◌≤◌, [], None, Some, OnOk, if◌then◌else◌};
-=======
 //! The book of the attempts that clients made.
 ghost use Rattle.std.specs.Prelude.{◌≡◌, ◌+◌, ◌≤◌, [], None, Some, Option, IfOk, OnOk, if◌then◌else◌, map, IfOk};
->>>>>>> 96920cd2cd92c05ca56ac182b8fb4b57c5178067
 ghost use Rattle.std.specs.Option.{option_copied, option_map};
 ghost use Rattle.rp_base.specs.Ids.{same_id};
 ghost use Rattle.rp_base.specs.declared.ids.CmdId.{CmdId};
 ghost use Rattle.rp_request.specs.declared.outcomes.Outcome.TheVariants.{Pending};
 ghost use Rattle.rp_book.specs.declared.bookings.Booked.{Booked};
-<<<<<<< HEAD
-ghost use Rattle.rp_book.specs.Books.{booked, booking_of, latest_of, told_of};
-
-use crate::bookings::{Booked, Draw};
-use rp_base::{CmdId, NoMemory, Seq};
-use rp_request::Outcome;
-use std::alloc::Global;
-use std::marker::Model;
-
-/// A stub.
-#[derive(Drop)]
-pub struct Book {
-    alloc: Global,
-    entries: Seq<(CmdId, Booked)>,
-    told: Seq<Outcome>,
-}
-
-impl Model for Book {
-    ghost use Rattle.std.specs.Prelude.{[]};
-    ghost use Rattle.rp_book.specs.Books.{BookState};
-
-    ghost Value = { BookState };
-
-    ghost view = { λ b. record { entries = []; told = []; spare = 0 } };
-=======
 ghost use Rattle.rp_book.specs.Books.{booked, booking_of, by_attempt, latest_of, reply_of, told_of};
 
 use crate::bookings::{Booked, Draw};
@@ -70,7 +40,6 @@ impl Model for Book {
     } };
 
     ghost invariant = { λ b. IsIndexed (keys_of b.kept.entries) b.latest.entries };
->>>>>>> 96920cd2cd92c05ca56ac182b8fb4b57c5178067
 }
 
 impl Book {
@@ -80,14 +49,8 @@ impl Book {
         ensures told { (id : CmdId) → told_of id result.told ≡ None }
     {
         Book {
-<<<<<<< HEAD
-            alloc,
-            entries: Seq::new(alloc),
-            told: Seq::new(alloc),
-=======
             kept: IndexMap::new(alloc),
             latest: IndexMap::new(alloc),
->>>>>>> 96920cd2cd92c05ca56ac182b8fb4b57c5178067
         }
     }
 
@@ -98,15 +61,9 @@ impl Book {
         ensures room { OnOk result (n ≤ self.new.spare) }
         ensures kept { self.old.spare ≤ self.new.spare }
     {
-<<<<<<< HEAD
-        let _alloc = &self.alloc;
-        let _n = n;
-        Err(NoMemory)
-=======
         self.kept.reserve(n)?;
         self.latest.reserve(n)?;
         Ok(())
->>>>>>> 96920cd2cd92c05ca56ac182b8fb4b57c5178067
     }
 
     /// Puts a new attempt behind the others, without memory. Its outcome is pending.
@@ -118,28 +75,15 @@ impl Book {
             ≡ (if same_id other id then Some Pending else told_of other self.old.told) }
         ensures spare { self.old.spare ≤ self.new.spare + 1 }
     {
-<<<<<<< HEAD
-        let _alloc = &self.alloc;
-        let _id = id;
-        let _booking = booking;
-        unreachable!()
-=======
         stores::put(&mut self.kept, id, booking);
         stores::note_latest(&mut self.latest, id);
->>>>>>> 96920cd2cd92c05ca56ac182b8fb4b57c5178067
     }
 
     /// What the book has of an attempt.
     pub fn get(&self, id: CmdId) -> Option<&Booked>
         ensures { option_copied result ≡ booking_of id self.now.entries }
     {
-<<<<<<< HEAD
-        let _alloc = &self.alloc;
-        let _id = id;
-        None
-=======
         stores::booking(&self.kept, id)
->>>>>>> 96920cd2cd92c05ca56ac182b8fb4b57c5178067
     }
 
     /// The attempt has come so far in its buffer. Where the book lacks it, nothing changes.
@@ -150,24 +94,13 @@ impl Book {
         ensures told { (other : CmdId) → told_of other self.new.told ≡ told_of other self.old.told }
         ensures spare { self.old.spare ≤ self.new.spare }
     {
-<<<<<<< HEAD
-        let _alloc = &self.alloc;
-        let _id = id;
-        let _draw = draw;
-=======
         stores::set_draw(&mut self.kept, id, draw);
->>>>>>> 96920cd2cd92c05ca56ac182b8fb4b57c5178067
     }
 
     /// The last attempt that the book got of a command.
     pub fn latest(&self, client: u16, seq: u32) -> Option<(CmdId, Booked)>
         ensures { result ≡ latest_of client seq self.now.entries }
     {
-<<<<<<< HEAD
-        let _alloc = &self.alloc;
-        let _id = (client, seq);
-        None
-=======
         match stores::last_attempt(&self.latest, client, seq) {
             None => None,
             Some(attempt) => {
@@ -179,20 +112,13 @@ impl Book {
                 stores::with_booking(&self.kept, id)
             }
         }
->>>>>>> 96920cd2cd92c05ca56ac182b8fb4b57c5178067
     }
 
     /// What was told of an attempt's outcome: none where the book lacks it.
     pub fn outcome(&self, id: CmdId) -> Option<Outcome>
         ensures { result ≡ told_of id self.now.told }
     {
-<<<<<<< HEAD
-        let _alloc = &self.alloc;
-        let _id = id;
-        None
-=======
         stores::outcome(&self.kept, id)
->>>>>>> 96920cd2cd92c05ca56ac182b8fb4b57c5178067
     }
 
     /// This is told of an attempt's outcome. Where the book lacks it, nothing changes.
@@ -202,11 +128,6 @@ impl Book {
             ≡ (if same_id other id then option_map (λ _. outcome) (told_of other self.old.told) else told_of other self.old.told) }
         ensures spare { self.old.spare ≤ self.new.spare }
     {
-<<<<<<< HEAD
-        let _alloc = &self.alloc;
-        let _id = id;
-        let _outcome = outcome;
-=======
         stores::tell(&mut self.kept, id, outcome);
     }
 
@@ -224,6 +145,5 @@ impl Book {
     {
         let lines = stores::lines(&self.kept)?;
         Ok(Seq::from_vec(lines))
->>>>>>> 96920cd2cd92c05ca56ac182b8fb4b57c5178067
     }
 }
