@@ -1,24 +1,22 @@
 -- Each message that a range's Raft sends is for one of the range's nodes.
-use Rattle.std.proofs.Common.{◌≡◌, ℕ, zero, suc, ◌+◌, ◌-◌, ◌<◌, ◌≤◌, ⊎_elim, max, min, Bool, true, false, cond, not, ◌&&◌, eqb, ltb, leb, Option, Some, None, List, [], ◌∷◌, ◌++◌, map, length, get_or, set, replicate, filter, refl, sym, ap, subst, ◌∙◌, arith}
+use Rattle.std.proofs.Common.{◌≡◌, ℕ, zero, suc, ◌+◌, ◌<◌, ◌≤◌, ⊎_elim, max, min, Bool, true, false, cond, not, ◌&&◌, eqb, ltb, leb, Option, Some, None, List, [], ◌∷◌, map, length, get_or, set, replicate, refl, sym, ap, subst, ◌∙◌, arith}
 use Rattle.std.specs.Prelude.{slice_get}
-use Rattle.std.specs.Option.{option_map_or, unwrap_or}
+use Rattle.std.specs.Option.{option_map_or}
 use Rattle.std.specs.List.{AllByRecursion as Every}
 use Rattle.std.proofs.lemmas.Bool.{cond_both, cases_lt}
 use Rattle.std.proofs.lemmas.List.{length-set}
-use Rattle.std.proofs.lemmas.Option.{slice_get_within}
 use Rattle.rp_base.proofs.Elements.{all_filter}
 use Rattle.rp_raftlog.specs.declared.entries.Entry.{Entry}
-use Rattle.rp_raftlog.specs.LogState.{LogState, log_at, last_index, last_term, entry_at, has_term, matches, accepted, accepted_to}
-use Rattle.rp_raftstep.specs.declared.events.RaftEvent.TheVariants.{Cut}
+use Rattle.rp_raftlog.specs.LogState.{log_at, last_index, last_term, entry_at, has_term, matches, accepted, accepted_to}
 use Rattle.rp_raftstep.specs.declared.heads.Head.{Head}
 use Rattle.rp_raftstep.specs.declared.heads.Due.{Due}
 use Rattle.rp_raftstep.specs.declared.heads.Due.TheVariants.{Nobody, One, Everyone}
 use Rattle.rp_raftstep.specs.declared.messages.Message.{Message}
 use Rattle.rp_raftstep.specs.declared.messages.Message.TheVariants.{Vote, VoteReply, Append, AppendReply, Forward, Snap}
-use Rattle.rp_raftstep.specs.RaftState.{RaftState, is_leader, is_candidate, of_node, with_node, nodes_to, peers, restarted}
-use Rattle.rp_raftstep.specs.Step.{Draft, quiet, answered, sends_to, nothing, with_payloads, leading, is_elected, elected, tick_leading, candidate, requests, stand, patience, tick_waiting, tick, observed, is_up_to_date, may_vote, on_vote, on_vote_reply, following, refused_old, take_append, on_append, on_mismatch, on_match, next_after, on_append_reply, on_forward, take_snap, on_snap, received, proposed, forwards, due_after, then_proposed, committable, advanced, to_peer, due_peers, sends_among, last_sends, absent_answer}
-use Rattle.rp_raftsafe.specs.World.{Range, Replica, Status, Absent, Live, Removed, Site, World, Turn, stays, first, from_snap, by_raft, applied_one, Action, Begin, Ticks, Proposes, Applies, Cuts, Removes, Restarts, replica_acts, absent_acts, acts, absent_after, gets, site, with_site, after_turn, message_of, Event, Acts, Comes, comes, happens, run, nowhere, world_after}
-use Rattle.rp_raftsafe.proofs.Pieces.{every_append, every_map, every_all, every_of}
+use Rattle.rp_raftstep.specs.RaftState.{RaftState, is_leader, is_candidate, with_node, nodes_to, peers, restarted}
+use Rattle.rp_raftstep.specs.Step.{Draft, quiet, answered, sends_to, with_payloads, leading, is_elected, elected, tick_leading, candidate, stand, patience, tick_waiting, tick, observed, is_up_to_date, may_vote, on_vote, on_vote_reply, following, refused_old, take_append, on_append, on_mismatch, on_match, next_after, on_append_reply, on_forward, take_snap, on_snap, received, forwards, then_proposed, committable, advanced, to_peer, due_peers, last_sends}
+use Rattle.rp_raftsafe.specs.World.{Range, Replica, Status, Absent, Live, Removed, Site, World, Turn, stays, first, by_raft, applied_one, Action, Begin, Ticks, Proposes, Applies, Cuts, Removes, Restarts, acts, gets, site, with_site, after_turn, message_of, Event, Acts, Comes, comes, happens, run, nowhere, world_after}
+use Rattle.rp_raftsafe.proofs.Pieces.{every_append, every_map}
 use Rattle.rp_script.specs.Bounds.{IsNode}
 use Rattle.rp_journals.proofs.Lists.{all_push}
 use Rattle.rp_lawful.proofs.Buffers.{each_set, get_same}
@@ -99,13 +97,13 @@ module _ {S : Type 0} (n : ℕ) where
       (λ _.
       cond_both (eqb (st.head.silent + 1) (patience st.head.node)) (stand st) (quiet (record st { head = record st.head { silent = st.head.silent + 1 } })) (λ d. DraftIn {S = S} n d)
       (λ _.
-        let c : HeadIn n (candidate st.head) = record { nodes = h.nodes; node = h.node; leader = tt } in
-        let e : DraftIn {S = S} n (elected (record st { head = candidate st.head })) = elected_in (record st { head = candidate st.head }) c in
-        record {
-          head = e.head;
-          replies = every_map (λ (m : ℕ × Message S). IsFor n m) (λ peer. (peer, Vote (st.head.term + 1) (last_index st.log) (last_term st.log))) (peers (candidate st.head)) (peers_in n (candidate st.head) h.nodes);
-          due = e.due;
-        })
+      let c : HeadIn n (candidate st.head) = record { nodes = h.nodes; node = h.node; leader = tt } in
+      let e : DraftIn {S = S} n (elected (record st { head = candidate st.head })) = elected_in (record st { head = candidate st.head }) c in
+      record {
+        head = e.head;
+        replies = every_map (λ (m : ℕ × Message S). IsFor n m) (λ peer. (peer, Vote (st.head.term + 1) (last_index st.log) (last_term st.log))) (peers (candidate st.head)) (peers_in n (candidate st.head) h.nodes);
+        due = e.due;
+      })
       (λ _. quiet_in (record st { head = record st.head { silent = st.head.silent + 1 } }) (same_head n st.head _ refl refl refl h)))
 
   on_vote_in : (st : RaftState) (from t i it : ℕ) → HeadIn n st.head → IsNode n from → DraftIn {S = S} n (on_vote st from t i it)
@@ -282,14 +280,14 @@ module _ {S : Type 0} (g : Range S) (holder : IsNode g.nodes g.holder) where
   turned w h zero t k = h
   turned w h (suc place) t k = ⊎_elim
       (λ (within : place < length w).
-        let size = h.size in
-        let turn : TurnIn g.nodes t = k (omega arith, omega (arith, within, size)) in
-        let old : SiteIn (site w (suc place)) = h.each place in
-        record {
-          size = length-set w place (after_turn (site w (suc place)) t) ∙ h.size;
-          each = each_set SiteIn w place (after_turn (site w (suc place)) t) (record { status = Absent; sent = [] }) h.each
-              (record { status = turn.status; sent = every_append (λ (m : ℕ × Message S). IsFor g.nodes m) (site w (suc place)).sent t.sends old.sent turn.sends });
-        })
+      let size = h.size in
+      let turn : TurnIn g.nodes t = k (omega arith, omega (arith, within, size)) in
+      let old : SiteIn (site w (suc place)) = h.each place in
+      record {
+        size = length-set w place (after_turn (site w (suc place)) t) ∙ h.size;
+        each = each_set SiteIn w place (after_turn (site w (suc place)) t) (record { status = Absent; sent = [] }) h.each
+            (record { status = turn.status; sent = every_append (λ (m : ℕ × Message S). IsFor g.nodes m) (site w (suc place)).sent t.sends old.sent turn.sends });
+      })
       (λ (past : length w ≤ place). subst WorldIn (sym (set_past w place (after_turn (site w (suc place)) t) past)) h)
       (cases_lt place (length w))
 

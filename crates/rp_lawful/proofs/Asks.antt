@@ -1,21 +1,14 @@
 -- Attempts that are asked: a client's next command, and the attempt behind one that was refused.
-use Rattle.std.proofs.Common.{◌≡◌, ◌≢◌, ◌⊎◌, inl, inr, ⊎_elim, ℕ, zero, suc, ◌+◌, ◌-◌, ◌<◌, ◌≤◌, ◌^◌, Bool, true, false, cond, Option, None, Some, List, [], ◌∷◌, ◌++◌, length, get_or, set, Result, Ok, Err, refl, sym, ap, subst, ◌∙◌, arith, eqb-true}
-use Rattle.std.specs.Prelude.{slice_get, nat_lt, not, ◌==◌, ◌&&◌, ◌||◌, IsTrue}
-use Rattle.std.specs.Option.{option_map_or}
-use Rattle.std.specs.List.{list_any}
-use Rattle.std.proofs.lemmas.Bool.{cases_eq, and_parts}
-use Rattle.rp_base.specs.ClientCounts.{count_of, one_more_of}
-use Rattle.rp_base.specs.Ids.{same_id}
+use Rattle.std.proofs.Common.{◌≡◌, ◌⊎◌, inl, inr, ⊎_elim, ℕ, ◌+◌, ◌<◌, ◌≤◌, Bool, true, false, Option, None, Some, List, [], length, Ok, refl, sym, ap, subst, ◌∙◌, arith, eqb-true}
+use Rattle.std.specs.Prelude.{slice_get, ◌==◌, ◌&&◌}
+use Rattle.std.proofs.lemmas.Bool.{and_parts}
+use Rattle.rp_base.specs.ClientCounts.{count_of}
 use Rattle.rp_base.specs.declared.ids.CmdId.{CmdId}
-use Rattle.rp_base.proofs.ClientCountLaws.{one_more_length, client_within, one_more_counted, others_counted, counts_grow, counts_bounded}
-use Rattle.rp_base.proofs.IdLaws.{id_by_parts, same_itself, id_cases, apart_not_same}
+use Rattle.rp_base.proofs.IdLaws.{id_cases, apart_not_same}
 use Rattle.rp_request.specs.Attempts.{previous}
-use Rattle.rp_request.specs.Fits.{FitsId, FitsRequest}
-use Rattle.rp_request.specs.Requests.{same_request}
+use Rattle.rp_request.specs.Fits.{FitsRequest}
 use Rattle.rp_request.specs.declared.requests.Request.{Request}
-use Rattle.rp_script.specs.Bounds.{IsNode, IsClient, IsCommand}
-use Rattle.rp_script.specs.declared.lines.ScriptLine.TheVariants as script
-use Rattle.rp_events.specs.declared.answers.EventAnswer.{EventAnswer}
+use Rattle.rp_script.specs.Bounds.{IsNode, IsCommand}
 use Rattle.rp_events.specs.declared.journals.JournalEntry.{JournalEntry}
 use Rattle.rp_events.specs.declared.node_events.Event.TheVariants as node_events
 use Rattle.rp_events.specs.declared.world_events.WorldEvent.TheVariants as events
@@ -23,25 +16,24 @@ use Rattle.rp_events.specs.Nodes.{Node}
 use Rattle.rp_events.specs.NodeEvents.{step}
 use Rattle.rp_events.specs.Worlds as worlds
 use Rattle.rp_events.specs.Worlds.{World, Happening, Scene, node_of, with_node, happens, is_admission_of, asked_at, was_asked, asked_request, asked_request_at, request_of}
-use Rattle.rp_events.specs.Lawful.{Lawful, IsReached, IsLater, may_begin, was_refused}
+use Rattle.rp_events.specs.Lawful.{Lawful, IsLater}
 use Rattle.rp_events.specs.Buffered.{Buffered, buffered_step}
 use Rattle.rp_journals.proofs.Lists.{get_end}
 use Rattle.rp_journals.proofs.Growing.{with_same}
 use Rattle.rp_journals.proofs.Reading.{entry_of, step_journal}
 use Rattle.rp_journals.proofs.Admitting.{asked_here}
-use Rattle.rp_journals.proofs.Asking.{Admitting, not_true, written_asked, asked_once, any_at, true_not_false}
+use Rattle.rp_journals.proofs.Asking.{Admitting, true_not_false}
 use Rattle.rp_journals.proofs.Elsewhere.{lawful_node, happens_is}
 use Rattle.rp_book.specs.declared.bookings.Booked.{Booked}
-use Rattle.rp_book.specs.declared.bookings.Draw.TheVariants.{Undrawn}
-use Rattle.rp_book.specs.Books.{Book, booked, booking_of, last_of, latest_of}
-use Rattle.rp_lines.specs.Players.{Player, Played, did, weight, most_events, most_weight, next_command, counted, with_booking}
-use Rattle.rp_lines.specs.Commands.{asks, booking, following}
-use Rattle.rp_lawful.specs.Sound.{Sound, IsSoundBook, IsSoundBooking, IsAskedAs, FollowsRefused, IsLatest, HasLatest}
-use Rattle.rp_lawful.specs.Comings.{scene_at, node_in, happening_of}
-use Rattle.rp_lawful.specs.Onward.{IsBookedAs, LeadsOn, LineLeadsOn}
-use Rattle.rp_lawful.proofs.Worlds.{equal_itself, all_events}
+use Rattle.rp_book.specs.Books.{Book, booked, booking_of, last_of}
+use Rattle.rp_lines.specs.Players.{Player, weight, most_events, most_weight, with_booking}
+use Rattle.rp_lines.specs.Commands.{asks}
+use Rattle.rp_lawful.specs.Sound.{Sound, IsSoundBooking, IsAskedAs, FollowsRefused, HasLatest}
+use Rattle.rp_lawful.specs.Comings.{scene_at}
+use Rattle.rp_lawful.specs.Onward.{IsBookedAs}
+use Rattle.rp_lawful.proofs.Worlds.{equal_itself}
 use Rattle.rp_lawful.proofs.Books.{booked_here, booked_other, booked_apart, latest_new, latest_other}
-use Rattle.rp_lawful.proofs.Coming.{lawful_at, event_leaves}
+use Rattle.rp_lawful.proofs.Coming.{event_leaves}
 use Rattle.rp_lawful.proofs.Events.{Counted, counted_is, after_event, BookGrows, booking_on, booked_itself, handling_on, NodesOn, nodes_on}
 
 -- an attempt that may be asked next, where each client has sent so many commands then
@@ -175,7 +167,7 @@ module _ (k : ℕ) (p : Player) (s : Sound k p) (sent : List ℕ) (id : CmdId) (
                 seq_is = x.latest.seq_is;
                 last = λ other y is of at. ⊎_elim
                     (λ (z : (other ≡ id) × (y ≡ b)).
-                      absurd (true_not_false _ (two_parts id.client client id.seq seq (ap (λ (i : CmdId). i.client) (sym z.0) ∙ of) (ap (λ (i : CmdId). i.seq) (sym z.0) ∙ at)) ne))
+                    absurd (true_not_false _ (two_parts id.client client id.seq seq (ap (λ (i : CmdId). i.client) (sym z.0) ∙ of) (ap (λ (i : CmdId). i.seq) (sym z.0) ∙ at)) ne))
                     (λ (z : booking_of other p.book ≡ Some y). x.latest.last other y z of at)
                     (before other y is);
               };
@@ -198,9 +190,9 @@ module _ (k : ℕ) (p : Player) (s : Sound k p) (sent : List ℕ) (id : CmdId) (
               (before other x is);
           asked = λ other is. ⊎_elim
               (λ (was : was_asked p.world.nodes other ≡ true).
-                let x = s.book.asked other was in
-                let y = still other x.0 (booked_itself p other x.0 x.1) in
-                (record (x.0) { draw = y.draw }, y.is))
+              let x = s.book.asked other was in
+              let y = still other x.0 (booked_itself p other x.0 x.1) in
+              (record (x.0) { draw = y.draw }, y.is))
               (λ (a : Admitting other what). (b, subst (λ z. booking_of z (booked id b p.book) ≡ Some b) (same_attempt other a) (booked_here id b p.book)))
               (o.asked other is);
           latest = latest;

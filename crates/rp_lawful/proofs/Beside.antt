@@ -1,15 +1,12 @@
 -- What makes no event keeps soundness; so does each event that admits nothing.
-use Rattle.std.proofs.Common.{◌≡◌, ◌≢◌, ◌⊎◌, inl, inr, ⊎_elim, ℕ, zero, suc, ◌+◌, ◌-◌, ◌<◌, ◌≤◌, ◌^◌, Bool, true, false, cond, Option, None, Some, List, [], ◌∷◌, ◌++◌, length, get_or, set, replicate, Result, Ok, Err, refl, sym, ap, subst, ◌∙◌, arith}
-use Rattle.std.specs.Prelude.{slice_get, ◌==◌, ◌&&◌}
+use Rattle.std.proofs.Common.{◌≡◌, ◌≢◌, ◌⊎◌, inl, inr, ⊎_elim, ℕ, zero, suc, ◌+◌, ◌-◌, ◌≤◌, true, false, Option, Some, List, [], ◌∷◌, length, get_or, set, replicate, refl, sym, ap, subst, ◌∙◌, arith}
 use Rattle.std.proofs.lemmas.List.{length-set, length-append, get_or-set_other}
 use Rattle.std.proofs.lemmas.Bool.{cases_eq}
 use Rattle.std.proofs.lemmas.Option.{slice_get_within}
-use Rattle.rp_base.specs.Ids.{same_id}
 use Rattle.rp_base.specs.declared.ids.CmdId.{CmdId}
-use Rattle.rp_base.proofs.IdLaws.{same_is, same_itself, id_cases, apart_not_same}
+use Rattle.rp_base.proofs.IdLaws.{id_cases, apart_not_same}
 use Rattle.rp_request.specs.Applied.{AppliedState}
 use Rattle.rp_request.specs.declared.notes.Note.{Note}
-use Rattle.rp_script.specs.Bounds.{IsCommand}
 use Rattle.rp_events.specs.declared.parcels.Parcel.{Parcel}
 use Rattle.rp_events.specs.declared.world_events.WorldEvent.{WorldEvent}
 use Rattle.rp_events.specs.Nodes.{parcel_of}
@@ -20,15 +17,14 @@ use Rattle.rp_journals.proofs.Growing.{later_refl, world_refl}
 use Rattle.rp_journals.proofs.Asking.{Admitting}
 use Rattle.rp_book.specs.declared.bookings.Booked.{Booked}
 use Rattle.rp_book.specs.declared.bookings.Draw.{Draw}
-use Rattle.rp_book.specs.Books.{Book, booked, booking_of, latest_of}
+use Rattle.rp_book.specs.Books.{booked, booking_of}
 use Rattle.rp_book.specs.Handling.{Handling, padded, handled}
-use Rattle.rp_lines.specs.Players.{Player, Played, Loss, did, weight, most_events, most_weight}
+use Rattle.rp_lines.specs.Players.{Player, Loss, did, weight, most_events, most_weight}
 use Rattle.rp_lines.specs.Commands.{with_draw}
 use Rattle.rp_lines.specs.Settling.{handling_of, with_handled}
-use Rattle.rp_lawful.specs.Sound.{Sound, IsSoundBook, IsSoundBooking, IsLatest, HasLatest, IsSoundHandling, IsLoss}
+use Rattle.rp_lawful.specs.Sound.{Sound, IsSoundBooking, IsSoundHandling, IsLoss}
 use Rattle.rp_lawful.specs.Comings.{scene_at, node_in, happening_of}
 use Rattle.rp_lawful.specs.Onward.{IsBookedAs, LeadsOn}
-use Rattle.rp_lawful.proofs.Buffers.{each_set}
 use Rattle.rp_lawful.proofs.Books.{booked_here, booked_other, booked_apart, latest_had, latest_stays}
 use Rattle.rp_lawful.proofs.Coming.{event_leaves}
 use Rattle.rp_lawful.proofs.Keeping.{Keeps}
@@ -165,8 +161,8 @@ module _ (k : ℕ) (p : Player) (s : Sound k p) where
               apart = booked_apart id new p.book s.book.apart;
               booked = λ other x is. ⊎_elim
                   (λ (y : (other ≡ id) × (x ≡ new)).
-                    subst (λ z. IsSoundBooking k q z x) (sym y.0) (subst (IsSoundBooking k q id) (sym y.1)
-                    (redrawn k q id old draw (booking_on k k p q (no_less k) g id old (s.book.booked id old was.is)))))
+                  subst (λ z. IsSoundBooking k q z x) (sym y.0) (subst (IsSoundBooking k q id) (sym y.1)
+                  (redrawn k q id old draw (booking_on k k p q (no_less k) g id old (s.book.booked id old was.is)))))
                   (λ (y : booking_of other p.book ≡ Some x). booking_on k k p q (no_less k) g other x (s.book.booked other x y))
                   (before other x is);
               asked = λ other is.
@@ -246,10 +242,10 @@ module _ (k : ℕ) (p : Player) (s : Sound k p) where
       each : (other : ℕ) → 1 ≤ other → length (get_or (set p.handled (sender - 1) (handled number (handling_of p sender))) (other - 1) []) ≤ length (sent_by p.world.nodes other)
       each other first = ⊎_elim
           (λ (same : other ≡ sender).
-            subst (λ z. length (get_or (set p.handled (sender - 1) (handled number (handling_of p sender))) (z - 1) []) ≤ length (sent_by p.world.nodes z)) (sym same)
-            (here p.handled (sender - 1) (handled number (handling_of p sender)) (length (sent_by p.world.nodes sender))
-            (longer (handling_of p sender) (s.handling.within sender from_one)) (s.handling.within sender from_one)))
+          subst (λ z. length (get_or (set p.handled (sender - 1) (handled number (handling_of p sender))) (z - 1) []) ≤ length (sent_by p.world.nodes z)) (sym same)
+          (here p.handled (sender - 1) (handled number (handling_of p sender)) (length (sent_by p.world.nodes sender))
+          (longer (handling_of p sender) (s.handling.within sender from_one)) (s.handling.within sender from_one)))
           (λ (ne : other ≡ sender → ⊥).
-            let apart : other - 1 ≢ sender - 1 = let one = from_one in omega (arith, first, one, ne) in
-            subst (λ (h : Handling). length h ≤ length (sent_by p.world.nodes other)) (sym (get_or-set_other p.handled (sender - 1) (other - 1) (handled number (handling_of p sender)) [] apart)) (s.handling.within other first))
+          let apart : other - 1 ≢ sender - 1 = let one = from_one in omega (arith, first, one, ne) in
+          subst (λ (h : Handling). length h ≤ length (sent_by p.world.nodes other)) (sym (get_or-set_other p.handled (sender - 1) (other - 1) (handled number (handling_of p sender)) [] apart)) (s.handling.within other first))
           (cases_eq other sender)

@@ -1,8 +1,7 @@
 -- The book: what it has of an attempt, and which attempt of a command it has last.
-use Rattle.std.proofs.Common.{◌≡◌, ◌⊎◌, inl, inr, ⊎_elim, ℕ, zero, suc, ◌+◌, ◌-◌, ◌≤◌, Bool, true, false, cond, Option, None, Some, List, [], ◌∷◌, ◌++◌, length, map, refl, sym, ap, subst, ◌∙◌, arith, eqb-true}
+use Rattle.std.proofs.Common.{◌≡◌, ◌⊎◌, inl, inr, ⊎_elim, ℕ, zero, suc, ◌+◌, ◌-◌, Bool, true, false, cond, Option, None, Some, List, [], ◌∷◌, ◌++◌, length, map, refl, sym, ap, subst, ◌∙◌, arith, eqb-true}
 use Rattle.std.specs.Prelude.{slice_get, ◌==◌, ◌&&◌}
 use Rattle.std.specs.List.{filter, fold}
-use Rattle.std.specs.Map.{lookup}
 use Rattle.std.specs.BTreeMap.{insert_entry}
 use Rattle.std.specs.Ordering.{match_ordering}
 use Rattle.std.specs.declared.cmp.Ordering.{Ordering}
@@ -10,7 +9,7 @@ use Rattle.std.specs.declared.cmp.Ordering.TheVariants.{Less, Equal, Greater}
 use Rattle.std.specs.Option.{option_map}
 use Rattle.std.proofs.lemmas.Bool.{and_parts}
 use Rattle.std.proofs.lemmas.List.{length-append, length-map}
-use Rattle.std.proofs.lemmas.Option.{slice_get-map, slice_get_within}
+use Rattle.std.proofs.lemmas.Option.{slice_get-map}
 use Rattle.rp_base.specs.Ids.{cmd_cmp, same_id}
 use Rattle.rp_base.specs.declared.ids.CmdId.{CmdId}
 use Rattle.rp_base.proofs.IdLaws.{same_is, same_itself, same_back, cmd_equal_is}
@@ -200,5 +199,5 @@ sorted_from (z ∷ es) sorted P each before i e at =
 pub by_attempt_had : (book : Book) → AreApart book → (i : ℕ) (e : Entry) → slice_get (by_attempt book) i ≡ Some e → booking_of e.0 book ≡ Some e.1
 by_attempt_had book h i e at =
     sorted_from book [] (λ (x : Entry). booking_of x.0 book ≡ Some x.1) (λ j f is. booking_at book h j f is) (λ j f is. absurd (nothing j f is)) i e at where
-  nothing : (j : ℕ) (f : Entry) → ◌≡◌ {A = Option Entry} (slice_get [] j) (Some f) → ⊥
-  nothing j f is = cc
+      nothing : (j : ℕ) (f : Entry) → ◌≡◌ {A = Option Entry} (slice_get [] j) (Some f) → ⊥
+      nothing j f is = cc

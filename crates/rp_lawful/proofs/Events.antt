@@ -1,31 +1,27 @@
 -- What an event of a sound player leaves.
-use Rattle.std.proofs.Common.{◌≡◌, ◌⊎◌, inl, inr, ⊎_elim, ℕ, zero, suc, ◌+◌, ◌-◌, ◌<◌, ◌≤◌, ◌^◌, Bool, true, false, cond, Option, None, Some, List, [], ◌∷◌, ◌++◌, length, get_or, set, min, Result, Ok, Err, refl, sym, ap, subst, ◌∙◌, arith}
-use Rattle.std.specs.Prelude.{nat_lt, ◌==◌, if◌then◌else◌}
-use Rattle.std.specs.Option.{option_map_or}
-use Rattle.std.proofs.lemmas.Bool.{cases_eq, eqb-false}
-use Rattle.rp_base.specs.ClientCounts.{count_of, one_more_of}
+use Rattle.std.proofs.Common.{◌≡◌, ◌⊎◌, ℕ, ◌+◌, ◌≤◌, Bool, true, false, cond, Option, Some, List, [], ◌∷◌, ◌++◌, length, min, Ok, Err, refl, sym, ap, subst, ◌∙◌, arith}
+use Rattle.std.specs.Prelude.{nat_lt, ◌==◌}
+use Rattle.std.proofs.lemmas.Bool.{eqb-false}
+use Rattle.rp_base.specs.ClientCounts.{count_of}
 use Rattle.rp_base.specs.declared.ids.CmdId.{CmdId}
 use Rattle.rp_base.specs.declared.limits.Which.TheVariants as which
 use Rattle.rp_request.specs.Attempts.{previous}
 use Rattle.rp_events.specs.declared.world_events.WorldEvent.{WorldEvent}
-use Rattle.rp_events.specs.Nodes.{Node}
-use Rattle.rp_events.specs.Worlds as worlds
-use Rattle.rp_events.specs.Worlds.{World, Happening, Scene, node_of, sent_by, happens, was_asked}
+use Rattle.rp_events.specs.Worlds.{World, Scene, sent_by, happens, was_asked}
 use Rattle.rp_events.specs.Lawful.{Lawful, IsReached, IsLater, was_refused}
 use Rattle.rp_events.specs.Buffered.{Buffered, buffered_step}
 use Rattle.rp_journals.specs.Growth.{Begins, WorldGrows}
-use Rattle.rp_journals.proofs.Growing.{reached_later, later_grows, scene_grows, sent_grows}
+use Rattle.rp_journals.proofs.Growing.{reached_later, scene_grows, sent_grows}
 use Rattle.rp_journals.proofs.Writing.{later_scene}
-use Rattle.rp_journals.proofs.Asking.{Admitting, true_not_false}
+use Rattle.rp_journals.proofs.Asking.{Admitting}
 use Rattle.rp_book.specs.declared.bookings.Booked.{Booked}
 use Rattle.rp_book.specs.declared.bookings.Draw.{Draw}
-use Rattle.rp_book.specs.Books.{Book, booking_of, latest_of}
+use Rattle.rp_book.specs.Books.{booking_of}
 use Rattle.rp_lines.specs.Players.{Player, Played, did, weighed, weight, most_events, most_weight, most_count}
 use Rattle.rp_lines.specs.Settling.{handling_of}
-use Rattle.rp_lawful.specs.Sound.{Sound, IsSoundBook, IsSoundBooking, IsAskedAs, FollowsRefused, IsLatest, HasLatest, AreSoundBuffers, IsSoundHandling}
-use Rattle.rp_lawful.specs.Comings.{Comes, ComesAs, scene_at, node_in, happening_of}
-use Rattle.rp_lawful.specs.Onward.{IsBookedAs, LeadsOn}
-use Rattle.rp_lawful.proofs.Worlds.{all_events, events_scene, asked_scene, was_asked_stays, asked_as_stays, refused_stays}
+use Rattle.rp_lawful.specs.Sound.{Sound, IsSoundBooking, FollowsRefused, AreSoundBuffers, IsSoundHandling}
+use Rattle.rp_lawful.specs.Onward.{IsBookedAs}
+use Rattle.rp_lawful.proofs.Worlds.{all_events, events_scene, asked_scene, asked_as_stays, refused_stays}
 use Rattle.rp_lawful.proofs.Coming.{Leaves}
 
 -- a player after an event

@@ -1,13 +1,13 @@
 -- How parts of a line keep soundness: one lemma for each way in which parts are joined.
-use Rattle.std.proofs.Common.{◌≡◌, ℕ, zero, suc, ◌+◌, ◌≤◌, Bool, true, false, cond, List, [], ◌∷◌, Result, Ok, Err, refl, sym, ap, subst, ◌∙◌, arith}
-use Rattle.std.specs.Prelude.{slice_get, if◌then◌else◌, Some}
+use Rattle.std.proofs.Common.{◌≡◌, ℕ, zero, suc, Bool, true, false, cond, List, [], ◌∷◌, Ok, Err, refl, subst, ◌∙◌}
+use Rattle.std.specs.Prelude.{slice_get, Some}
 use Rattle.std.specs.List.{AllByRecursion}
 use Rattle.rp_journals.proofs.Growing.{later_refl, later_trans}
 use Rattle.rp_journals.proofs.Lists.{all_weaker}
 use Rattle.rp_lines.specs.Players.{Player, Played, Limit, and_then}
 use Rattle.rp_lines.specs.Settling.{for_each, repeated}
 use Rattle.rp_lawful.specs.Sound.{Sound}
-use Rattle.rp_lawful.specs.Onward.{IsBookedAs, LeadsOn}
+use Rattle.rp_lawful.specs.Onward.{LeadsOn}
 
 -- where this ends well, it leads on from the player
 abbrev pub Keeps : ℕ → Player → Played → Type 0

@@ -1,6 +1,6 @@
 -- Each part of each line keeps soundness.
-use Rattle.std.proofs.Common.{◌≡◌, inl, inr, ℕ, zero, suc, ◌+◌, ◌-◌, ◌<◌, ◌≤◌, ◌^◌, Bool, true, false, cond, Option, None, Some, List, [], ◌∷◌, ◌++◌, length, Result, Ok, Err, refl, sym, ap, subst, ◌∙◌, arith}
-use Rattle.std.specs.Prelude.{slice_get, ◌&&◌, if◌then◌else◌}
+use Rattle.std.proofs.Common.{◌≡◌, inl, ℕ, zero, suc, ◌≤◌, Bool, true, false, Option, None, Some, List, [], ◌∷◌, ◌++◌, length, Ok, refl, sym, ap, subst, ◌∙◌, arith}
+use Rattle.std.specs.Prelude.{◌&&◌}
 use Rattle.std.specs.List.{AllByRecursion}
 use Rattle.rp_base.specs.declared.ids.CmdId.{CmdId}
 use Rattle.rp_base.specs.declared.items.Item.{Item}
@@ -15,10 +15,10 @@ use Rattle.rp_events.specs.declared.answers.EventAnswer.TheVariants as answers
 use Rattle.rp_events.specs.declared.parcels.Parcel.{Parcel}
 use Rattle.rp_events.specs.declared.world_events.WorldEvent.{WorldEvent}
 use Rattle.rp_events.specs.declared.world_events.WorldEvent.TheVariants as events
-use Rattle.rp_events.specs.Nodes.{Node, parcel_of, range_numbers}
+use Rattle.rp_events.specs.Nodes.{parcel_of, range_numbers}
 use Rattle.rp_events.specs.Worlds as worlds
 use Rattle.rp_events.specs.Worlds.{World, Happening, Scene, sent_by}
-use Rattle.rp_events.specs.Buffered.{Buffered, at_node, changed, buffered_step, has_live}
+use Rattle.rp_events.specs.Buffered.{Buffered, at_node, changed, has_live}
 use Rattle.rp_events.specs.Lawful.{is_lawful, happens_if}
 use Rattle.rp_journals.proofs.Asking.{Admitting}
 use Rattle.rp_journals.proofs.Growing.{later_refl, world_refl}
@@ -27,13 +27,13 @@ use Rattle.rp_book.specs.declared.bookings.Booked.{Booked}
 use Rattle.rp_book.specs.declared.bookings.Draw.{Draw}
 use Rattle.rp_book.specs.declared.bookings.Draw.TheVariants.{Undrawn, Drawn, Published}
 use Rattle.rp_book.specs.Books.{booking_of, by_attempt}
-use Rattle.rp_lines.specs.Players.{Player, Played, and_then, did, noted, weight, most_events, most_weight}
-use Rattle.rp_lines.specs.Commands.{buffer_at, with_draw, publishes, draws, publishes_drawn, publishes_booked, draws_and_publishes, goes_on, is_waiting}
-use Rattle.rp_lines.specs.Settling.{with_handled, comes, for_each, repeated, ticks, is_latest, puts, puts_all, flushes_live, ticks_and_flushes, is_lost_here, passes, passes_numbered, passes_all, unhandled_of, left_at, applies_range, applies_all, node_numbers, round, settles}
+use Rattle.rp_lines.specs.Players.{Player, Played, did, noted}
+use Rattle.rp_lines.specs.Commands.{buffer_at, publishes, draws, publishes_drawn, publishes_booked, draws_and_publishes, goes_on, is_waiting}
+use Rattle.rp_lines.specs.Settling.{with_handled, comes, for_each, ticks, is_latest, puts, puts_all, flushes_live, ticks_and_flushes, is_lost_here, passes, passes_numbered, passes_all, unhandled_of, left_at, applies_range, applies_all, node_numbers, round, settles}
 use Rattle.rp_lines.specs.Scripts.{puts_ask}
 use Rattle.rp_report.specs.Notes.{full_text}
-use Rattle.rp_lawful.specs.Sound.{Sound, AreSoundBuffers, IsBufferRun}
-use Rattle.rp_lawful.specs.Comings.{Comes, ComesAs, ComesBy, IsPlain, scene_at, node_in, happening_of, taken_at}
+use Rattle.rp_lawful.specs.Sound.{Sound, IsBufferRun}
+use Rattle.rp_lawful.specs.Comings.{ComesBy, IsPlain, scene_at, node_in, happening_of}
 use Rattle.rp_lawful.specs.Onward.{IsBookedAs, LeadsOn}
 use Rattle.rp_lawful.proofs.Buffers.{changed_sound, drawn_run, published_run}
 use Rattle.rp_lawful.proofs.Books.{by_attempt_had}

@@ -1,11 +1,9 @@
 -- What a sound player may ask next.
-use Rattle.std.proofs.Common.{◌≡◌, ◌≢◌, ◌⊎◌, inl, inr, ⊎_elim, ℕ, zero, suc, ◌+◌, ◌-◌, ◌<◌, ◌≤◌, ◌^◌, Bool, true, false, cond, Option, None, Some, List, [], ◌∷◌, length, get_or, refl, sym, ap, subst, ◌∙◌, arith}
-use Rattle.std.specs.Prelude.{slice_get, nat_lt, not, ◌==◌, ◌&&◌, ◌||◌, IsTrue, option_and_then}
+use Rattle.std.proofs.Common.{◌≡◌, ◌⊎◌, inl, inr, ℕ, zero, suc, ◌+◌, ◌-◌, ◌<◌, ◌≤◌, ◌^◌, Bool, true, false, Option, None, Some, length, get_or, refl, sym, ap, subst, ◌∙◌, arith}
+use Rattle.std.specs.Prelude.{slice_get, nat_lt, not, ◌==◌, ◌&&◌, ◌||◌, option_and_then}
 use Rattle.std.specs.Option.{option_map_or, option_eq}
-use Rattle.std.specs.List.{list_any, find}
 use Rattle.std.proofs.lemmas.Bool.{cases_eq}
 use Rattle.rp_base.specs.ClientCounts.{count_of, one_more_of}
-use Rattle.rp_base.specs.Ids.{same_id}
 use Rattle.rp_base.specs.Values.{value_eq}
 use Rattle.rp_base.specs.declared.ids.CmdId.{CmdId}
 use Rattle.rp_base.specs.declared.values.Value.{Value}
@@ -23,18 +21,18 @@ use Rattle.rp_events.specs.declared.journals.PastEvent.TheVariants as past
 use Rattle.rp_events.specs.Nodes.{Node}
 use Rattle.rp_events.specs.Worlds as worlds
 use Rattle.rp_events.specs.Worlds.{World, node_of, is_admission_of, asked_at, was_asked, asked_request, asked_request_at, request_of}
-use Rattle.rp_events.specs.Lawful.{Lawful, IsReached, may_begin, was_refused}
+use Rattle.rp_events.specs.Lawful.{Lawful, was_refused}
 use Rattle.rp_journals.specs.Asked.{AskedOnce}
 use Rattle.rp_journals.proofs.Growing.{one_node}
-use Rattle.rp_journals.proofs.Asking.{written_asked, asked_once, any_at, true_not_false}
+use Rattle.rp_journals.proofs.Asking.{written_asked, asked_once, any_at}
 use Rattle.rp_journals.proofs.Telling.{found_place}
 use Rattle.rp_journals.proofs.Waiting.{any_place, found_any}
 use Rattle.rp_journals.proofs.Ending.{found_passes}
 use Rattle.rp_book.specs.declared.bookings.Booked.{Booked}
-use Rattle.rp_book.specs.Books.{Book, booking_of, latest_of}
+use Rattle.rp_book.specs.Books.{booking_of, latest_of}
 use Rattle.rp_lines.specs.Players.{Player, next_command}
 use Rattle.rp_lines.specs.Commands.{booking, following}
-use Rattle.rp_lawful.specs.Sound.{Sound, IsSoundBooking, IsAskedAs, FollowsRefused, IsLatest, HasLatest}
+use Rattle.rp_lawful.specs.Sound.{Sound, IsSoundBooking, IsAskedAs, HasLatest}
 use Rattle.rp_events.specs.declared.world_events.WorldEvent.TheVariants as events
 use Rattle.rp_lawful.specs.Comings.{Comes, scene_at}
 use Rattle.rp_lawful.proofs.Worlds.{equal_itself, all_events}
@@ -62,7 +60,6 @@ request_itself (Del key) = equal_itself key
 request_itself (Wipe span) = both _ _ (equal_itself span.start) (option_itself (λ a b. a == b) equal_itself span.end)
 request_itself (Move from to by) = both _ _ (both _ _ (equal_itself from) (equal_itself to)) (equal_itself by)
 request_itself (Split key) = equal_itself key
-
 
 pub asked_so_at : (w : World) (id : CmdId) (b : Booked) → IsAskedAs w id b → (n : Node) → node_of w b.node ≡ Some n → asked_at id n ≡ true
 asked_so_at w id b a n has = subst (λ (m : Node). asked_at id m ≡ true) (one_node w b.node a.n n a.has has) (any_at (is_admission_of id) a.n.journal a.place _ a.here (same_itself id))
@@ -236,19 +233,19 @@ module _ (k : ℕ) (p : Player) (s : Sound k p) where
         lawful_at p.world.nodes node (worlds.Admit range (following id) b.request) at room
         (both _ _ (not_false _ (unbooked_unasked (following id) further_new))
         (or_second _ _ (both _ _ (both _ _ later_than refused_before) same_before))) ((booked_fits id b mine short).1, mine.request) where
-      later_than : nat_lt 1 (id.attempt + 1) ≡ true
-      later_than = let one = mine.attempt.0 in above_one (id.attempt + 1) (omega (arith, one)) where
-        above_one : (n : ℕ) → 1 < n → nat_lt 1 n ≡ true
-        above_one n h = grind arith
+          later_than : nat_lt 1 (id.attempt + 1) ≡ true
+          later_than = let one = mine.attempt.0 in above_one (id.attempt + 1) (omega (arith, one)) where
+            above_one : (n : ℕ) → 1 < n → nat_lt 1 n ≡ true
+            above_one n h = grind arith
 
-      refused_before : was_refused p.world.nodes (previous (following id)) ≡ true
-      refused_before = subst (λ i. was_refused p.world.nodes i ≡ true) (sym back) refused
+          refused_before : was_refused p.world.nodes (previous (following id)) ≡ true
+          refused_before = subst (λ i. was_refused p.world.nodes i ≡ true) (sym back) refused
 
-      same_before : option_map_or (same_request b.request) (asked_request p.world.nodes (previous (following id))) false ≡ true
-      same_before =
-          let is : asked_request p.world.nodes id ≡ Some b.request = asked_so_request p.world.nodes (asked_once (length p.world.nodes) p.world.nodes s.reached) id b mine.asked in
-          ap (λ i. option_map_or (same_request b.request) (asked_request p.world.nodes i) false) back
-          ∙ ap (λ o. option_map_or (same_request b.request) o false) is ∙ request_itself b.request
+          same_before : option_map_or (same_request b.request) (asked_request p.world.nodes (previous (following id))) false ≡ true
+          same_before =
+              let is : asked_request p.world.nodes id ≡ Some b.request = asked_so_request p.world.nodes (asked_once (length p.world.nodes) p.world.nodes s.reached) id b mine.asked in
+              ap (λ i. option_map_or (same_request b.request) (asked_request p.world.nodes i) false) back
+              ∙ ap (λ o. option_map_or (same_request b.request) o false) is ∙ request_itself b.request
 
     pub further_is : (node range : ℕ) → k + 1 < 2 ^ 16 → IsNode (length p.world.nodes) node → range ≤ 7 → was_refused p.world.nodes id ≡ true → IsNext k p p.sent (following id) (booking b.request node range)
     further_is node range short at low refused = record {

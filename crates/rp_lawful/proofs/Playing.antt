@@ -1,9 +1,9 @@
 -- Each line leads a sound player on; so do all lines of a script.
-use Rattle.std.proofs.Common.{◌≡◌, ◌⊎◌, inl, inr, ⊎_elim, ℕ, zero, suc, ◌+◌, ◌-◌, ◌<◌, ◌≤◌, ◌^◌, Bool, true, false, cond, Option, None, Some, List, [], ◌∷◌, ◌++◌, length, map, replicate, get_or, Result, Ok, Err, refl, sym, ap, subst, ◌∙◌, arith}
-use Rattle.std.specs.Prelude.{slice_get, nat_lt, nat_le, IsTrue, ◌&&◌}
+use Rattle.std.proofs.Common.{◌≡◌, ℕ, zero, suc, ◌+◌, ◌-◌, ◌<◌, ◌≤◌, ◌^◌, Bool, true, false, cond, Option, None, Some, List, [], ◌∷◌, ◌++◌, length, replicate, Ok, refl, sym, ap, subst, ◌∙◌, arith}
+use Rattle.std.specs.Prelude.{nat_lt, nat_le, ◌&&◌}
 use Rattle.std.specs.List.{sum_by}
 use Rattle.std.proofs.lemmas.List.{length-append, length-map}
-use Rattle.rp_base.specs.ClientCounts.{no_counts, count_of, one_more_of}
+use Rattle.rp_base.specs.ClientCounts.{one_more_of}
 use Rattle.rp_base.specs.declared.ids.CmdId.{CmdId}
 use Rattle.rp_base.proofs.ClientCountLaws.{none_counted}
 use Rattle.rp_raftstep.specs.RaftState.{nodes_to}
@@ -12,7 +12,7 @@ use Rattle.rp_request.specs.Fits.{FitsRequest}
 use Rattle.rp_request.specs.declared.requests.Request.{Request}
 use Rattle.rp_request.specs.declared.outcomes.Refusal.{Refusal}
 use Rattle.rp_request.specs.declared.outcomes.Refusal.TheVariants as refusals
-use Rattle.rp_script.specs.Bounds.{Fits, IsNode, IsClient, IsCommand, FollowsIn, Follows, AllFollow, seen_after}
+use Rattle.rp_script.specs.Bounds.{Fits, IsNode, IsClient, FollowsIn, Follows, AllFollow, seen_after}
 use Rattle.rp_script.specs.Seen.{Seen, unseen, after}
 use Rattle.rp_script.specs.declared.lines.NumberedLine.{NumberedLine}
 use Rattle.rp_script.specs.declared.lines.ScriptLine.{ScriptLine}
@@ -23,10 +23,9 @@ use Rattle.rp_events.specs.declared.parcels.Parcel.{Parcel}
 use Rattle.rp_events.specs.declared.world_events.WorldEvent.{WorldEvent}
 use Rattle.rp_events.specs.declared.world_events.WorldEvent.TheVariants as events
 use Rattle.rp_events.specs.Nodes.{Node, parcel_of, first_node}
-use Rattle.rp_events.specs.Worlds.{World, first_world, sent_by, was_asked}
-use Rattle.rp_events.specs.Lawful.{IsReached, IsLater, was_refused}
+use Rattle.rp_events.specs.Worlds.{World, first_world, sent_by}
+use Rattle.rp_events.specs.Lawful.{IsReached, was_refused}
 use Rattle.rp_events.specs.Buffered.{has_live}
-use Rattle.rp_events.specs.Promises.{Promise}
 use Rattle.rp_journals.proofs.Growing.{later_trans, run_grows}
 use Rattle.rp_journals.proofs.Asking.{first_sum}
 use Rattle.rp_journals.proofs.Writing.{none_written}
@@ -35,19 +34,19 @@ use Rattle.rp_book.specs.declared.bookings.Draw.{Draw}
 use Rattle.rp_book.specs.declared.bookings.Draw.TheVariants.{Undrawn, Drawn, Published}
 use Rattle.rp_book.specs.Books.{booking_of, latest_of}
 use Rattle.rp_book.specs.Handling.{Handling}
-use Rattle.rp_lines.specs.Players.{Player, Played, first_player, and_then, did, last_answer, noted, next_command, counted, weight_of}
-use Rattle.rp_lines.specs.Commands.{asks, booking, following, goes_on, asks_and_goes_on, sends, admits, tries_again, draws, draws_latest, is_waiting, is_undrawn, publishes, publishes_by, publishes_latest}
-use Rattle.rp_lines.specs.Settling.{delivers, comes, repeated, ticks, settles}
-use Rattle.rp_lines.specs.Scripts.{puts_ask, tells_refusal, tells, told_absent, does, flushes, played, played_all}
-use Rattle.rp_report.specs.Notes.{full_text, absent_text, nothing_text, not_holder_text, not_refused_text, held_text, peek_text}
-use Rattle.rp_lawful.specs.Sound.{Sound, IsSoundBooking, IsAskedAs, FollowsRefused}
+use Rattle.rp_lines.specs.Players.{Player, Played, first_player, did, last_answer, noted, next_command, counted, weight_of}
+use Rattle.rp_lines.specs.Commands.{asks, booking, following, goes_on, asks_and_goes_on, tries_again, draws_latest, is_waiting, is_undrawn, publishes_by, publishes_latest}
+use Rattle.rp_lines.specs.Settling.{delivers, ticks}
+use Rattle.rp_lines.specs.Scripts.{tells_refusal, tells, told_absent, does, flushes, played, played_all}
+use Rattle.rp_report.specs.Notes.{absent_text, nothing_text, not_holder_text, not_refused_text, held_text, peek_text}
+use Rattle.rp_lawful.specs.Sound.{Sound, IsSoundBooking}
 use Rattle.rp_lawful.specs.Comings.{Comes, IsPlain}
 use Rattle.rp_lawful.specs.Onward.{IsBookedAs, LeadsOn, LineLeadsOn, sent_after}
 use Rattle.rp_lawful.specs.Playable.{cluster_at, IsFront, CanPlay}
 use Rattle.rp_lawful.proofs.Buffers.{get_same, first_sound}
-use Rattle.rp_lawful.proofs.Books.{IsHad, latest_had}
-use Rattle.rp_lawful.proofs.Worlds.{all_events, AskedThere, asked_there}
-use Rattle.rp_lawful.proofs.Keeping.{Keeps, leads_refl, leads_trans, kept_ok, then_keeps, split_then, if_keeps, repeated_keeps}
+use Rattle.rp_lawful.proofs.Books.{latest_had}
+use Rattle.rp_lawful.proofs.Worlds.{AskedThere, asked_there}
+use Rattle.rp_lawful.proofs.Keeping.{Keeps, leads_refl, kept_ok, then_keeps, split_then, if_keeps, repeated_keeps}
 use Rattle.rp_lawful.proofs.Asks.{IsNext, AskLeads, asks_lead}
 use Rattle.rp_lawful.proofs.Coming.{message_comes}
 use Rattle.rp_lawful.proofs.Nexts.{room, next_is, further_is}

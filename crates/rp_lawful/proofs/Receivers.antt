@@ -1,12 +1,10 @@
 -- Each message of a reached world is for one of its nodes.
-use Rattle.std.proofs.Common.{◌≡◌, ⊎_elim, ℕ, zero, suc, ◌+◌, ◌<◌, ◌≤◌, Bool, true, false, Option, None, Some, List, [], ◌∷◌, ◌++◌, length, map, replicate, get_or, refl, sym, ap, subst, ◌∙◌, arith}
+use Rattle.std.proofs.Common.{◌≡◌, ⊎_elim, ℕ, zero, suc, ◌<◌, ◌≤◌, Bool, true, false, Option, Some, List, [], ◌∷◌, ◌++◌, length, map, refl, sym, ap, subst, ◌∙◌, arith}
 use Rattle.std.specs.Prelude.{Contains, nat_lt, nat_le, ◌&&◌}
 use Rattle.std.specs.Option.{option_map_or}
 use Rattle.std.proofs.lemmas.Bool.{and_parts, ltb-true, leb-true}
 use Rattle.std.proofs.lemmas.List.Elements.{Contains-append_cases}
 use Rattle.std.proofs.lemmas.Grind.{flat_map-append}
-use Rattle.rp_base.specs.declared.items.Item.{Item}
-use Rattle.rp_raftstep.specs.declared.messages.Message.{Message}
 use Rattle.rp_raftstep.specs.RaftState.{nodes_to}
 use Rattle.rp_request.specs.Applied.{AppliedState}
 use Rattle.rp_request.specs.States.{first_applied}
@@ -17,7 +15,6 @@ use Rattle.rp_raftsafe.proofs.Known.{one_list_holds}
 use Rattle.rp_rangesafe.specs.Ranges.{Ranges}
 use Rattle.rp_script.specs.Bounds.{IsNode}
 use Rattle.rp_events.specs.declared.node_events.Event.{Event}
-use Rattle.rp_events.specs.declared.node_events.Event.TheVariants as events
 use Rattle.rp_events.specs.declared.parcels.Parcel.{Parcel}
 use Rattle.rp_events.specs.declared.replica_events.ReplicaEvent.TheVariants.{Ask}
 use Rattle.rp_events.specs.Replicas.{Replica}
@@ -28,7 +25,7 @@ use Rattle.rp_events.specs.Worlds as worlds
 use Rattle.rp_events.specs.Worlds.{World, Happening, Scene, Schedule, first_world, node_of, with_node, sent_by, delivery, event_of, taken_in, happens, run}
 use Rattle.rp_events.specs.Lawful.{Lawful, AllLawful, IsReached, is_allowed}
 use Rattle.rp_seats.specs.Scenes.{node_doings, as_event, scene_doings, raft_events}
-use Rattle.rp_seats.specs.Views.{core, core_of, site_of, view, range_at, number_in}
+use Rattle.rp_seats.specs.Views.{core, core_of, view, range_at, number_in}
 use Rattle.rp_seats.proofs.Opens.{first_is}
 use Rattle.rp_seats.proofs.Worlds.{site_seen, message_seen}
 use Rattle.rp_turns.proofs.Kept.{first_wide}
@@ -37,14 +34,13 @@ use Rattle.rp_bound.specs.Bounds.{Stands, StandsNext, first_seen}
 use Rattle.rp_bound.proofs.Along.{stands_next, stands_fit}
 use Rattle.rp_bound.proofs.First.{first_ranges, first_bound}
 use Rattle.rp_bound.proofs.Starts.{none_handed, first_small}
-use Rattle.rp_journals.proofs.Growing.{one_node, with_same, with_other, scene_grows, reached_later}
+use Rattle.rp_journals.proofs.Growing.{one_node, with_same, with_other, scene_grows}
 use Rattle.rp_journals.proofs.Reading.{mapped_some}
-use Rattle.rp_journals.proofs.Writing.{later_scene, first_reached}
 use Rattle.rp_journals.proofs.Elsewhere.{event_some, lawful_node, happens_is}
 use Rattle.std.proofs.lemmas.Bool.{cases_eq}
 use Rattle.rp_lawful.proofs.Buffers.{get_same}
-use Rattle.rp_lawful.proofs.Addressed.{HeadIn, addressed, live_in}
-use Rattle.rp_lawful.proofs.Homes.{KeepsHome, HomeStatus, AllHome, MaySeat, MayAct, acted_home}
+use Rattle.rp_lawful.proofs.Addressed.{addressed, live_in}
+use Rattle.rp_lawful.proofs.Homes.{HomeStatus, AllHome, MaySeat, MayAct, acted_home}
 use Rattle.rp_lawful.proofs.HomeHands.{ReadsHome, node_handed}
 use Rattle.rp_lawful.proofs.HomeStates.{holder_home}
 
@@ -113,15 +109,15 @@ module _ (lists : OneList AppliedState) (w : World) (h : HasHomes lists w) where
         some = let one = h.some in omega (arith, one, size);
         homes = λ node k has. subst (λ many. AllHome many k) (sym size) (⊎_elim
             (λ (same : node ≡ x.node).
-              subst (AllHome (length w)) (one_node (with_node w x.node new) x.node new k (with_same w x.node f.0 new f.1) (subst (λ z. node_of z x.node ≡ Some k) is (subst (λ z. node_of (happens w x) z ≡ Some k) same has)))
-              (acted_home (length w) f.0 e.0 (taken_in x.what) (may_act x.node f.0 f.1 x.what f.2 e.0 e.1) (h.homes x.node f.0 f.1)))
+            subst (AllHome (length w)) (one_node (with_node w x.node new) x.node new k (with_same w x.node f.0 new f.1) (subst (λ z. node_of z x.node ≡ Some k) is (subst (λ z. node_of (happens w x) z ≡ Some k) same has)))
+            (acted_home (length w) f.0 e.0 (taken_in x.what) (may_act x.node f.0 f.1 x.what f.2 e.0 e.1) (h.homes x.node f.0 f.1)))
             (λ (ne : node ≡ x.node → ⊥). h.homes node k (sym (with_other w x.node new node ne) ∙ subst (λ z. node_of z node ≡ Some k) is has))
             (cases_eq node x.node));
         handed = λ range bytes c. subst (λ many. ReadsHome many bytes) (sym size) (⊎_elim
             (λ (was : Contains (payloads_of (h.seen range)) bytes). h.handed range bytes was)
             (λ (then : Contains (payloads_of (raft_events range w x)) bytes).
-              node_handed (length w) w h.stands.bound.shaped (stands_fit lists w h.ranges h.seen h.stands) x.node f.0 f.1 (h.homes x.node f.0 f.1) range bytes e.0 (taken_in x.what)
-              (subst (λ ds. Contains (payloads_of (map (as_event range w x.node) ds)) bytes) (doings range) then))
+            node_handed (length w) w h.stands.bound.shaped (stands_fit lists w h.ranges h.seen h.stands) x.node f.0 f.1 (h.homes x.node f.0 f.1) range bytes e.0 (taken_in x.what)
+            (subst (λ ds. Contains (payloads_of (map (as_event range w x.node) ds)) bytes) (doings range) then))
             (Contains-append_cases (payloads_of (h.seen range)) (payloads_of (raft_events range w x)) bytes (subst (λ l. Contains l bytes) (flat_map-append event_payloads (h.seen range) (raft_events range w x)) c)));
       }
 

@@ -1,34 +1,28 @@
 -- What a lawful scene does to what a player's soundness speaks of.
-use Rattle.std.proofs.Common.{◌≡◌, ◌⊎◌, inl, inr, ⊎_elim, ℕ, zero, suc, ◌+◌, ◌<◌, ◌≤◌, ◌^◌, Bool, true, false, Option, None, Some, List, [], ◌∷◌, ◌++◌, length, set, refl, sym, ap, subst, ◌∙◌, arith}
-use Rattle.std.specs.Prelude.{slice_get, not, nat_le, nat_lt, ◌&&◌, ◌||◌, ◌==◌, IsTrue}
-use Rattle.std.specs.List.{list_any, sum_by, find}
+use Rattle.std.proofs.Common.{◌≡◌, ◌⊎◌, inl, inr, ⊎_elim, ℕ, suc, ◌+◌, ◌<◌, ◌≤◌, true, false, Option, None, Some, [], ◌∷◌, length, refl, sym, ap, subst, ◌∙◌, arith}
+use Rattle.std.specs.Prelude.{nat_le, ◌==◌}
+use Rattle.std.specs.List.{sum_by}
 use Rattle.std.specs.Option.{option_map_or}
-use Rattle.std.proofs.lemmas.Bool.{cases_eq}
 use Rattle.std.proofs.lemmas.Bool.Decides.{Decides-eqb}
 use Rattle.std.proofs.lemmas.List.{length-append}
 use Rattle.rp_base.specs.declared.ids.CmdId.{CmdId}
-use Rattle.rp_base.proofs.IdLaws.{same_is, same_itself}
 use Rattle.rp_request.specs.declared.outcomes.Outcome.{Outcome}
 use Rattle.rp_request.specs.declared.outcomes.Outcome.TheVariants as outcomes
 use Rattle.rp_request.specs.declared.outcomes.Refusal.{Refusal}
-use Rattle.rp_request.specs.declared.requests.Request.{Request}
-use Rattle.rp_events.specs.declared.answers.EventAnswer.{EventAnswer}
 use Rattle.rp_events.specs.declared.journals.JournalEntry.{JournalEntry}
-use Rattle.rp_events.specs.declared.journals.PastEvent.TheVariants as past
 use Rattle.rp_events.specs.Nodes.{Node, is_full, journal_end}
 use Rattle.rp_events.specs.NodeEvents.{step}
-use Rattle.rp_events.specs.Worlds as worlds
-use Rattle.rp_events.specs.Worlds.{World, Scene, Happening, node_of, with_node, taken_in, happens, is_admission_of, asked_at, was_asked, outcome_at, outcome_of}
-use Rattle.rp_events.specs.Lawful.{Lawful, IsReached, IsLater, is_refusal, was_refused}
+use Rattle.rp_events.specs.Worlds.{World, Scene, node_of, with_node, taken_in, happens, is_admission_of, asked_at, was_asked, outcome_of}
+use Rattle.rp_events.specs.Lawful.{IsReached, IsLater, is_refusal, was_refused}
 use Rattle.rp_events.specs.Lists.{IsWritten}
-use Rattle.rp_journals.specs.Growth.{Grows, WorldGrows}
+use Rattle.rp_journals.specs.Growth.{WorldGrows}
 use Rattle.rp_journals.proofs.Growing.{Happened, happened, reached_later, later_grows}
 use Rattle.rp_journals.proofs.Reading.{entry_of, step_journal}
 use Rattle.rp_journals.proofs.Writing.{EntryCases, Old, New, entry_cases}
 use Rattle.rp_journals.proofs.Staying.{asked_stays, outcome_stays, entries_stay, requests_stay}
 use Rattle.rp_journals.proofs.Asking.{admits, Admitting, written_asked, asked_once, sum_with, any_at}
-use Rattle.rp_journals.proofs.Telling.{OutcomeFrom, outcome_from, ToldBy, told_by, found_place}
-use Rattle.rp_journals.proofs.Waiting.{any_place, found_any, outcome_here}
+use Rattle.rp_journals.proofs.Telling.{OutcomeFrom, outcome_from, ToldBy, told_by}
+use Rattle.rp_journals.proofs.Waiting.{any_place, outcome_here}
 use Rattle.rp_bound.proofs.Work.{sum_within}
 use Rattle.rp_book.specs.declared.bookings.Booked.{Booked}
 use Rattle.rp_lawful.specs.Sound.{IsAskedAs}
@@ -46,10 +40,10 @@ pub events_scene : (w : World) (x : Scene) → all_events (happens w x) ≤ all_
 events_scene w x = ⊎_elim
     (λ (same : happens w x ≡ w). subst (λ z. all_events z ≤ all_events w + 1) (sym same) (omega arith))
     (λ (k : Happened w x).
-      let new : Node = (step k.n k.event (taken_in x.what)).node in
-      let grown : length new.journal ≡ length k.n.journal + 1 = ap length (step_journal k.n k.event (taken_in x.what)) ∙ length-append k.n.journal (entry_of k.n k.event (taken_in x.what) ∷ []) in
-      let all : all_events (with_node w x.node new) + length k.n.journal ≡ all_events w + length new.journal = sum_with (λ (n : Node). length n.journal) w x.node k.n new k.has in
-      subst (λ z. all_events z ≤ all_events w + 1) (sym k.is) (omega (arith, grown, all)))
+    let new : Node = (step k.n k.event (taken_in x.what)).node in
+    let grown : length new.journal ≡ length k.n.journal + 1 = ap length (step_journal k.n k.event (taken_in x.what)) ∙ length-append k.n.journal (entry_of k.n k.event (taken_in x.what) ∷ []) in
+    let all : all_events (with_node w x.node new) + length k.n.journal ≡ all_events w + length new.journal = sum_with (λ (n : Node). length n.journal) w x.node k.n new k.has in
+    subst (λ z. all_events z ≤ all_events w + 1) (sym k.is) (omega (arith, grown, all)))
     (happened w x)
 
 not_le : (n bound : ℕ) → n < bound → nat_le bound n ≡ false

@@ -1,5 +1,5 @@
 -- Events of a world with buffers as what happens at its nodes (this project).
-use Rattle.std.specs.Prelude.{◌≡◌, ℕ, ◌≤◌, IsTrue, if◌then◌else◌, List, [], Option, None, Some}
+use Rattle.std.specs.Prelude.{◌≡◌, ℕ, if◌then◌else◌, List, [], Option, None, Some}
 use Rattle.rp_base.specs.declared.items.Item.{Item}
 use Rattle.rp_bufcore.specs.Buffers.{buffer_of, given}
 use Rattle.rp_request.specs.Applied.{AppliedState}
@@ -8,8 +8,8 @@ use Rattle.rp_events.specs.declared.node_events.Event.{Event}
 use Rattle.rp_events.specs.declared.world_events.WorldEvent.{WorldEvent}
 use Rattle.rp_events.specs.declared.world_events.WorldEvent.TheVariants as events
 use Rattle.rp_events.specs.Nodes.{Node}
-use Rattle.rp_events.specs.Worlds.{World, Happening, Scene, Admit, Ask, Transfer, Collect, Flush, Tick, Deliver, Apply, Cut, Remove, Peek, Restart, Round, node_of, event_of}
-use Rattle.rp_events.specs.Lawful.{Lawful, is_lawful}
+use Rattle.rp_events.specs.Worlds.{Happening, Scene, Admit, Ask, Transfer, Collect, Flush, Tick, Deliver, Apply, Cut, Remove, Peek, Restart, Round, node_of, event_of}
+use Rattle.rp_events.specs.Lawful.{Lawful}
 use Rattle.rp_events.specs.MaySteps.{MayStep}
 use Rattle.rp_events.specs.Buffered.{Buffered, buffers_at, has_live}
 

@@ -1,12 +1,12 @@
 -- What is true of a player between two lines, and between two events of a line (this project).
-use Rattle.std.specs.Prelude.{◌≡◌, ℕ, ◌+◌, ◌<◌, ◌≤◌, ◌^◌, true, List, [], ◌∷◌, length, slice_get, sum_by, Option, None, Some}
+use Rattle.std.specs.Prelude.{◌≡◌, ℕ, ◌<◌, ◌≤◌, ◌^◌, true, List, [], ◌∷◌, length, slice_get, sum_by, None, Some}
 use Rattle.rp_base.specs.ClientCounts.{count_of}
 use Rattle.rp_base.specs.declared.ids.CmdId.{CmdId}
 use Rattle.rp_bufcore.specs.Buffers.{Buffer, start, buffer_of}
 use Rattle.rp_bufcore.specs.Events.{Event, run}
 use Rattle.rp_request.specs.Attempts.{previous}
 use Rattle.rp_request.specs.Fits.{FitsRequest}
-use Rattle.rp_script.specs.Bounds.{IsFromTo, IsNode, IsClient, IsCommand}
+use Rattle.rp_script.specs.Bounds.{IsFromTo, IsNode, IsCommand}
 use Rattle.rp_events.specs.declared.answers.EventAnswer.{EventAnswer}
 use Rattle.rp_events.specs.declared.journals.PastEvent.TheVariants as past
 use Rattle.rp_events.specs.Nodes.{Node}

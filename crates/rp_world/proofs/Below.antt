@@ -26,35 +26,41 @@ use Rattle.rp_lawful.proofs.Books.{latest_had}
 use Rattle.rp_lawful.proofs.Coming.{comes_nodes, plain_comes}
 use Rattle.rp_lawful.proofs.Lines.{noted_leads, plain_keeps}
 use Rattle.rp_lawful.proofs.Nexts.{further_comes, further_new, next_comes, next_new, room}
-use Rattle.rp_lawful.proofs.Playing.{can_fits, can_room, can_size, can_sound}
+use Rattle.rp_lawful.proofs.Playing.{can_fits, can_room, can_sound, sent_comes}
 use Rattle.rp_lines.specs.Commands.{following}
 use Rattle.rp_lines.specs.Players.{Player, did, next_command, noted, weight, weight_of}
+use Rattle.rp_told.proofs.Asks.{no_ends, was_asked_now}
+use Rattle.rp_told.proofs.Ends as ends
+use Rattle.rp_told.proofs.Looking.{weight_now}
+use Rattle.rp_told.proofs.Requests.{request_now}
+use Rattle.rp_told.proofs.Telling.{told_now}
+use Rattle.rp_told.proofs.Turning.{front_and_behind, turn_grows, turns}
 use Rattle.rp_told.specs.Turns.{Turns, answer_of, behind}
 use Rattle.rp_told.specs.Outcomes.{EndsPending, asks, begun, begun_request, retold}
 
 pub outcome_after : (k : ℕ) (w : World) → IsReached k w → (x : Scene) (n now : Node) → Turns w x n now → (id : CmdId)
     → outcome_of (happens w x) id ≡ retold id (behind n.outcomes now.outcomes) (begun id x.what (answer_of now) (outcome_of w id))
-outcome_after k w reached x n now turns id = ?
+outcome_after k w reached x n now turns id = told_now k w reached x n now turns id
 
 pub ends_pending : (k : ℕ) (w : World) → IsReached k w → (x : Scene) (n now : Node) → Turns w x n now
     → AllByRecursion (EndsPending w) (behind n.outcomes now.outcomes)
-ends_pending k w reached x n now turns = ?
+ends_pending k w reached x n now turns = ends.ends_pending k w reached x n now turns
 
 pub asked_after : (w : World) (x : Scene) (n now : Node) → Turns w x n now → (id : CmdId) → was_asked (happens w x) id ≡ (asks id x.what || was_asked w id)
-asked_after w x n now turns id = ?
+asked_after w x n now turns id = was_asked_now w x n now turns id
 
 pub request_after : (k : ℕ) (w : World) → IsReached k w → (x : Scene) (n now : Node) → Turns w x n now → (id : CmdId)
     → asked_request (happens w x) id ≡ begun_request id x.what (asked_request w id)
-request_after k w reached x n now turns id = ?
+request_after k w reached x n now turns id = request_now k w reached x n now turns id
 
 pub ends_none : (w : World) (x : Scene) (n now : Node) → Turns w x n now → (id : CmdId) → asks id x.what ≡ true → behind n.outcomes now.outcomes ≡ []
-ends_none w x n now turns id is = ?
+ends_none w x n now turns id is = no_ends w x n now turns id is
 
 pub turns_there : (w : World) (x : Scene) → IsTrue (is_lawful w x) → (n : Node) × (now : Node) × Turns w x n now
-turns_there w x lawful = ?
+turns_there w x lawful = turns w x lawful
 
 pub weight_after : (w : World) (x : Scene) (n now : Node) → Turns w x n now → weight (happens w x) ≡ weight w + sum_by weight_of (behind n.sent now.sent)
-weight_after w x n now turns = ?
+weight_after w x n now turns = weight_now w x n now turns
 
 pub booked_here : (id : CmdId) (b : Booked) (book : Book) → booking_of id (booked id b book) ≡ Some b
 booked_here id b book = books.booked_here id b book
@@ -67,17 +73,17 @@ pub step_nodes : (b : Buffered) (e : WorldEvent) → Comes b e → (what : Happe
 step_nodes b e c what is = comes_nodes b e c what is
 
 pub ended_grow : (w : World) (x : Scene) (n now : Node) → Turns w x n now → now.outcomes ≡ n.outcomes ++ behind n.outcomes now.outcomes
-ended_grow w x n now turns = ?
+ended_grow w x n now turns = front_and_behind n.outcomes now.outcomes (turn_grows w x n now turns).outcomes
 
 pub sent_grow : (w : World) (x : Scene) (n now : Node) → Turns w x n now → now.sent ≡ n.sent ++ behind n.sent now.sent
-sent_grow w x n now turns = ?
+sent_grow w x n now turns = front_and_behind n.sent now.sent (turn_grows w x n now turns).sent
 
 pub comes_plain : (lines : ℕ) (p : Player) → Sound lines p → (e : WorldEvent) → IsPlain (length p.world.nodes) e → Comes p.world e
 comes_plain lines p sound e plain = plain_comes (length p.world.nodes) p.world sound.reached (room lines p sound) sound.buffers e plain
 
 pub comes_deliver : (lines : ℕ) (p : Player) → Sound lines p → (sender number : ℕ) (parcel : Parcel AppliedState)
     → parcel_of (sent_by p.world.nodes sender) number ≡ Some parcel → Comes p.world (events.Deliver parcel.to sender number)
-comes_deliver lines p sound sender number parcel is = ?
+comes_deliver lines p sound sender number parcel is = sent_comes lines p sound sender number parcel is
 
 pub comes_next : (lines : ℕ) (p : Player) → Sound lines p → lines + 1 < 2 ^ 16 → (node range client : ℕ) (request : Request)
     → IsNode (length p.world.nodes) node → IsClient client → FitsRequest request → Comes p.world (events.Admit node range (next_command p client) request)

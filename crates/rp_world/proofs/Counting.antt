@@ -135,3 +135,9 @@ one_more n most h le =
   where
     clash : ◌≡◌ {A = Bool} true false → ⊥
     clash e = cc
+
+-- an event that was counted, and that the weight lets through
+pub counted_ok : (e : WorldEvent) (p mid new : Player) → unspent p ≡ Ok p → mid ≡ happened e p → new ≡ one_event_more mid → weighed new ≡ Ok new → did e p ≡ Ok new
+counted_ok e p mid new may happens counts weighs =
+    did_parts e p ∙ ap (λ m. and_then m (λ q. weighed (one_event_more (happened e q)))) may
+    ∙ ap weighed (sym (counts ∙ ap one_event_more happens)) ∙ weighs

@@ -1,5 +1,5 @@
 -- Sums along a list, as far as they can be counted.
-use Rattle.std.proofs.Common.{◌≡◌, ℕ, ◌+◌, ◌<◌, min, List, [], ◌∷◌, ◌++◌, length, take, get_or, refl, sym, ap, ◌∙◌, arith}
+use Rattle.std.proofs.Common.{◌≡◌, ℕ, ◌+◌, ◌<◌, ◌≤◌, min, List, [], ◌∷◌, ◌++◌, length, take, get_or, refl, sym, ap, ◌∙◌, arith}
 use Rattle.std.specs.List.{fold, sum_by}
 use Rattle.std.proofs.lemmas.List.{take_more}
 
@@ -31,3 +31,7 @@ load_more most f xs i x so_far more h is was weighs =
     ∙ ap (λ m. min (min (sum_by f (take i xs)) most + m) most) weighs
     ∙ capped_sum most (sum_by f (take i xs)) (f x)
     ∙ ap (λ n. min n most) (sym (sum_more f xs i x h is))
+
+-- what is small enough is counted whole
+pub small_capped : (n m : ℕ) → n ≡ m → n ≤ 18446744073709551615 → n ≡ min m 18446744073709551615
+small_capped n m e h = omega (arith, e)

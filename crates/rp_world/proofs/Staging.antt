@@ -1,24 +1,40 @@
 -- The nodes with their buffers, and what is kept beside them, along events.
-use Rattle.std.proofs.Common.{◌≡◌, ℕ, ◌+◌, ◌-◌, ◌<◌, ◌≤◌, min, List, [], drop, length, map, refl, sym, ap, subst, ◌∙◌, arith}
+use Rattle.std.specs.Prelude.{not, ◌&&◌, ◌||◌, ◌==◌, nat_lt, is_some}
+use Rattle.std.specs.Option.{option_map, option_map_or}
+use Rattle.std.proofs.Common.{◌≡◌, ℕ, ◌+◌, ◌-◌, ◌<◌, ◌≤◌, min, Bool, true, false, cond, Option, None, Some, List, [], drop, length, map, refl, sym, ap, subst, ◌∙◌, arith}
 use Rattle.std.proofs.lemmas.List.{length-map}
 use Rattle.rp_bufcore.specs.Buffers.{Buffer, buffer_of, fresh, with_buffer}
+use Rattle.rp_base.specs.Ids.{same_id}
 use Rattle.rp_base.specs.declared.ids.CmdId.{CmdId}
+use Rattle.rp_request.specs.Attempts.{previous}
+use Rattle.rp_request.specs.Requests.{same_request}
+use Rattle.rp_request.specs.declared.outcomes.Outcome.{Outcome}
+use Rattle.rp_request.specs.declared.outcomes.Outcome.TheVariants as outcomes
+use Rattle.rp_request.specs.declared.requests.Request.{Request}
+use Rattle.rp_book.specs.declared.bookings.Booked.{Booked}
+use Rattle.rp_events.specs.declared.answers.EventAnswer.TheVariants as answers_are
+use Rattle.rp_events.specs.Nodes.{Node, is_full}
+use Rattle.rp_told.specs.Outcomes.{first_outcome}
+use Rattle.rp_told.specs.Turns.{answer_of}
 use Rattle.rp_request.specs.Applied.{AppliedState}
 use Rattle.rp_script.specs.Bounds.{IsNode}
 use Rattle.rp_events.specs.declared.answers.Ended.{Ended}
 use Rattle.rp_events.specs.declared.answers.EventAnswer.{EventAnswer}
 use Rattle.rp_events.specs.declared.parcels.Parcel.{Parcel}
-use Rattle.rp_events.specs.Lawful.{IsReached}
-use Rattle.rp_book.specs.Books.{BookState, told_of}
+use Rattle.rp_events.specs.Lawful.{IsReached, is_allowed, was_refused}
+use Rattle.rp_book.specs.Books.{BookState, booked, booking_of, told_of}
 use Rattle.rp_events.specs.declared.world_events.WorldEvent.{WorldEvent}
-use Rattle.rp_events.specs.Worlds.{World, sent_by}
+use Rattle.rp_events.specs.Worlds.{World, Scene, Admit, asked_request, happens, node_of, sent_by, was_asked}
 use Rattle.rp_events.specs.Buffered.{Buffered, buffered_step, buffers_at, changed}
-use Rattle.rp_lawful.specs.Comings.{Comes, node_in}
+use Rattle.rp_lawful.specs.Comings.{Comes, node_in, scene_at}
 use Rattle.rp_lines.specs.Players.{Player, weight, most_count}
 use Rattle.rp_node.specs.Steps.{Held}
 use Rattle.rp_node.specs.Several.{end_at, with_end_at}
-use Rattle.rp_world.specs.Comes.{Happens, IsNoAdmission, buffered_of, ended_by}
-use Rattle.rp_world.specs.Keeping.{IsKept, told_after}
+use Rattle.rp_world.specs.Comes.{Happens, IsNoAdmission, answer_in, buffered_of, ended_by}
+use Rattle.rp_world.specs.Keeping.{IsBookOf, IsKept, told_after}
+use Rattle.rp_world.specs.Plays.{admission}
+use Rattle.rp_world.proofs.Below.{step_nodes, turns_there}
+use Rattle.rp_world.proofs.Telling.{new_book}
 use Rattle.rp_world.specs.Weighing.{HasPlaces, IsWeighed, capped, load}
 use Rattle.rp_world.proofs.Happening.{ended_within, happened_book, happened_weight, sent_within}
 use Rattle.rp_world.proofs.Sixteen.{places_step}
@@ -90,3 +106,69 @@ happen_kept b new p e node xs ys s t events view reached c no_admission is at wa
       ∙ ap (λ l. told_after (drop (length (ended_by b.nodes (node_in e))) l) id (told_of id s.told)) (now ∙ ap (ended_by new.nodes) at)) kept.book;
   few = kept.few;
 }
+
+-- the same of an admission
+first_told : (id other : CmdId) (first : Outcome) (s r t u : BookState) → ((o : CmdId) → told_of o r.told ≡ told_of o s.told)
+    → ((o : CmdId) → told_of o t.told ≡ cond (same_id o id) (Some outcomes.Pending) (told_of o r.told))
+    → ((o : CmdId) → told_of o u.told ≡ cond (same_id o id) (option_map (λ _. first) (told_of o t.told)) (told_of o t.told))
+    → told_of other u.told ≡ cond (same_id other id) (Some first) (told_of other s.told)
+first_told id other first s r t u made put told = go (same_id other id) refl where
+  go : (c : Bool) → same_id other id ≡ c → told_of other u.told ≡ cond (same_id other id) (Some first) (told_of other s.told)
+  go true same =
+      told other ∙ ap (λ b. cond b (option_map (λ (_ : Outcome). first) (told_of other t.told)) (told_of other t.told)) same
+      ∙ ap (option_map (λ (_ : Outcome). first)) (put other ∙ ap (λ b. cond b (Some outcomes.Pending) (told_of other r.told)) same)
+      ∙ sym (ap (λ b. cond b (Some first) (told_of other s.told)) same)
+  go false same =
+      told other ∙ ap (λ b. cond b (option_map (λ (_ : Outcome). first) (told_of other t.told)) (told_of other t.told)) same
+      ∙ put other ∙ ap (λ b. cond b (Some outcomes.Pending) (told_of other r.told)) same ∙ made other
+      ∙ sym (ap (λ b. cond b (Some first) (told_of other s.told)) same)
+
+admit_book : (b new : Buffered) (id : CmdId) (bk : Booked) (answer : EventAnswer) (s u : BookState) → IsReached (length b.nodes) b.nodes → Comes b (admission id bk) → new ≡ buffered_step b (admission id bk)
+    → answer ≡ answer_in new.nodes bk.node → u.entries ≡ booked id bk s.entries
+    → ((other : CmdId) → told_of other u.told ≡ cond (same_id other id) (Some (first_outcome answer)) (told_of other s.told)) → IsBookOf b.nodes s → IsBookOf new.nodes u
+admit_book b new id bk answer s u reached c is answers entries told book =
+    let x : Scene = scene_at bk.node (Admit bk.range id bk.request) in
+    let t = turns_there b.nodes x c.comes.lawful.lawful in
+    let left : new.nodes ≡ happens b.nodes x = ap (λ (z : Buffered). z.nodes) is ∙ step_nodes b (admission id bk) c (Admit bk.range id bk.request) refl in
+    let same : answer ≡ answer_of t.1 = answers ∙ ap (λ w. answer_in w bk.node) left ∙ ap (λ o. option_map_or answer_of o answers_are.Done) t.2.left in
+    subst (λ w. IsBookOf w u) (sym left)
+    (new_book (length b.nodes) b.nodes bk.node bk.range id bk.request t.0 t.1 reached t.2 s u bk refl entries
+    (λ other. told other ∙ ap (λ a. cond (same_id other id) (Some (first_outcome a)) (told_of other s.told)) same) book)
+
+pub admit_kept : (b new : Buffered) (p : Player) (id : CmdId) (bk : Booked) (answer : EventAnswer) (s r t u : BookState) (first : Outcome) (events : ℕ) → b ≡ p.world → IsReached (length p.world.nodes) p.world.nodes
+    → Comes p.world (admission id bk) → new ≡ buffered_step b (admission id bk) → answer ≡ answer_in new.nodes bk.node → first ≡ first_outcome answer
+    → r.entries ≡ s.entries → ((o : CmdId) → told_of o r.told ≡ told_of o s.told)
+    → t.entries ≡ booked id bk r.entries → ((o : CmdId) → told_of o t.told ≡ cond (same_id o id) (Some outcomes.Pending) (told_of o r.told))
+    → u.entries ≡ t.entries → ((o : CmdId) → told_of o u.told ≡ cond (same_id o id) (option_map (λ _. first) (told_of o t.told)) (told_of o t.told))
+    → IsKept b.nodes s events → IsKept new.nodes u events
+admit_kept b new p id bk answer s r t u first events view reached c is answers firsts made_entries made put_entries put told_entries told kept = record {
+  book = admit_book b new id bk answer s u (subst (λ (x : Buffered). IsReached (length x.nodes) x.nodes) (sym view) reached) (subst (λ x. Comes x (admission id bk)) (sym view) c) is answers
+      (told_entries ∙ put_entries ∙ ap (booked id bk) made_entries)
+      (λ other. first_told id other first s r t u made put told ∙ ap (λ f. cond (same_id other id) (Some f) (told_of other s.told)) firsts) kept.book;
+  few = kept.few;
+}
+
+-- an attempt that may ask was not asked
+lawful_asks : (full asked more : Bool) → (not full && (not asked && more)) ≡ true → asked ≡ false
+lawful_asks true asked more h = absurd cc
+lawful_asks false true more h = absurd cc
+lawful_asks false false more h = refl
+
+not_asked : (w : World) (node range : ℕ) (id : CmdId) (request : Request) (o : Option Node)
+    → option_map_or (λ (n : Node). not (is_full n) && is_allowed w node (Admit range id request)) o false ≡ true → was_asked w id ≡ false
+not_asked w node range id request None h = absurd cc
+not_asked w node range id request (Some n) h =
+    lawful_asks (is_full n) (was_asked w id)
+    (id.attempt == 1 || (nat_lt 1 id.attempt && was_refused w (previous id) && option_map_or (same_request request) (asked_request w (previous id)) false)) h
+
+none_of : (o : Option Booked) → is_some o ≡ false → o ≡ None
+none_of None h = refl
+none_of (Some b) h = absurd cc
+
+-- so it stands in no book
+pub unbooked : (b : Buffered) (p : Player) (id : CmdId) (bk : Booked) (s r : BookState) (events : ℕ) → b ≡ p.world → Comes p.world (admission id bk) → r.entries ≡ s.entries → IsKept b.nodes s events
+    → booking_of id r.entries ≡ None
+unbooked b p id bk s r events view c made kept =
+    ap (booking_of id) made
+    ∙ none_of (booking_of id s.entries) (kept.book.asked id ∙ ap (λ (x : Buffered). was_asked x.nodes id) view
+    ∙ not_asked p.world.nodes bk.node bk.range id bk.request (node_of p.world.nodes bk.node) c.comes.lawful.lawful)

@@ -4,3 +4,6 @@ pub mod Plays
 pub mod Keeping
 pub mod Going
 pub mod Latest
+pub mod Runs
+pub mod Settled
+pub mod Putting

@@ -42,7 +42,7 @@ fn tell_all(book: &mut Book, ends: &[Ended])
 
 impl World {
     /// The limit of events is met where as many as may come have come.
-    fn unspent(&self) -> Result<(), PlayFault>
+    pub(crate) fn unspent(&self) -> Result<(), PlayFault>
         ensures { Does result self.now (unspent self.now) }
     {
         if self.events == MOST_EVENTS {
@@ -55,7 +55,7 @@ impl World {
     }
 
     /// The limit of weight is met where all messages weigh more than they may.
-    fn weighed(&self) -> Result<(), PlayFault>
+    pub(crate) fn weighed(&self) -> Result<(), PlayFault>
         ensures { Does result self.now (weighed self.now) }
     {
         let count = self.stage.weight();
@@ -69,7 +69,7 @@ impl World {
     }
 
     /// One more event is counted.
-    fn count(&mut self)
+    pub(crate) fn count(&mut self)
         requires { (self.old.events == most_events) ≡ false }
         ensures { self.new ≡ one_event_more self.old }
     {

@@ -6,11 +6,15 @@ mod events;
 mod faults;
 mod lines;
 mod notes;
+mod puts;
+mod replies;
+mod runs;
 mod scenes;
 mod seats;
 mod settling;
 mod stage;
 mod weights;
+mod widths;
 mod worlds;
 
 pub use faults::PlayFault;

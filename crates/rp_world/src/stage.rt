@@ -1,7 +1,7 @@
 //! The nodes with their buffers, and what all their messages weigh.
-ghost use Rattle.std.specs.Prelude.{◌≡◌, ◌≤◌, false, [], ◌∷◌, ◌++◌, length, IfOk, OnOk, OnErr};
+ghost use Rattle.std.specs.Prelude.{◌≡◌, ◌≤◌, ℕ, false, [], ◌∷◌, ◌++◌, length, IfOk, OnOk, OnErr};
 ghost use Rattle.rp_script.specs.Bounds.{IsNode};
-ghost use Rattle.rp_bufcore.specs.Buffers.{buffer_of, draw_answer, publish_answer};
+ghost use Rattle.rp_bufcore.specs.Buffers.{buffer_of, draw_answer, given, publish_answer};
 ghost use Rattle.rp_events.specs.Buffered.{buffered_step, buffers_at, first_buffered};
 ghost use Rattle.rp_events.specs.declared.world_events.WorldEvent.TheVariants as events;
 ghost use Rattle.rp_lines.specs.Players.{weight};
@@ -105,6 +105,14 @@ impl Stage {
         ensures { result ≡ capped (weight self.now.nodes) }
     {
         self.weight
+    }
+
+    /// A collect gives no more than a buffer holds. There is nothing to do.
+    pub(crate) fn few_given(&self)
+        ensures { (node : ℕ) (range : ℕ)
+            → length (given (buffer_of (buffers_at self.now node) range)) ≤ 16 }
+    {
+        let _alloc = &self.alloc;
     }
 
     /// How attempts ended that a node admitted; nothing where there is no such node.

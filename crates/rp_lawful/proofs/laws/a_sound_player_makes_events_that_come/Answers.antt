@@ -1,7 +1,5 @@
 use Rattle.rp_lawful.proofs.laws.a_sound_player_makes_events_that_come.Goals as goal
 use Rattle.std.specs.Prelude.{length}
-use Rattle.rp_lines.specs.Players.{next_command}
-use Rattle.rp_lines.specs.Commands.{following}
 use Rattle.rp_lawful.proofs.Coming.{comes_as, plain_comes, message_comes}
 use Rattle.rp_lawful.proofs.Nexts.{room, next_comes, further_comes}
 use Rattle.rp_lawful.proofs.Playing.{sent_comes}

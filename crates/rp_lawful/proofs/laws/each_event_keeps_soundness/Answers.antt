@@ -1,9 +1,4 @@
 use Rattle.rp_lawful.proofs.laws.each_event_keeps_soundness.Goals as goal
-use Rattle.rp_lines.specs.Commands.{booking, following}
-use Rattle.rp_lines.specs.Players.{next_command}
-use Rattle.rp_base.specs.ClientCounts.{one_more_of}
-use Rattle.rp_lawful.proofs.Asks.{asks_lead}
-use Rattle.rp_lawful.proofs.Nexts.{next_is, further_is}
 use Rattle.rp_lawful.proofs.Lines.{plain_keeps, comes_keeps, draws_keep, publishes_keep}
 use Rattle.rp_lawful.proofs.Playing.{next_leads, further_leads}
 

@@ -1,6 +1,7 @@
-use Rattle.std.proofs.Common.{sym, ap, ◌∙◌}
-use Rattle.std.proofs.lemmas.Map.Fin.{len-entries}
+use Rattle.std.proofs.Common.{◌≡◌, ℕ, ◌≤◌, length, min, sym, ap, ◌∙◌, arith}
+use Rattle.std.specs.FinMap.{entries, len-entries}
+use Rattle.rp_world.proofs.Loads.{small_capped}
 use Rattle.rp_world.proofs.weights.message_load.Goals as goal
 
 pub returns-in-Snap : goal.returns-in-Snap
-returns-in-Snap c = ?
+returns-in-Snap c = small_capped c.rows.result (length (entries c.in-Snap.snapshot.table)) (c.rows.ensures ∙ len-entries c.in-Snap.snapshot.table) (omega arith)
