@@ -4,6 +4,7 @@ ghost use Rattle.rp_events.specs.Lawful.{IsReached};
 ghost use Rattle.rp_lawful.specs.Playable.{IsFront};
 ghost use Rattle.rp_lines.specs.Players.{first_player};
 ghost use Rattle.rp_lines.specs.Scripts.{played_all};
+ghost use Rattle.rp_lines.specs.Views.{IsViewOf};
 ghost use Rattle.rp_script.specs.Bounds.{IsScript};
 ghost use Rattle.rp_top.specs.Answers.{IsOutput, written};
 ghost use Rattle.rp_top.specs.Gives.{Gives, stop_by};
@@ -102,13 +103,21 @@ fn written(alloc: Global, view: &View, form: Form) -> Result<Text, NoMemory>
     Ok(text)
 }
 
+/// What a world shows: its nodes and notes are moved out of it.
+fn view_of(alloc: Global, world: World) -> Result<View, NoMemory>
+    requires { IsReached (length world.world.nodes) world.world.nodes }
+    ensures { IfOk result (IsViewOf world.world.nodes world.notes) }
+{
+    let replies = world.replies()?;
+    let (nodes, notes) = world.into_parts();
+    view(alloc, &nodes, replies, notes)
+}
+
 /// What a world shows, in a form.
 pub fn shown(alloc: Global, world: World, form: Form) -> Result<Text, NoMemory>
     requires { IsReached (length world.world.nodes) world.world.nodes }
     ensures { IfOk result (IsOutput form (Ok world)) }
 {
-    let replies = world.replies()?;
-    let (nodes, notes) = world.into_parts();
-    let view = view(alloc, nodes.as_slice(), replies, notes)?;
+    let view = view_of(alloc, world)?;
     written(alloc, &view, form)
 }
