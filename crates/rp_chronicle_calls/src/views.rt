@@ -65,7 +65,12 @@ fn lists_no_record_at_first(rt: HostRuntime) -> Result<(), Fail> {
 #[test]
 fn shows_the_first_range(rt: HostRuntime) -> Result<(), Fail> {
     let nodes = two_nodes(rt.alloc())?;
-    let shown = view(rt.alloc(), &nodes, Seq::new(rt.alloc()), Seq::new(rt.alloc()))?;
+    let shown = view(
+        rt.alloc(),
+        &nodes,
+        Seq::new(rt.alloc()),
+        Seq::new(rt.alloc()),
+    )?;
     assert!(rt; shows_the_start(&shown));
     Ok(())
 }
