@@ -1,8 +1,6 @@
 //! Scripts that are read from bytes.
 use rp_base::{Seq, Which};
-use rp_script::{
-    NumberedLine, ScriptFault, ScriptLine, ScriptReader, ScriptStop, read_lines,
-};
+use rp_script::{NumberedLine, ScriptFault, ScriptLine, ScriptReader, ScriptStop, read_lines};
 use std::test::Fail;
 
 /// Every form of line, and two lines that are skipped.
@@ -21,9 +19,7 @@ fn fault_of(read: &Result<Seq<NumberedLine>, ScriptStop>) -> Option<ScriptFault>
 
 #[test]
 fn each_form_is_read(rt: HostRuntime) -> Result<(), Fail> {
-    let lines = read_lines(rt.alloc(), false, EACH_FORM.as_bytes()).map_err(
-        |_| "each form",
-    )?;
+    let lines = read_lines(rt.alloc(), false, EACH_FORM.as_bytes()).map_err(|_| "each form")?;
     assert!(rt; lines.len() == 22);
     assert!(rt; lines.as_slice()[21].number == 24);
     Ok(())

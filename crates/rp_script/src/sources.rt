@@ -210,11 +210,7 @@ impl ScriptReader {
 }
 
 /// Reads a script that is at hand whole: its lines that are not skipped, or what ends it.
-pub fn read_lines(
-    alloc: Global,
-    race: bool,
-    source: &[u8],
-) -> Result<Seq<NumberedLine>, ScriptStop>
+pub fn read_lines(alloc: Global, race: bool, source: &[u8]) -> Result<Seq<NumberedLine>, ScriptStop>
     ensures meaning { Gives (λ lines. lines) script_fault result (meaning race source.now) }
     ensures few { IfOk result (λ lines. length lines ≤ 65536) }
     ensures script { IfOk result IsScript }

@@ -74,12 +74,18 @@ pub front_of : (ls : List NumberedLine) → IsScript ls → length ls ≤ 65536
 front_of [] script few = absurd (cc)
 front_of (l ∷ ls) script few =
     let first = named l.line script.follow.0 in
-    let same : l ≡ cluster_at l.number first.0 = ap (λ line. record { number = l.number; line = line }) first.1 in
-    (first.0, l.number, ls, ap (λ x. x ∷ ls) same, first.2, record {
-      number = l.number;
-      follow = subst (λ (x : NumberedLine). AllFollow (unseen false) (x ∷ ls)) same script.follow;
-      few = omega (arith, few);
-    })
+    let same : l ≡ cluster_at l.number first.0 = ap (λ line. record { number = l.number; line = line }) first.1 in (
+      first.0,
+      l.number,
+      ls,
+      ap (λ x. x ∷ ls) same,
+      first.2,
+      record {
+        number = l.number;
+        follow = subst (λ (x : NumberedLine). AllFollow (unseen false) (x ∷ ls)) same script.follow;
+        few = omega (arith, few);
+      },
+    )
 
 -- the next of these lines may be played where those before it led here
 pub next_may_be_played : (nodes : ℕ) (ls : List NumberedLine) (i : ℕ) (d : NumberedLine) (p : Player) → IsFront nodes ls → i < length ls

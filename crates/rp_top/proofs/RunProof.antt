@@ -92,18 +92,21 @@ shown_run left status form old new lines shown read same answers reached ok =
     let P : Status → Type 0 = λ s. Answers s form (by_play (play_of shown)) old new in
     let Q : Played → Type 0 = λ r. Answers statuses.Ok form (by_play r) old new in
     let written = (subst Q end.1 (subst P ok answers)).1 in
-    let view = written.1 in
-    (read.0, read.1, record {
-      lines = shown;
-      script = read.2 ∙ ap (λ g. let r : Result (List NumberedLine) ScriptFault = Ok g in r) (sym same);
-      player = end.0;
-      played = end.1;
-      reached = end.2;
-      promise = kept_by_reached (nodes_in shown) end.0.world.nodes end.2;
-      view = view.0;
-      shows = view.1;
-      written = subst (λ (text : List ℕ). Adds old text new) view.2 written.2;
-    })
+    let view = written.1 in (
+      read.0,
+      read.1,
+      record {
+        lines = shown;
+        script = read.2 ∙ ap (λ g. let r : Result (List NumberedLine) ScriptFault = Ok g in r) (sym same);
+        player = end.0;
+        played = end.1;
+        reached = end.2;
+        promise = kept_by_reached (nodes_in shown) end.0.world.nodes end.2;
+        view = view.0;
+        shows = view.1;
+        written = subst (λ (text : List ℕ). Adds old text new) view.2 written.2;
+      },
+    )
 
 -- a play that ended early, behind the whole source
 pub ended_in_play : (left now : Option (List ℕ)) (status : Status) (form : Form) (old new : Option (List ℕ)) (lines shown : List NumberedLine)
