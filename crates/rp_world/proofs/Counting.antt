@@ -14,7 +14,7 @@ use Rattle.rp_world.specs.declared.faults.PlayFault.{PlayFault}
 use Rattle.rp_world.specs.declared.faults.PlayFault.TheVariants as faults
 use Rattle.rp_world.specs.Plays.{Does, admission, happened, limit_of, one_event_more, unspent}
 
-same_played : (a c : Player) → ◌≡◌ {A = Played} (Ok a) (Ok c) → c ≡ a
+pub same_played : (a c : Player) → ◌≡◌ {A = Played} (Ok a) (Ok c) → c ≡ a
 same_played a c e = cc
 
 -- all events that may come have come

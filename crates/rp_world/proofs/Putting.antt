@@ -12,7 +12,7 @@ use Rattle.rp_bufcore.specs.Buffers.{Buffer, after_draw, buffer_of, can_draw, fr
 use Rattle.rp_events.specs.Buffered.{Buffered, buffered_step, buffers_at, changed}
 use Rattle.std.proofs.lemmas.List.{set-get_or}
 use Rattle.rp_base.specs.declared.limits.Which.TheVariants.{Events}
-use Rattle.rp_world.proofs.Counting.{same_played, weighed_is}
+use Rattle.rp_world.proofs.Counting.{weighed_is}
 use Rattle.rp_bufcore.specs.declared.buffers.Slot.TheVariants as slots
 use Rattle.rp_events.specs.declared.world_events.WorldEvent.{WorldEvent}
 use Rattle.rp_events.specs.declared.world_events.WorldEvent.TheVariants as events
@@ -118,6 +118,9 @@ pub drawn_does : {A : Type 0} (r : Result A PlayFault) (node range : ℕ) (p new
     → Does r new (counted_if place (happened (events.Draw node range) p)) → Does r new (drawn_if node range p)
 drawn_does r node range p new place is does = subst (Does r new) (sym (drawn_is node range p place is)) does
 
+same_ok : (p q : Player) → ◌≡◌ {A = Played} (Ok p) (Ok q) → q ≡ p
+same_ok p q e = cc
+
 counted_same : (p q : Player) → counted p ≡ Ok q → q ≡ one_event_more p
 counted_same p q e = go (p.events == most_events) e where
   go : (b : Bool) → and_then (cond b (Err (record { which = Events; count = most_events })) (Ok p)) (λ q. weighed (one_event_more q)) ≡ Ok q → q ≡ one_event_more p
@@ -125,11 +128,11 @@ counted_same p q e = go (p.events == most_events) e where
   go false e = weighed_is (one_event_more p) q e
 
 pub counted_book : (place : Option ℕ) (p q : Player) → counted_if place p ≡ Ok q → q.book ≡ p.book
-counted_book None p q e = ap (λ (m : Player). m.book) (same_played p q e)
+counted_book None p q e = ap (λ (m : Player). m.book) (same_ok p q e)
 counted_book (Some n) p q e = ap (λ (m : Player). m.book) (counted_same p q e)
 
 pub counted_nodes : (place : Option ℕ) (p q : Player) → counted_if place p ≡ Ok q → q.world.nodes ≡ p.world.nodes
-counted_nodes None p q e = ap (λ (m : Player). m.world.nodes) (same_played p q e)
+counted_nodes None p q e = ap (λ (m : Player). m.world.nodes) (same_ok p q e)
 counted_nodes (Some n) p q e = ap (λ (m : Player). m.world.nodes) (counted_same p q e)
 
 -- a limit ends what comes behind it

@@ -80,7 +80,7 @@ still_book k w x n now reached turns quiet s t entries told b = record {
 
 -- what a client asks for stands in the book
 abbrev with_first : CmdId → Outcome → (CmdId → Option Outcome) → CmdId → Option Outcome
-with_first id first told other = if same_id other id then Some first else told other
+with_first id first told other = cond (same_id other id) (Some first) (told other)
 
 abbrev pub asking : (node range : ℕ) → CmdId → Request → Scene
 asking node range id request = record { node = node; what = Admit range id request }

@@ -106,6 +106,15 @@ impl World {
         &self.notes
     }
 
+    /// What is left where no more lines are played: the nodes, and what the lines have told.
+    pub fn into_parts(self) -> (Nodes<PlainEnd>, Notes)
+        ensures nodes { buffered_of result.0 ≡ self.world }
+        ensures notes { result.1 ≡ self.notes }
+    {
+        let World { stage, notes, .. } = self;
+        (stage.into_nodes(), notes)
+    }
+
     /// A line has this to tell.
     pub(crate) fn note(&mut self, line: u32, text: Text) -> Result<(), NoMemory>
         ensures { OnOk result (self.new ≡ noted line text self.old) }
