@@ -12,7 +12,7 @@ ghost use Rattle.rp_lines.specs.Scripts.{does, flushes, played, puts_ask, tells,
 ghost use Rattle.rp_lines.specs.Settling.{delivers, ticks, with_handled};
 ghost use Rattle.rp_script.specs.Bounds.{Fits, IsNode};
 ghost use Rattle.rp_world.specs.Comes.{is_peek, is_value};
-ghost use Rattle.rp_world.specs.Going.{Going, is_command};
+ghost use Rattle.rp_world.specs.Going.{AsMany, Going, is_command};
 ghost use Rattle.rp_world.specs.Plays.{Does};
 
 use crate::faults::PlayFault;
@@ -154,19 +154,20 @@ impl World {
         ensures { Does result self.new (flushes line node range self.old) }
     {
         self.tell_absent(line, node, range)?;
-        self.pass(&WorldEvent::Collect { node, range })?;
-        self.pass(&WorldEvent::Flush { node, range })?;
-        Ok(())
+        self.quietly(&WorldEvent::Collect { node, range })?;
+        self.quietly(&WorldEvent::Flush { node, range })
     }
 
     /// So many ticks of a node.
     fn ticks(&mut self, node: NodeId, count: u64) -> Result<(), PlayFault>
         requires going { Going self.old }
         requires node { IsNode (length self.old.world.nodes) node }
-        ensures { Does result self.new (ticks node count self.old) }
+        ensures does { Does result self.new (ticks node count self.old) }
+        ensures going { OnOk result (Going self.new) }
+        ensures nodes { OnOk result (AsMany self.old self.new) }
     {
-        for _ in 0..count {
-            self.pass(&WorldEvent::Tick { node })?;
+        for _turn in 0..count {
+            self.quietly(&WorldEvent::Tick { node })?;
         }
         Ok(())
     }
@@ -269,8 +270,7 @@ impl World {
         requires node { IsNode (length self.old.world.nodes) node }
         ensures { Does result self.new (did (events.Restart node) self.old) }
     {
-        self.pass(&WorldEvent::Restart { node })?;
-        Ok(())
+        self.quietly(&WorldEvent::Restart { node })
     }
 
     /// Plays the next line of a script. A limit that it meets, and want of memory, end the play.

@@ -76,7 +76,7 @@ fn left_to_apply(nodes: &Nodes<PlainEnd>, node: NodeId, range: RangeId) -> u64
 
 impl World {
     /// An event that a script may always make, whatever it is answered.
-    fn quietly(&mut self, event: &WorldEvent) -> Result<(), PlayFault>
+    pub(crate) fn quietly(&mut self, event: &WorldEvent) -> Result<(), PlayFault>
         requires going { Going self.old }
         requires plain { IsPlain (length self.old.world.nodes) event.now }
         ensures does { Does result self.new (did event.now self.old) }
