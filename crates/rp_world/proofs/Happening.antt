@@ -86,7 +86,7 @@ pub record IsTurn (b : Buffered) (e : WorldEvent) : Type 0 where
 pub turn_in : (b : Buffered) (e : WorldEvent) → Comes b e → IsTurn b e
 turn_in b e c =
     let s : IsScene b e = scene_in b e c in
-    let t = turns_there b.nodes (scene_at (node_in e) s.what) s.comes.lawful.lawful in
+    let t = turns_there b.nodes (scene_at (node_in e) s.what) s.comes.lawful in
     record { scene = s; n = t.0; now = t.1; turns = t.2; left = step_nodes b e c s.what s.is }
 
 -- what ended before, and after
