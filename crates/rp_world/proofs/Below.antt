@@ -56,7 +56,7 @@ request_after k w reached x n now turns id = request_now k w reached x n now tur
 pub ends_none : (w : World) (x : Scene) (n now : Node) → Turns w x n now → (id : CmdId) → asks id x.what ≡ true → behind n.outcomes now.outcomes ≡ []
 ends_none w x n now turns id is = no_ends w x n now turns id is
 
-pub turns_there : (w : World) (x : Scene) → IsTrue (is_lawful w x) → (n : Node) × (now : Node) × Turns w x n now
+pub turns_there : (w : World) (x : Scene) → Lawful w x → (n : Node) × (now : Node) × Turns w x n now
 turns_there w x lawful = turns w x lawful
 
 pub weight_after : (w : World) (x : Scene) (n now : Node) → Turns w x n now → weight (happens w x) ≡ weight w + sum_by weight_of (behind n.sent now.sent)

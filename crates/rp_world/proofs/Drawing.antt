@@ -35,9 +35,9 @@ pub drew : (line : ℕ) (id : CmdId) (b : Booked) (p q : Player) (place : Option
     → did (events.Draw b.node b.range) p ≡ Ok q → draws line id b p ≡ Ok (drawn_by line id b place q)
 drew line id b p q place is drawn =
     draws_are line id b p ∙ ap (λ o. did (events.Draw b.node b.range) (drawn_by line id b o p)) (sym is) ∙ go place where
-  go : (o : Option ℕ) → did (events.Draw b.node b.range) (drawn_by line id b o p) ≡ Ok (drawn_by line id b o q)
-  go None = did_notes (events.Draw b.node b.range) p q line full_text drawn
-  go (Some n) = did_book (events.Draw b.node b.range) p q (booked id (record b { draw = Drawn n })) drawn
+      go : (o : Option ℕ) → did (events.Draw b.node b.range) (drawn_by line id b o p) ≡ Ok (drawn_by line id b o q)
+      go None = did_notes (events.Draw b.node b.range) p q line full_text drawn
+      go (Some n) = did_book (events.Draw b.node b.range) p q (booked id (record b { draw = Drawn n })) drawn
 
 -- a draw that met a limit
 pub drew_not : (o : Option Limit) (line : ℕ) (id : CmdId) (b : Booked) (p : Player) → Fails o (did (events.Draw b.node b.range) p) → Fails o (draws line id b p)

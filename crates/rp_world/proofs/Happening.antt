@@ -86,7 +86,7 @@ pub record IsTurn (b : Buffered) (e : WorldEvent) : Type 0 where
 pub turn_in : (b : Buffered) (e : WorldEvent) → Comes b e → IsTurn b e
 turn_in b e c =
     let s : IsScene b e = scene_in b e c in
-    let t = turns_there b.nodes (scene_at (node_in e) s.what) s.comes.lawful.lawful in
+    let t = turns_there b.nodes (scene_at (node_in e) s.what) s.comes.lawful in
     record { scene = s; n = t.0; now = t.1; turns = t.2; left = step_nodes b e c s.what s.is }
 
 -- what ended before, and after
@@ -139,7 +139,7 @@ pub ended_within : (b : Buffered) (e : WorldEvent) → Comes b e → (w : World)
 ended_within b e c w is =
     let turn : IsTurn b e = turn_in b e c in
     let grown = ap length (ended_grow b.nodes (scene_at (node_in e) turn.scene.what) turn.n turn.now turn.turns)
-      ∙ length-append turn.n.outcomes (behind turn.n.outcomes turn.now.outcomes) in
+    ∙ length-append turn.n.outcomes (behind turn.n.outcomes turn.now.outcomes) in
     omega (arith, grown, ap length (ended_was b e turn), ap length (ended_now b e turn w is))
 
 pub sent_within : (b : Buffered) (e : WorldEvent) → Comes b e → (w : World) → w ≡ (buffered_step b e).nodes
@@ -147,5 +147,5 @@ pub sent_within : (b : Buffered) (e : WorldEvent) → Comes b e → (w : World) 
 sent_within b e c w is =
     let turn : IsTurn b e = turn_in b e c in
     let grown = ap length (sent_grow b.nodes (scene_at (node_in e) turn.scene.what) turn.n turn.now turn.turns)
-      ∙ length-append turn.n.sent (behind turn.n.sent turn.now.sent) in
+    ∙ length-append turn.n.sent (behind turn.n.sent turn.now.sent) in
     omega (arith, grown, ap length (sent_was b e turn), ap length (sent_now b e turn w is))

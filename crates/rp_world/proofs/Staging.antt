@@ -128,7 +128,7 @@ admit_book : (b new : Buffered) (id : CmdId) (bk : Booked) (answer : EventAnswer
     → ((other : CmdId) → told_of other u.told ≡ cond (same_id other id) (Some (first_outcome answer)) (told_of other s.told)) → IsBookOf b.nodes s → IsBookOf new.nodes u
 admit_book b new id bk answer s u reached c is answers entries told book =
     let x : Scene = scene_at bk.node (Admit bk.range id bk.request) in
-    let t = turns_there b.nodes x c.comes.lawful.lawful in
+    let t = turns_there b.nodes x c.comes.lawful in
     let left : new.nodes ≡ happens b.nodes x = ap (λ (z : Buffered). z.nodes) is ∙ step_nodes b (admission id bk) c (Admit bk.range id bk.request) refl in
     let same : answer ≡ answer_of t.1 = answers ∙ ap (λ w. answer_in w bk.node) left ∙ ap (λ o. option_map_or answer_of o answers_are.Done) t.2.left in
     subst (λ w. IsBookOf w u) (sym left)

@@ -148,7 +148,7 @@ plain : (old : Ends) (node : ℕ) (what : Happening) (ev : Event AppliedState) (
     → Left old node (at_node (buffered_of old) node what) (reads_key ev) new answer
 plain old node what ev new answer may is none_taken s gave =
     let c : Came old node what (reads_key ev) new answer =
-      came old node what ev s.steps.taken new answer s.before s.after may.lawful.lawful is s.has s.leaves (none_taken ∙ sym gave.nothing) s.steps.does in
+    came old node what ev s.steps.taken new answer s.before s.after may.lawful.lawful is s.has s.leaves (none_taken ∙ sym gave.nothing) s.steps.does in
     record {
       left = same_buffered (buffered_of new) (at_node (buffered_of old) node what) c.nodes
           (ap (λ l. (buffered_of l).buffers) s.leaves ∙ same_ends old node s.before s.after s.has gave.same);
@@ -167,13 +167,13 @@ collect_live old node range new answer may live s gave =
     let end : buffers_at b node ≡ s.before.end = held_end old node s.before s.has in
     let takes : taken_at b node range ≡ g = ap (λ t. cond t g []) live in
     let lawful : IsTrue (is_lawful b.nodes (record { node = node; what = Collect range g })) =
-      subst (λ t. IsTrue (is_lawful b.nodes (record { node = node; what = Collect range t }))) takes may.lawful.lawful in
+    subst (λ t. IsTrue (is_lawful b.nodes (record { node = node; what = Collect range t }))) takes may.lawful.lawful in
     let c : Came old node (Collect range g) false new answer =
-      came old node (Collect range g) (node_events.Collect range) s.steps.taken new answer s.before s.after lawful refl s.has s.leaves
-      (ap (λ l. given (buffer_of l range)) end ∙ sym gave.items_are) s.steps.does in
+    came old node (Collect range g) (node_events.Collect range) s.steps.taken new answer s.before s.after lawful refl s.has s.leaves
+    (ap (λ l. given (buffer_of l range)) end ∙ sym gave.items_are) s.steps.does in
     let left : collected b node range ≡ changed (at_node b node (Collect range g)) node range after_collect =
-      ap (λ t. cond t (collects b node range g) (at_node b node (Collect range []))) live
-      ∙ ap (λ t. cond t (changed (at_node b node (Collect range g)) node range after_collect) b) lawful in
+    ap (λ t. cond t (collects b node range g) (at_node b node (Collect range []))) live
+    ∙ ap (λ t. cond t (changed (at_node b node (Collect range g)) node range after_collect) b) lawful in
     record {
       left = same_buffered (buffered_of new) (changed (at_node b node (Collect range g)) node range after_collect) c.nodes
           (ap (λ l. (buffered_of l).buffers) s.leaves
@@ -194,7 +194,7 @@ collect_none old node range new answer may live s gave =
     let g : List Item = given (buffer_of (buffers_at b node) range) in
     let takes : taken_at b node range ≡ [] = ap (λ t. cond t g []) live in
     let left : collected b node range ≡ at_node b node (Collect range []) =
-      ap (λ t. cond t (collects b node range g) (at_node b node (Collect range []))) live in
+    ap (λ t. cond t (collects b node range g) (at_node b node (Collect range []))) live in
     subst (λ l. Left old node l false new answer) (sym left)
     (plain old node (Collect range []) (node_events.Collect range) new answer (subst (λ t. ComesAs b node (Collect range t)) takes may) refl refl s gave)
 

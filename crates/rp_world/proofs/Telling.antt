@@ -73,7 +73,7 @@ still_book k w x n now reached turns quiet s t entries told b = record {
   told = λ id.
       told id ∙ ap (told_after (behind n.outcomes now.outcomes) id) (b.told id)
       ∙ told_is_retold id (behind n.outcomes now.outcomes) (outcome_of w id)
-        (pending_known w id (behind n.outcomes now.outcomes) (ends_pending k w reached x n now turns))
+      (pending_known w id (behind n.outcomes now.outcomes) (ends_pending k w reached x n now turns))
       ∙ ap (retold id (behind n.outcomes now.outcomes)) (sym (quiet.begins_none id (answer_of now) (outcome_of w id)))
       ∙ sym (outcome_after k w reached x n now turns id);
 }

@@ -57,7 +57,12 @@ fn is_refused(outcome: Option<Outcome>) -> bool
 
 impl World {
     /// An attempt has come so far in its buffer.
-    pub(crate) fn set_draw(&mut self, id: CmdId, booked: &Booked, draw: Draw) -> Result<(), NoMemory>
+    pub(crate) fn set_draw(
+        &mut self,
+        id: CmdId,
+        booked: &Booked,
+        draw: Draw,
+    ) -> Result<(), NoMemory>
         requires { IsBookedAs self.old id booked.now }
         ensures { OnOk result (self.new ≡ with_draw id booked.now draw self.old) }
     {

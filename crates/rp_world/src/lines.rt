@@ -91,12 +91,7 @@ impl World {
     }
 
     /// A line of one event at a node and a range that reads no key.
-    fn does(
-        &mut self,
-        line: u32,
-        range: RangeId,
-        event: &WorldEvent,
-    ) -> Result<(), PlayFault>
+    fn does(&mut self, line: u32, range: RangeId, event: &WorldEvent) -> Result<(), PlayFault>
         requires going { Going self.old }
         requires plain { IsPlain (length self.old.world.nodes) event.now }
         requires no_value { is_peek event.now ≡ false }
@@ -125,13 +120,7 @@ impl World {
     }
 
     /// The applied value of a key is told.
-    fn peeks(
-        &mut self,
-        line: u32,
-        node: NodeId,
-        range: RangeId,
-        key: Key,
-    ) -> Result<(), PlayFault>
+    fn peeks(&mut self, line: u32, node: NodeId, range: RangeId, key: Key) -> Result<(), PlayFault>
         requires going { Going self.old }
         requires node { IsNode (length self.old.world.nodes) node }
         ensures { Does result self.new
@@ -198,12 +187,7 @@ impl World {
     }
 
     /// A message comes to its receiver, and is handled.
-    pub(crate) fn comes(
-        &mut self,
-        to: NodeId,
-        sender: NodeId,
-        number: u64,
-    ) -> Result<(), PlayFault>
+    pub(crate) fn comes(&mut self, to: NodeId, sender: NodeId, number: u64) -> Result<(), PlayFault>
         requires going { Going self.old }
         requires sent { option_map (λ p. p.to)
             (parcel_of (sent_by self.old.world.nodes sender) number) ≡ Some to }

@@ -86,7 +86,10 @@ fn event_of(
 {
     Ok(match *event {
         WorldEvent::Admit {
-            range, id, request, ..
+            range,
+            id,
+            request,
+            ..
         } => Event::Admit { range, id, request },
         WorldEvent::Ask { range, .. } => Event::Ask { range },
         WorldEvent::Transfer { range, to, .. } => Event::Transfer { range, to },

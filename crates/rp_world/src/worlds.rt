@@ -63,7 +63,7 @@ fn first_handled(alloc: Global, nodes: u8) -> Result<Vec<Handled>, NoMemory>
     ensures { IfOk result (λ list. list.items ≡ replicate nodes []) }
 {
     let mut list = Vec::new(alloc);
-    for _ in 0..nodes {
+    for _turn in 0..nodes {
         list.push(Handled::new(alloc))?;
     }
     Ok(list)

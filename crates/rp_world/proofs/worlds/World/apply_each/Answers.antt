@@ -3,4 +3,3 @@ use Rattle.rp_world.proofs.worlds.World.apply_each.Goals as goal
 
 pub applies_all-requires-clause-node : goal.applies_all-requires-clause-node
 applies_all-requires-clause-node c = each_node c.args.self.now c.loop-node.self c.args.nodes.now c.loop-node.node-index c.node-item.result c.requires.nodes c.loop-node-test.true c.node-item.is c.loop-node.invariant.many
-

@@ -19,4 +19,3 @@ unfolding passed
 returns-in_err-passes-clause-does c = let p = err_from_is_err_and c.from_residual.result c.from_residual.ensures.1 in
     rw (p.1, p.2) (subst (Fails (limit_of c.in_err-passes.field-0.0)) c.loop-number.invariant.leads
     (numbers_end (limit_of c.in_err-passes.field-0.0) (passes_numbered c.args.sender) (length c.sent_by.result.now + 1) c.loop-number.number c.loop-number.self c.loop-number-test.true c.in_err-passes.ensures.does))
-

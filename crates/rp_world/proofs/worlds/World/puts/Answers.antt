@@ -12,4 +12,3 @@ returns-clause-nodes c = put_many c.puts_by.result c.args.self.now c.puts_by.new
 
 pub returns-clause-still : goal.returns-clause-still
 returns-clause-still c = put_still c.puts_by.result c.args.self.now c.puts_by.new.self c.args.entry.now.0 c.args.entry.now.1 c.args.entry.now.1.draw c.requires.going c.requires.has c.puts_by.ensures
-

@@ -22,4 +22,3 @@ returns-in_err-round-clause-does c = let p = err_from_is_err_and c.from_residual
 pub returns-clause-does : goal.returns-clause-does
 unfolding rounded
 returns-clause-does c = sym c.loop-round.invariant.leads ∙ times_done rounded c.args.rounds c.loop-round._round c.loop-round.self c.loop-round-test.false
-

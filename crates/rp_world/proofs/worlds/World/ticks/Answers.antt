@@ -21,4 +21,3 @@ returns-in_err-quietly-clause-does c = let p = err_from_is_err_and c.from_residu
 
 pub returns-clause-does : goal.returns-clause-does
 returns-clause-does c = sym c.loop-turn.invariant.leads ∙ times_done (did (events.Tick c.args.node)) c.args.count c.loop-turn._turn c.loop-turn.self c.loop-turn-test.false
-
