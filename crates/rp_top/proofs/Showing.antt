@@ -1,5 +1,6 @@
 -- What is shown of a world, from its nodes, its replies and its notes.
-use Rattle.std.proofs.Common.{◌≡◌, ℕ, List, length, map, Ok, refl, ap, sym, subst}
+use Rattle.std.proofs.Common.{◌≡◌, ℕ, List, length, map, Result, Ok, Err, refl, ap, sym, subst}
+use Rattle.std.specs.Prelude.{IfOk}
 use Rattle.std.proofs.lemmas.List.{length-map}
 use Rattle.rp_events.specs.Lawful.{IsReached}
 use Rattle.rp_events.specs.Worlds.{World}
@@ -33,3 +34,8 @@ can_be_written w notes v reached h = view_shown (length w) w notes v reached h
 
 pub output_of : (form : Form) (p : Player) (v : View) (text : List ℕ) → IsViewOf p.world.nodes p.notes v → text ≡ written form v → IsOutput form (Ok p) text
 output_of form p v text shows is = (v, shows, is)
+
+pub view_is : {B : Type 0} {E : Type 0} (res : Result View E) (w : World) (nodes : List (Held B)) (notes kept : List Note) (replies : List ReplyLine) → world_of nodes ≡ w
+    → kept ≡ notes → replies ≡ replies_of w → IfOk res (IsViewWith (world_of nodes) replies kept) → IfOk res (IsViewOf w notes)
+view_is (Ok v) w nodes notes kept replies same noted told h = shows_world w nodes notes kept replies v same noted told h
+view_is (Err e) w nodes notes kept replies same noted told h = tt
