@@ -15,7 +15,10 @@ use Rattle.rp_lines.specs.Scripts.{told_absent}
 use Rattle.rp_lines.specs.Settling.{repeated}
 use Rattle.rp_report.specs.Notes.{absent_text}
 use Rattle.rp_world.specs.Going.{AsMany, Going}
-use Rattle.rp_world.proofs.Below.{comes_plain, leads_noted, leads_plain}
+use Rattle.rp_script.specs.Bounds.{Fits}
+use Rattle.rp_script.specs.declared.lines.ScriptLine.{ScriptLine}
+use Rattle.rp_lawful.specs.Playable.{CanPlay}
+use Rattle.rp_world.proofs.Below.{comes_plain, leads_noted, leads_plain, play_few, play_fits, play_sound}
 use Rattle.rp_world.proofs.Counting.{did_is}
 
 pub going_reached : (p : Player) → Going p → IsReached (length p.world.nodes) p.world.nodes
@@ -92,3 +95,14 @@ ends_times None act count i p meant h fails so_far = tt
 ends_times (Some l) act count i p meant h fails so_far =
     let n : count - i ≡ suc (count - (i + 1)) = omega arith in
     sym so_far ∙ ap (λ k. repeated k act p) n ∙ ap (λ m. and_then m (repeated (count - (i + 1)) act)) fails
+
+-- a player that can play a line goes on, and the line fits it
+pub going_play : (p : Player) (number : ℕ) (line : ScriptLine) → CanPlay (length p.world.nodes) p (record { number = number; line = line }) → Going p
+going_play p number line c = record {
+  lines = length c.lines;
+  few = play_few (length p.world.nodes) p (record { number = number; line = line }) c;
+  sound = play_sound (length p.world.nodes) p (record { number = number; line = line }) c;
+}
+
+pub fits_play : (p : Player) (number : ℕ) (line : ScriptLine) → CanPlay (length p.world.nodes) p (record { number = number; line = line }) → Fits (length p.world.nodes) p.sent line
+fits_play p number line c = play_fits (length p.world.nodes) p (record { number = number; line = line }) c

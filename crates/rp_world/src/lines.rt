@@ -25,6 +25,20 @@ use rp_events::{EventAnswer, WorldEvent};
 use rp_request::Refusal;
 use rp_script::ScriptLine;
 
+/// A line of a client's command.
+fn is_command(line: &ScriptLine) -> bool
+    ensures { result ≡ is_command line.now }
+{
+    matches!(
+        line,
+        ScriptLine::Send { .. }
+            | ScriptLine::Admit { .. }
+            | ScriptLine::Again { .. }
+            | ScriptLine::Draw { .. }
+            | ScriptLine::Publish { .. }
+    )
+}
+
 impl World {
     /// A line at a range that has no live replica at its node is told so.
     fn tell_absent(&mut self, line: u32, node: NodeId, range: RangeId) -> Result<(), NoMemory>
@@ -263,13 +277,9 @@ impl World {
             (record { number = number; line = line.now }) }
         ensures { Does result self.new (played number line.now self.old) }
     {
-        match line {
-            ScriptLine::Send { .. }
-            | ScriptLine::Admit { .. }
-            | ScriptLine::Again { .. }
-            | ScriptLine::Draw { .. }
-            | ScriptLine::Publish { .. } => self.play_command(number, line),
-            _ => self.play_other(number, line),
+        if is_command(line) {
+            return self.play_command(number, line);
         }
+        self.play_other(number, line)
     }
 }

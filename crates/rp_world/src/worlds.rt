@@ -77,11 +77,12 @@ impl World {
     {
         let stage = Stage::start(alloc, nodes)?;
         let handled = first_handled(alloc, nodes)?;
+        let book = Book::new(alloc);
         Ok(World {
             alloc,
             stage,
             sent: ClientCounts::new(),
-            book: Book::new(alloc),
+            book,
             handled,
             loss: Loss {
                 percent: 0,
