@@ -1,4 +1,5 @@
 use Rattle.std.proofs.Common.{◌≡◌, ap, ◌∙◌, arith}
+use Rattle.rp_world.specs.Comes.{buffered_of}
 use Rattle.rp_world.proofs.Starting.{first_helds, helds_more, helds_start}
 use Rattle.rp_world.proofs.stage.first_nodes.Goals as goal
 
@@ -7,5 +8,7 @@ loop-number-preserved c = helds_more c.args.nodes c.loop-number.number c.loop-nu
 
 pub returns : goal.returns
 returns c =
-    let all : c.loop-number.number ≡ c.args.nodes = omega (arith, c.loop-number-test.false, c.loop-number.auto.number-end) in
-    helds_start c.args.nodes c.from_vec.result (c.from_vec.ensures ∙ c.loop-number.invariant ∙ ap (first_helds c.args.nodes) all)
+    let past = c.loop-number-test.false in
+    let within = c.loop-number.auto.number-end in
+    let end : c.loop-number.number ≡ c.args.nodes = omega (arith, past, within) in
+    ap buffered_of c.from_vec.ensures ∙ helds_start c.args.nodes c.loop-number.list.items (c.loop-number.invariant ∙ ap (first_helds c.args.nodes) end)
