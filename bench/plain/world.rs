@@ -335,10 +335,13 @@ impl World {
     fn remove(&mut self, node: u8, range: u8) -> Played<()> {
         self.event()?;
         let seat = &mut self.nodes[node as usize - 1].seats[range as usize];
-        if let Status::Live(mut r) = std::mem::replace(seat, Status::Absent) {
-            let ends = r.removal();
-            *seat = Status::Removed(r);
-            self.settle_ends(ends);
+        match std::mem::replace(seat, Status::Absent) {
+            Status::Live(mut r) => {
+                let ends = r.removal();
+                *seat = Status::Removed(r);
+                self.settle_ends(ends);
+            }
+            other => *seat = other,
         }
         Ok(())
     }
