@@ -78,12 +78,14 @@ impl ApplyState {
         }
     }
 
+    /// Bounds and level of the range as of the applied index.
     pub fn desc(&self) -> Desc
         ensures { result ≡ self.now.history.state.desc }
     {
         self.machine.desc
     }
 
+    /// The lease as of the applied index.
     pub fn lease(&self) -> Lease
         ensures { result ≡ self.now.history.state.lease }
     {
@@ -97,6 +99,7 @@ impl ApplyState {
         self.machine.lai
     }
 
+    /// The rows as of the applied index.
     pub fn table(&self) -> &Table
         ensures { result.now.map ≡ self.now.history.state.table }
     {

@@ -20,12 +20,14 @@ impl Model for LeaseSeq {
 }
 
 impl LeaseSeq {
+    /// The one with this number.
     pub const fn new(number: u64) -> LeaseSeq
         ensures { result ≡ number }
     {
         LeaseSeq(number)
     }
 
+    /// Its number.
     pub const fn get(self) -> u64
         ensures { result ≡ self }
     {
@@ -50,12 +52,14 @@ impl Model for LeaseIndex {
 }
 
 impl LeaseIndex {
+    /// The one with this number.
     pub const fn new(number: u64) -> LeaseIndex
         ensures { result ≡ number }
     {
         LeaseIndex(number)
     }
 
+    /// Its number.
     pub const fn get(self) -> u64
         ensures { result ≡ self }
     {
@@ -78,12 +82,14 @@ impl Model for Tick {
 }
 
 impl Tick {
+    /// The one with this number.
     pub const fn new(number: u64) -> Tick
         ensures { result ≡ number }
     {
         Tick(number)
     }
 
+    /// Its number.
     pub const fn get(self) -> u64
         ensures { result ≡ self }
     {

@@ -50,12 +50,14 @@ impl<T> Seq<T> {
         items
     }
 
+    /// The items as a slice.
     pub fn as_slice(&self) -> &[T]
         ensures { result.now ≡ self.now }
     {
         &self.items
     }
 
+    /// How many items there are.
     pub fn len(&self) -> usize
         ensures { result ≡ length self.now }
     {
@@ -96,6 +98,7 @@ impl<T: Drop> Seq<T> {
 }
 
 impl<T: Copy> Seq<T> {
+    /// An equal list in memory of its own, or want of it.
     pub fn copy(&self) -> Result<Seq<T>, NoMemory>
         ensures { IfOk result (λ s. s ≡ self.now) }
     {
@@ -166,12 +169,14 @@ impl<T> Grown<T> {
         self.items.capacity() - self.items.len()
     }
 
+    /// How many items there are.
     pub fn len(&self) -> usize
         ensures { result ≡ length self.now.list }
     {
         self.items.len()
     }
 
+    /// The items as a slice.
     pub fn as_slice(&self) -> &[T]
         ensures { result.now ≡ self.now.list }
     {

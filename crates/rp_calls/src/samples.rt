@@ -3,6 +3,7 @@ use rp_base::{CmdId, Key, ShortText, Value};
 use std::test::Fail;
 use std::thread::{Threads, join};
 
+/// The key that a text spells.
 pub fn key(text: &str) -> Result<Key, Fail> {
     Ok(Key::read(text.as_bytes()).ok().ok_or("a key")?)
 }

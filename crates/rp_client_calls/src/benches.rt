@@ -25,6 +25,7 @@ impl FakeBench {
     ghost use Rattle.rp_client_calls.specs.Calls.{due_of};
     ghost use Rattle.rp_rounds.specs.Rounds.{first_due};
 
+    /// A bench with these numbers, of which `calls` calls succeed and `passes` looks see no end.
     pub fn new(worker: u8, workers: u8, nodes: u8, calls: u32, passes: u32) -> FakeBench
         requires workers { workers ≤ 8 }
         requires worker { worker ≤ 8 }

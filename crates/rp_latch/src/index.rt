@@ -70,6 +70,7 @@ fn place_of(latches: &Slotted<Latch>, bound: u128) -> usize
 }
 
 impl Index {
+    /// No latch. It takes no memory.
     pub fn new(alloc: Global) -> Index
         ensures { result.list ≡ [] }
     {

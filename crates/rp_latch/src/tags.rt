@@ -55,6 +55,7 @@ fn has_id(id: CmdId, tag: &Tag) -> bool
 }
 
 impl Tags {
+    /// No tag. It takes no memory.
     pub fn new(alloc: Global) -> Tags
         ensures { result.list ≡ [] }
     {

@@ -4,10 +4,12 @@
 pub const ONE_PUT: &str = "\
 cluster 1\nsend 1 0 1 put a 5\nflush 1 0\napply 1 0\nend\n";
 
+/// Its report.
 pub const ONE_PUT_SHOWN: &str = "\
 nodes 1\nreply 1.1 1 ok none\nrange 0 ^ ~ level 0 lease 1 1 40\n\
 place 1 write 1.1 1 put a 5 under 1 ok none\nnode 1 live term 1 applied 1 lai 1\nrow a 5\nend\n";
 
+/// Its summary.
 pub const ONE_PUT_COUNTED: &str = "\
 commands 1\nattempts 1\nok 1\nrefused 0\nambiguous 0\npending 0\nranges 1\nplaces 1\npassed 0\n\
 messages 0\n";
@@ -17,6 +19,7 @@ pub const END_OF_THE_TYPE: &str = "\
 cluster 1\nsend 1 0 1 put a 1\nflush 1 0\napply 1 0\nsend 1 0 1 add a 18446744073709551615\n\
 send 1 0 1 add b 18446744073709551615\nflush 1 0\napply 1 0\nend\n";
 
+/// Its report.
 pub const END_OF_THE_TYPE_SHOWN: &str = "\
 nodes 1\nreply 1.1 1 ok none\nreply 1.2 1 refused overflow 1\n\
 reply 1.3 1 ok 18446744073709551615\nrange 0 ^ ~ level 0 lease 1 1 40\n\
@@ -29,6 +32,7 @@ pub const TWO_NAMES: &str = "\
 cluster 1\nsend 1 0 1 put a 3\nflush 1 0\napply 1 0\nsend 1 0 1 move a a 3\nflush 1 0\n\
 apply 1 0\nsend 1 0 1 move a b 4\nend\n";
 
+/// Its report.
 pub const TWO_NAMES_SHOWN: &str = "\
 nodes 1\nreply 1.1 1 ok none\nreply 1.2 1 ok 3\nreply 1.3 1 refused short 3\n\
 range 0 ^ ~ level 0 lease 1 1 40\nplace 1 write 1.1 1 put a 3 under 1 ok none\n\
@@ -39,6 +43,7 @@ pub const A_TEXT: &str = "\
 cluster 1\nsend 1 0 1 put a 'hi\nflush 1 0\napply 1 0\nsend 1 0 1 add a 1\n\
 send 1 0 1 cput a 'hi 7\nflush 1 0\napply 1 0\nsend 1 0 1 add a 1\nflush 1 0\napply 1 0\nend\n";
 
+/// Its report.
 pub const A_TEXT_SHOWN: &str = "\
 nodes 1\nreply 1.1 1 ok none\nreply 1.2 1 refused is-text a\nreply 1.3 1 ok set\n\
 reply 1.4 1 ok 8\nrange 0 ^ ~ level 0 lease 1 1 40\n\
@@ -51,6 +56,7 @@ cluster 1\nsend 1 0 1 put a 1\nflush 1 0\napply 1 0\nsend 1 0 1 cput a none 2\n\
 send 1 0 1 cput a 1 2\nflush 1 0\napply 1 0\nsend 1 0 1 wipe a b\nflush 1 0\napply 1 0\n\
 send 1 0 1 del a\nflush 1 0\napply 1 0\nend\n";
 
+/// Its report.
 pub const CONDITIONS_SHOWN: &str = "\
 nodes 1\nreply 1.1 1 ok none\nreply 1.2 1 refused condition-failed 1\nreply 1.3 1 ok set\n\
 reply 1.4 1 ok 1\nreply 1.5 1 ok none\nrange 0 ^ ~ level 0 lease 1 1 40\n\
@@ -71,6 +77,7 @@ apply 1 0\nsend 1 0 1 put k15 1\nflush 1 0\napply 1 0\nsend 1 0 1 put k16 1\nflu
 apply 1 0\nsend 1 0 1 put k17 1\nflush 1 0\napply 1 0\nsend 1 0 1 wipe k01 k18\n\
 send 1 0 1 wipe k02 k18\nflush 1 0\napply 1 0\npeek 1 0 k01\napply 1 0\nend\n";
 
+/// Its report.
 pub const WIPES_SHOWN: &str = "\
 nodes 1\nnote 57 peek k01 1 applied 18\nnote 58 nothing\nreply 1.1 1 ok none\n\
 reply 1.2 1 ok none\nreply 1.3 1 ok none\nreply 1.4 1 ok none\nreply 1.5 1 ok none\n\
@@ -103,6 +110,7 @@ send 1 0 1 put k16 1\nsend 1 0 1 put k17 1\nflush 1 0\napply 1 0\napply 1 0\napp
 apply 1 0\napply 1 0\napply 1 0\napply 1 0\napply 1 0\napply 1 0\napply 1 0\napply 1 0\n\
 apply 1 0\napply 1 0\napply 1 0\napply 1 0\napply 1 0\nend\n";
 
+/// Its report.
 pub const FULL_SHOWN: &str = "\
 nodes 1\nnote 18 full 16\nreply 1.1 1 ok none\nreply 1.2 1 ok none\nreply 1.3 1 ok none\n\
 reply 1.4 1 ok none\nreply 1.5 1 ok none\nreply 1.6 1 ok none\nreply 1.7 1 ok none\n\
@@ -128,6 +136,7 @@ pub const TWO_CLIENTS: &str = "\
 # two clients\n\ncluster 1\nsend 1 0 9 put b 1\nflush 1 0\napply 1 0\nsend 1 0 2 put b 2\n\
 flush 1 0\napply 1 0\nsend 1 0 9 put a 3\nflush 1 0\napply 1 0\nend";
 
+/// Its report.
 pub const TWO_CLIENTS_SHOWN: &str = "\
 nodes 1\nreply 2.1 1 ok 1\nreply 9.1 1 ok none\nreply 9.2 1 ok none\n\
 range 0 ^ ~ level 0 lease 1 1 40\nplace 1 write 9.1 1 put b 1 under 1 ok none\n\
@@ -138,9 +147,11 @@ node 1 live term 1 applied 3 lai 3\nrow a 3\nrow b 2\nend\n";
 pub const NO_LINE: &str = "\
 cluster 1\nend\n";
 
+/// Its report.
 pub const NO_LINE_SHOWN: &str = "\
 nodes 1\nrange 0 ^ ~ level 0 lease 1 1 40\nnode 1 live term 1 applied 0 lai 0\nend\n";
 
+/// Its report as JSON.
 pub const NO_LINE_JSON: &str = "{\"nodes\":1,\"notes\":[],\"ranges\":[{\"end\":\"~\",\"id\":0,\
 \"lease\":[1,1,40],\"level\":0,\"list\":[],\"replicas\":[{\"applied\":0,\"lai\":0,\"node\":1,\
 \"rows\":[],\"state\":\"live\",\"term\":1}],\"start\":\"^\"}],\"replies\":[]}\n";
@@ -150,6 +161,7 @@ pub const NOTES: &str = "\
 cluster 1\nsend 1 0 1 put a 'hi\nsend 1 0 2 put a 'hi\nflush 1 0\napply 1 0\npeek 1 0 a\n\
 peek 1 3 a\nsend 1 3 1 put a 1\nend\n";
 
+/// Its report.
 pub const NOTES_SHOWN: &str = "\
 nodes 1\nnote 6 peek a 'hi applied 1\nnote 7 no-replica\nreply 1.1 1 ok none\n\
 reply 1.2 1 refused no-replica\nreply 2.1 1 refused latched 1.1 1\n\

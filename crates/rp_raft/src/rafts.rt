@@ -161,6 +161,7 @@ impl<S> Raft<S> {
         self.head.node
     }
 
+    /// The term that it is in.
     pub fn term(&self) -> u64
         ensures { result ≡ self.now.raft.head.term }
     {
@@ -181,6 +182,7 @@ impl<S> Raft<S> {
         self.head.leader
     }
 
+    /// Whether it leads its term.
     pub fn is_leader(&self) -> bool
         ensures { result ≡ is_leader self.now.raft.head.role }
     {

@@ -109,6 +109,7 @@ impl Segments {
         }
     }
 
+    /// How many entries there are.
     pub fn len(&self) -> usize
         ensures { result ≡ length self.now.entries }
     {

@@ -72,6 +72,7 @@ impl Batch {
         Ok(())
     }
 
+    /// An equal batch in memory of its own, or want of it.
     pub fn copy(&self) -> Result<Batch, NoMemory>
         ensures { IfOk result (λ b. b ≡ self.now) }
     {
@@ -79,6 +80,7 @@ impl Batch {
         Ok(Batch { ops })
     }
 
+    /// The operations, in order.
     pub fn as_slice(&self) -> &[Op]
         ensures ops { result.now ≡ self.now }
         ensures most { length result.now ≤ batch_most }

@@ -53,6 +53,7 @@ impl<T> Slotted<T> {
         }
     }
 
+    /// How many items there are.
     pub fn len(&self) -> usize
         ensures { result ≡ length self.now.list }
     {
