@@ -2,7 +2,9 @@
 use Rattle.std.proofs.Common.{◌≡◌, ℕ, zero, suc, ◌+◌, ◌-◌, ◌<◌, ◌≤◌, Bool, true, false, cond, max, ⊎_elim, Option, None, Some, List, [], ◌∷◌, ◌++◌, length, take, refl, sym, ap, subst, ◌∙◌, arith}
 use Rattle.std.specs.Prelude.{slice_get, count_by}
 use Rattle.std.specs.List.{AllByRecursion}
+use Rattle.rp_base.specs.declared.ids.CmdId.{CmdId}
 use Rattle.rp_base.specs.declared.items.Item.{Item}
+use Rattle.rp_request.specs.declared.requests.Request.{Request}
 use Rattle.rp_base.proofs.Counts.{count_cons, count_push}
 use Rattle.rp_raftstep.specs.declared.messages.Message.{Message}
 use Rattle.rp_request.specs.Applied.{AppliedState}
@@ -97,6 +99,9 @@ never_fall n e taken =
     let t = acted_timed n e taken in
     let r = t.rounds in
     (omega (arith, r), t.waited)
+
+pub admission_rounds : (n : Node) (range : ℕ) (id : CmdId) (request : Request) → (step n (events.Admit range id request) []).node.rounds ≡ n.rounds
+admission_rounds n range id request = (status_same (with_request n request) range (Admit id request) [] (seat n range)).0
 
 -- what a round keeps
 abbrev pub kept_in : PastEvent → ℕ

@@ -212,7 +212,7 @@ broken_off rules broken now nodes w reached race tries each v seen node ahead al
       each = s.each;
     }
 
-at_further : (node : ℕ) (xs ys : List Happening) → all_at node (xs ++ ys) ≡ all_at node xs ++ all_at node ys
+pub at_further : (node : ℕ) (xs ys : List Happening) → all_at node (xs ++ ys) ≡ all_at node xs ++ all_at node ys
 at_further node [] ys = refl
 at_further node (x ∷ xs) ys = ap (λ l. at_node node x ∷ l) (at_further node xs ys)
 
@@ -285,11 +285,11 @@ nowhere_back w after node others (worlds.Peek range key ∷ xs) h = nowhere_back
 nowhere_back w after node others (worlds.Restart ∷ xs) h = nowhere_back w after node others xs h
 nowhere_back w after node others (worlds.Round ∷ xs) h = nowhere_back w after node others xs h
 
-admission_heard : (from : ℕ) (n : Node) (range : ℕ) (id : CmdId) (request : Request) → heard_from from (after_admission n range id request).journal ≡ heard_from from n.journal
+pub admission_heard : (from : ℕ) (n : Node) (range : ℕ) (id : CmdId) (request : Request) → heard_from from (after_admission n range id request).journal ≡ heard_from from n.journal
 admission_heard from n range id request =
     ap (heard_from from) (step_journal n (events.Admit range id request) []) ∙ heard_further from n.journal (entry_of n (events.Admit range id request) [] ∷ []) ∙ append-nil (heard_from from n.journal)
 
-admission_stage : (n : Node) (range : ℕ) (id : CmdId) (request : Request) → stage_of n.journal ≡ between → stage_of (after_admission n range id request).journal ≡ between
+pub admission_stage : (n : Node) (range : ℕ) (id : CmdId) (request : Request) → stage_of n.journal ≡ between → stage_of (after_admission n range id request).journal ≡ between
 admission_stage n range id request e =
     ap stage_of (step_journal n (events.Admit range id request) []) ∙ stage_push n.journal (entry_of n (events.Admit range id request) [])
     ∙ ap (λ s. stage_after s (past.Admit range id (length n.requests))) e

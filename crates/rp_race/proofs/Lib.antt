@@ -7,4 +7,5 @@ pub mod Nexts
 pub mod Trying
 pub mod Told
 pub mod Keeping
+pub mod Going
 pub mod Waited

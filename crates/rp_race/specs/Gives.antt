@@ -20,7 +20,7 @@ use Rattle.rp_journals.specs.Entries.{at_node}
 use Rattle.rp_journals.specs.Growth.{Begins}
 use Rattle.rp_clients.specs.Tries.{Try, MayCome}
 use Rattle.rp_race.specs.declared.rules.RaceRules.{RaceRules}
-use Rattle.rp_race.specs.Rounds.{Stage, between, stage_of, may_come}
+use Rattle.rp_race.specs.Rounds.{between, stage_of, handed_over, may_come}
 use Rattle.rp_race.specs.Owed.{heard_from, carried}
 use Rattle.rp_race.specs.Played.{requests_of, HasRoundSince, IsTriesOf}
 use Rattle.rp_race.specs.Race.{IsRace}
@@ -117,6 +117,21 @@ abbrev pub AllMayHappen : RaceRules → (node : ℕ) → World → List Happenin
 AllMayHappen rules node v [] = Unit {0}
 AllMayHappen rules node v (x ∷ xs) =
     MayHappen rules node v x × AllMayHappen rules node (happens v (at_node node x)) xs
+
+-- what has happened at the node so far, in this world, is of the inside of a round, and leaves this node
+pub record IsSoFar (rules : RaceRules) (node : ℕ) (v : World) (xs : List Happening) (n : Node)
+    : Type 0 where
+  pub lawful : AllLawful v (all_at node xs)
+  pub order : AllMayHappen rules node v xs
+  pub leaves : node_of (run v (all_at node xs)) node ≡ Some n
+
+-- since it was this node there were admissions alone: it has heard the same, has had as many rounds and handovers, and is
+-- between two rounds where it was
+pub record OnlyAdmitted (before n : Node) : Type 0 where
+  pub heard : (from : ℕ) → heard_from from n.journal ≡ heard_from from before.journal
+  pub rounds : n.rounds ≡ before.rounds
+  pub handed : handed_over n.journal ≡ handed_over before.journal
+  pub stage : stage_of before.journal ≡ between → stage_of n.journal ≡ between
 
 -- a node as it was seen at some time
 pub record WasSeen (nodes : ℕ) (w : World) (node : ℕ) (n : Node) : Type 0 where

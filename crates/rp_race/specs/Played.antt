@@ -1,5 +1,5 @@
 -- The tries of a client, as the journals have them (this project).
-use Rattle.std.specs.Prelude.{◌≡◌, ℕ, ◌-◌, ◌<◌, Bool, true, false, ◌==◌, List, [], ◌∷◌, length, take, slice_get, All, Option, None, Some}
+use Rattle.std.specs.Prelude.{◌≡◌, ℕ, zero, suc, ◌<◌, Bool, true, false, ◌==◌, List, [], ◌∷◌, length, take, slice_get, All, Option, None, Some}
 use Rattle.std.specs.Option.{option_map_or}
 use Rattle.rp_base.specs.declared.ids.CmdId.{CmdId}
 use Rattle.rp_request.specs.declared.outcomes.Outcome.{Outcome}
@@ -17,10 +17,11 @@ use Rattle.rp_race.specs.declared.rules.ClientRequests.{ClientRequests}
 use Rattle.rp_race.specs.declared.rules.RaceRules.{RaceRules}
 use Rattle.rp_race.specs.Owed.{rounds_in}
 
--- the requests of a client, the first of which has the number 1
+-- the requests of a client, the first of which has the number 1; clients are numbered from 1
 abbrev pub requests_of : RaceRules → (client : ℕ) → List Request
-requests_of rules client =
-    option_map_or (λ sent. sent.requests) (slice_get rules.requests (client - 1)) []
+requests_of rules zero = []
+requests_of rules (suc place) =
+    option_map_or (λ sent. sent.requests) (slice_get rules.requests place) []
 
 -- an end that is known of an attempt is what its node tells for good
 abbrev pub IsEndAt : CmdId → Node → Option Outcome → Type 0
