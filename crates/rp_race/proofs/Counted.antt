@@ -1,7 +1,8 @@
 -- A node's rounds are those of its journal, and each keeps no more than the node has sent.
-use Rattle.std.proofs.Common.{◌≡◌, ℕ, zero, suc, ◌+◌, ◌-◌, ◌<◌, ◌≤◌, Bool, true, false, cond, max, ⊎_elim, Option, None, Some, List, [], ◌∷◌, ◌++◌, length, take, refl, sym, ap, subst, ◌∙◌, arith}
+use Rattle.std.proofs.Common.{◌≡◌, ℕ, zero, suc, ◌+◌, ◌-◌, ◌<◌, ◌≤◌, Bool, true, false, cond, max, ◌⊎◌, inl, inr, ⊎_elim, Option, None, Some, List, [], ◌∷◌, ◌++◌, length, take, refl, sym, ap, subst, ◌∙◌, arith}
 use Rattle.std.specs.Prelude.{slice_get, count_by}
 use Rattle.std.specs.List.{AllByRecursion}
+use Rattle.std.proofs.lemmas.Bool.{cases_lt}
 use Rattle.rp_base.specs.declared.ids.CmdId.{CmdId}
 use Rattle.rp_base.specs.declared.items.Item.{Item}
 use Rattle.rp_request.specs.declared.requests.Request.{Request}
@@ -19,7 +20,7 @@ use Rattle.rp_events.specs.declared.replica_events.ReplicaEvent.{ReplicaEvent}
 use Rattle.rp_events.specs.declared.replica_events.ReplicaEvent.TheVariants.{Admit, Ask, Transfer, Collect, Flush, Tick, Deliver, Apply, Cut, Remove, Peek, Restart}
 use Rattle.rp_events.specs.Replicas.{Done}
 use Rattle.rp_events.specs.ReplicaEvents.{event}
-use Rattle.rp_events.specs.Nodes.{Node, Status, Absent, Live, Removed, seat, opened, opened_by, after_turn, range_numbers}
+use Rattle.rp_events.specs.Nodes.{Node, Status, Absent, Live, Removed, seat, opened, opened_by, after_turn, range_numbers, longest_wait}
 use Rattle.rp_events.specs.NodeEvents.{status_after, after_replica, by_status, live_turn, all_turns, delivered, acted, step, with_request, past_of}
 use Rattle.rp_events.specs.Worlds.{World, Scene, Schedule, first_world, node_of, taken_in, happens, run}
 use Rattle.rp_events.specs.Lawful.{IsReached}
@@ -92,6 +93,25 @@ acted_timed n (events.Remove range) taken = same_timed n _ _ refl (status_same n
 acted_timed n (events.Peek range key) taken = same_timed n _ _ refl (status_same n range (Peek key) [] (seat n range))
 acted_timed n events.Restart taken = same_timed n _ _ refl (all_same Restart range_numbers n)
 acted_timed n events.Round taken = record { rounds = refl; waited = omega arith }
+
+-- a node waits as before, or as long as the longest wait of a round that ends
+pub waits_as : (n : Node) (e : Event AppliedState) (taken : List Item) → ((step n e taken).node.waited ≡ n.waited) ⊎ ((e ≡ events.Round) × ((step n e taken).node.waited ≡ longest_wait (n.rounds + 1) n.seats))
+waits_as n (events.Admit range id request) taken = inl (status_same (with_request n request) range (Admit id request) [] (seat n range)).1
+waits_as n (events.Ask range) taken = inl (status_same n range Ask [] (seat n range)).1
+waits_as n (events.Transfer range to) taken = inl (status_same n range (Transfer to) [] (seat n range)).1
+waits_as n (events.Collect range) taken = inl (status_same n range Collect taken (seat n range)).1
+waits_as n (events.Flush range) taken = inl (status_same n range Flush [] (seat n range)).1
+waits_as n events.Tick taken = inl (all_same Tick range_numbers (record n { ticks = n.ticks + 1 })).1
+waits_as n (events.Deliver from range number m) taken = inl (message_same n from range m (seat n range)).1
+waits_as n (events.Apply range) taken = inl (status_same n range Apply [] (seat n range)).1
+waits_as n (events.Cut range) taken = inl (status_same n range Cut [] (seat n range)).1
+waits_as n (events.Remove range) taken = inl (status_same n range Remove [] (seat n range)).1
+waits_as n (events.Peek range key) taken = inl (status_same n range (Peek key) [] (seat n range)).1
+waits_as n events.Restart taken = inl (all_same Restart range_numbers n).1
+waits_as n events.Round taken = ⊎_elim
+    (λ (less : n.waited < longest_wait (n.rounds + 1) n.seats). inr (refl, omega (arith, less)))
+    (λ (more : longest_wait (n.rounds + 1) n.seats ≤ n.waited). inl (omega (arith, more)))
+    (cases_lt n.waited (longest_wait (n.rounds + 1) n.seats))
 
 -- rounds and waiting never fall
 pub never_fall : (n : Node) (e : Event AppliedState) (taken : List Item) → (n.rounds ≤ (step n e taken).node.rounds) × (n.waited ≤ (step n e taken).node.waited)

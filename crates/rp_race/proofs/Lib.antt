@@ -9,3 +9,5 @@ pub mod Told
 pub mod Keeping
 pub mod Going
 pub mod Waited
+pub mod Living
+pub mod Pended

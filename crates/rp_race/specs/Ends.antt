@@ -1,5 +1,5 @@
 -- When a race may end: which commands are open, and what shows that no more is to be waited for (this project).
-use Rattle.std.specs.Prelude.{◌≡◌, ℕ, ◌+◌, ◌*◌, ◌≤◌, max, Bool, true, false, ◌&&◌, ◌||◌, ◌==◌, nat_lt, if◌then◌else◌, List, [], ◌∷◌, ◌++◌, length, map, fold, count_by, sum_by, Some}
+use Rattle.std.specs.Prelude.{◌≡◌, ℕ, ◌+◌, ◌*◌, ◌≤◌, max, Bool, true, false, ◌&&◌, ◌||◌, ◌==◌, nat_lt, if◌then◌else◌, List, [], ◌∷◌, ◌++◌, length, map, take, slice_get, fold, count_by, sum_by, Some}
 use Rattle.std.specs.Option.{option_map_or}
 use Rattle.std.specs.List.{list_any}
 use Rattle.rp_raftstep.specs.RaftState.{nodes_to}
@@ -8,12 +8,16 @@ use Rattle.rp_request.specs.declared.outcomes.Outcome.TheVariants.{Success, Refu
 use Rattle.rp_events.specs.declared.journals.JournalEntry.{JournalEntry}
 use Rattle.rp_events.specs.declared.journals.PastEvent.{PastEvent}
 use Rattle.rp_events.specs.declared.journals.PastEvent.TheVariants.{Admit}
+use Rattle.rp_pending.specs.declared.proposals.Proposal.{Proposal}
 use Rattle.rp_events.specs.Buffered.{is_live}
+use Rattle.rp_events.specs.Lists.{StoodAs}
+use Rattle.rp_events.specs.Replicas.{Replica}
 use Rattle.rp_events.specs.Nodes.{Node, Status}
 use Rattle.rp_events.specs.Worlds.{World, node_of, outcome_of}
 use Rattle.rp_clients.specs.Tries.{tries_again, most_tries, id_of}
 use Rattle.rp_race.specs.declared.rules.ClientRequests.{ClientRequests}
 use Rattle.rp_race.specs.declared.rules.RaceRules.{RaceRules}
+use Rattle.rp_race.specs.Owed.{rounds_in, IsRoundAt}
 
 -- the attempt that an entry admits, where it is one of this command
 abbrev pub attempt_in : (client seq : ℕ) → PastEvent → ℕ
@@ -81,3 +85,21 @@ pub record IsWaitedOutForGood (rounds : ℕ) (w : World) : Type 0 where
   pub n : Node
   pub has : node_of w node ≡ Some n
   pub waited : rounds ≤ n.waited
+
+-- through so many rounds of the node an attempt was pending there, counted from its first flush: as the last of these
+-- rounds ended, a replica of the node had its proposal, which had its first lease index in this round
+pub record WasPending (w : World) (node rounds : ℕ) : Type 0 where
+  pub n : Node
+  pub has : node_of w node ≡ Some n
+  pub place : ℕ
+  pub sent : ℕ
+  pub ended : IsRoundAt n.journal (rounds_in (take place n.journal) + 1) place sent
+  pub range : ℕ
+  pub replica : Replica
+  pub stood : StoodAs w node place range replica
+  pub k : ℕ
+  pub proposal : Proposal
+  pub among : slice_get replica.pending k ≡ Some proposal
+  pub first : ℕ
+  pub flushed : proposal.round ≡ Some first
+  pub through : rounds_in (take place n.journal) + 1 ≡ first + rounds

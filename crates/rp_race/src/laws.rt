@@ -1,5 +1,5 @@
 //! Laws of what keeps a race. No program calls these functions.
-ghost use Rattle.std.specs.Prelude.{◌≡◌, ◌≢◌, ℕ, ◌≤◌, Bool, true, false, List, [], ◌∷◌, ◌++◌, length, slice_get, Some, option_to_list};
+ghost use Rattle.std.specs.Prelude.{◌≡◌, ◌≢◌, ℕ, ◌<◌, ◌≤◌, Bool, true, false, List, [], ◌∷◌, ◌++◌, length, slice_get, Some, option_to_list};
 ghost use Rattle.rp_base.specs.declared.ids.CmdId.{CmdId};
 ghost use Rattle.rp_request.specs.declared.outcomes.Outcome.{Outcome};
 ghost use Rattle.rp_request.specs.Applied.{AppliedState};
@@ -18,7 +18,7 @@ ghost use Rattle.rp_race.specs.Rounds.{may_come, stage_of, stage_after};
 ghost use Rattle.rp_race.specs.Owed.{number_from, heard_from, rounds_in, IsRoundAt};
 ghost use Rattle.rp_race.specs.Played.{IsTriesOf};
 ghost use Rattle.rp_race.specs.Race.{IsRace};
-ghost use Rattle.rp_race.specs.Ends.{IsWaitedOut, IsWaitedOutForGood};
+ghost use Rattle.rp_race.specs.Ends.{has_live, IsWaitedOut, IsWaitedOutForGood, WasPending};
 ghost use Rattle.rp_race.specs.Gives.{Tried, AllMayTry, after_admission, admitted_after, kept_as, is_within_round, IsSoFar, OnlyAdmitted, AllSeen, IsPart, MayEnd, after_round, AdmitsWell, GoesWell, WasSeen};
 
 /// At its start a world of nodes is a race, and no client has tried anything.
@@ -119,4 +119,21 @@ pub fn what_was_waited_stays()
         → IsWaitedOutForGood rounds w → IsWaitedOutForGood rounds later }
     ensures seen { (nodes : ℕ) (w : World) (node : ℕ) (seen : Node) → WasSeen nodes w node seen
         → (n : Node) → node_of w node ≡ Some n → (seen.rounds ≤ n.rounds) × (seen.waited ≤ n.waited) }
+{}
+
+/// Each node of a race has a live replica, so what shows in a race that no more is to be waited for
+/// shows it for good.
+pub fn each_node_of_a_race_has_a_live_replica()
+    ensures live { (rules : RaceRules) (broken : ℕ → Bool) (nodes : ℕ) (w : World)
+        → IsReached nodes w → IsRace rules broken w → (node : ℕ) (n : Node)
+        → node_of w node ≡ Some n → has_live n ≡ true }
+    ensures good { (rules : RaceRules) (broken : ℕ → Bool) (nodes : ℕ) (w : World)
+        → IsReached nodes w → IsRace rules broken w → (rounds : ℕ) → IsWaitedOut rounds w
+        → IsWaitedOutForGood rounds w }
+{}
+
+/// What a node waited is through how many of its rounds some attempt was pending there.
+pub fn what_was_waited_was_pending()
+    ensures { (nodes : ℕ) (w : World) → IsReached nodes w → (node : ℕ) (n : Node)
+        → node_of w node ≡ Some n → 0 < n.waited → WasPending w node n.waited }
 {}
