@@ -4,3 +4,4 @@ pub mod Played
 pub mod Race
 pub mod Gives
 pub mod Ends
+pub mod Worked

@@ -4,11 +4,12 @@ ghost use Rattle.rp_base.specs.declared.ids.CmdId.{CmdId};
 ghost use Rattle.rp_request.specs.declared.outcomes.Outcome.{Outcome};
 ghost use Rattle.rp_request.specs.Applied.{AppliedState};
 ghost use Rattle.rp_request.specs.declared.requests.Request.{Request};
+ghost use Rattle.rp_events.specs.declared.journals.PastEvent.TheVariants as past;
 ghost use Rattle.rp_events.specs.declared.node_events.Event.{Event};
 ghost use Rattle.rp_events.specs.Lawful.{Lawful, IsReached, IsLater};
 ghost use Rattle.rp_events.specs.Nodes.{Node};
 ghost use Rattle.rp_events.specs.NodeEvents.{step};
-ghost use Rattle.rp_events.specs.Worlds.{World, Happening, Round, first_world, node_of, event_of, taken_in, run};
+ghost use Rattle.rp_events.specs.Worlds.{World, Happening, Tick, Collect, Flush, Round, first_world, node_of, event_of, taken_in, run};
 ghost use Rattle.rp_journals.specs.Asked.{all_at};
 ghost use Rattle.rp_journals.specs.Elsewhere.{IsAhead};
 ghost use Rattle.rp_journals.specs.Entries.{at_node};
@@ -17,9 +18,10 @@ ghost use Rattle.rp_race.specs.declared.rules.RaceRules.{RaceRules};
 ghost use Rattle.rp_race.specs.Rounds.{may_come, stage_of, stage_after};
 ghost use Rattle.rp_race.specs.Owed.{number_from, heard_from, rounds_in, IsRoundAt};
 ghost use Rattle.rp_race.specs.Played.{IsTriesOf};
+ghost use Rattle.rp_race.specs.Worked.{left_after};
 ghost use Rattle.rp_race.specs.Race.{IsRace};
 ghost use Rattle.rp_race.specs.Ends.{has_live, IsWaitedOut, IsWaitedOutForGood, WasPending};
-ghost use Rattle.rp_race.specs.Gives.{Tried, AllMayTry, after_admission, admitted_after, kept_as, is_within_round, IsSoFar, OnlyAdmitted, AllSeen, IsPart, MayEnd, after_round, AdmitsWell, GoesWell, WasSeen};
+ghost use Rattle.rp_race.specs.Gives.{Tried, AllMayTry, AllMayHappen, after_admission, admitted_after, kept_as, is_within_round, IsSoFar, OnlyAdmitted, AllSeen, IsPart, MayEnd, after_round, AdmitsWell, GoesWell, WasSeen};
 
 /// At its start a world of nodes is a race, and no client has tried anything.
 pub fn a_race_starts()
@@ -136,4 +138,25 @@ pub fn each_node_of_a_race_has_a_live_replica()
 pub fn what_was_waited_was_pending()
     ensures { (nodes : ℕ) (w : World) → IsReached nodes w → (node : ℕ) (n : Node)
         → node_of w node ≡ Some n → 0 < n.waited → WasPending w node n.waited }
+{}
+
+/// A round of one node alone, at its start: a tick, a collect that finds nothing, a flush, and the end.
+/// No other order of these may come, and none of them may be left out.
+pub fn a_round_may_be_played()
+    ensures plays { (rules : RaceRules) → AllMayHappen rules 1 (first_world 1) (Tick ∷ Collect 0 [] ∷ Flush 0 ∷ []) }
+    ensures ends { (rules : RaceRules)
+        → may_come rules (left_after (Tick ∷ Collect 0 [] ∷ Flush 0 ∷ [])) (past.Round 0) ≡ true }
+    ensures no_tick { (rules : RaceRules) → may_come rules (left_after []) (past.Round 0) ≡ false }
+    ensures no_flush { (rules : RaceRules)
+        → may_come rules (left_after (Tick ∷ Collect 0 [] ∷ [])) (past.Round 0) ≡ false }
+    ensures no_collect { (rules : RaceRules)
+        → may_come rules (left_after (Tick ∷ [])) (past.Flush 0) ≡ false }
+    ensures twice { (rules : RaceRules)
+        → may_come rules (left_after (Tick ∷ [])) past.Tick ≡ false }
+    ensures late { (rules : RaceRules) (from : ℕ) (number : ℕ)
+        → may_come rules (left_after (Tick ∷ [])) (past.Deliver from number) ≡ false }
+    ensures absent { (rules : RaceRules)
+        → may_come rules (left_after (Tick ∷ [])) (past.Collect 1 []) ≡ false }
+    ensures interrupted { (rules : RaceRules) (id : CmdId) (request : Request)
+        → may_come rules (after_admission (left_after (Tick ∷ [])) 0 id request) (past.Collect 0 []) ≡ false }
 {}
