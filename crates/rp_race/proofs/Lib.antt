@@ -1,0 +1,11 @@
+pub mod Ahead
+pub mod Counted
+pub mod Ordered
+pub mod Hearing
+pub mod Owing
+pub mod Nexts
+pub mod Trying
+pub mod Told
+pub mod Keeping
+pub mod Going
+pub mod Waited
