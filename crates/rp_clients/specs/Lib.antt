@@ -1,2 +1,5 @@
 pub mod Tries
 pub mod Desks
+pub mod Finals
+pub mod Courses
+pub mod Waits

@@ -1,5 +1,5 @@
 -- A client's tries: which one may come next, and what it knows of each command (this project).
-use Rattle.std.specs.Prelude.{◌≡◌, ℕ, ◌+◌, ◌-◌, min, Bool, true, false, ◌&&◌, nat_lt, if◌then◌else◌, List, [], ◌∷◌, map, slice_get, Option, None, Some}
+use Rattle.std.specs.Prelude.{◌≡◌, ℕ, ◌+◌, ◌-◌, ◌<◌, min, Bool, true, false, ◌&&◌, nat_lt, if◌then◌else◌, List, [], ◌∷◌, map, slice_get, All, Option, None, Some}
 use Rattle.rp_base.specs.Ids.{same_id}
 use Rattle.rp_base.specs.declared.ids.CmdId.{CmdId}
 use Rattle.rp_request.specs.declared.requests.Request.{Request}
@@ -108,6 +108,11 @@ pub record MayCome (client nodes : ℕ) (requests : List Request) (tries : List 
   pub asked : slice_get requests (id.seq - 1) ≡ Some request
   pub at_node : node ≡ aimed_node (hints_of nodes tries) (first_key request)
   pub in_range : range ≡ aimed_range (hints_of nodes tries) (first_key request)
+
+-- each earlier try of this command at that node came when the node had fewer rounds
+abbrev pub GoneOn : (seq node rounds : ℕ) → List Try → Type 0
+GoneOn seq node rounds tries =
+    All (λ (t : Try). t.id.seq ≡ seq → t.node ≡ node → t.rounds < rounds) tries
 
 -- the try of this id, where its end is not learnt yet, ended so
 abbrev pub ended_so : CmdId → Outcome → Try → Option Outcome → Try

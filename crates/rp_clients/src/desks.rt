@@ -1,6 +1,6 @@
 //! Where a client asks the nodes.
 ghost use Rattle.std.specs.Prelude.{◌≡◌, ℕ, ◌≤◌, IfOk, IfErr};
-ghost use Rattle.rp_clients.specs.Desks.{Standing, tells, CameBy, MayAdmit, after_admit, after_fetch, after_reserve, after_release, Shows, TellsEnd, RefusesBy};
+ghost use Rattle.rp_clients.specs.Desks.{Standing, Tells, CameBy, GoesOn, MayAdmit, MayPut, after_admit, after_fetch, after_reserve, after_release, Shows, TellsEnd, RefusesBy};
 
 use crate::answers::{AdmitFault, Answer, Empty};
 use rp_base::{CmdId, NodeId, RangeId};
@@ -12,17 +12,17 @@ use rp_request::Request;
 /// try again after an end that nobody can tell, or admit a command without its units.
 pub trait Desk {
     // The tries with their ends, the numbers of rounds that were told, whose desk it is, whether
-    // all is over, and the quota.
+    // all is over or memory was refused, and the quota.
     ghost stands: { Self → Standing };
 
     /// How many rounds a node had: at least as many as at the tries there so far, and at most as
-    /// many as at any later one.
+    /// many as at any later one. It may wait for the node.
     fn rounds(&mut self, node: NodeId) -> u64
         requires { node ≤ (stands self.old).nodes }
-        ensures tells { stands self.new ≡ tells node result (stands self.old) }
+        ensures tells { Tells node result (stands self.old) (stands self.new) }
         ensures least { CameBy node result (stands self.old).tries };
 
-    /// Tries a command at a node: `Ok` where it was admitted there. It may wait.
+    /// Tries a command at a node: `Ok` where it was admitted there. It may wait for the node.
     fn admit(
         &mut self,
         node: NodeId,
@@ -35,11 +35,11 @@ pub trait Desk {
             × (stands self.new ≡ after_admit node range rounds id result (stands self.old)) }
         ensures names { IfErr result (RefusesBy (stands self.old).nodes) };
 
-    /// Puts an admitted command into the buffer of its range. False where there was no room, or
-    /// another was faster: then nothing was put.
+    /// Puts the command that was admitted last into the buffer of its range. False where there was
+    /// no room, or another was faster: then nothing was put.
     fn put(&mut self, node: NodeId, range: RangeId, id: CmdId) -> bool
-        requires { node ≤ (stands self.old).nodes }
-        ensures { stands self.new ≡ stands self.old };
+        requires { MayPut node range id (stands self.old) }
+        ensures { stands self.new ≡ record (stands self.old) { is_put = result } };
 
     /// Takes what is posted, if anything is.
     fn fetch(&mut self) -> Result<Answer, Empty>
@@ -48,7 +48,8 @@ pub trait Desk {
 
     /// Takes units of the quota, or tells why not.
     fn reserve(&mut self, units: u64) -> Result<(), QuotaFault>
-        requires { units ≤ (stands self.old).capacity }
+        requires goes_on { GoesOn (stands self.old) }
+        requires most { units ≤ (stands self.old).capacity }
         ensures after { stands self.new ≡ after_reserve units result (stands self.old) }
         ensures shows { IfErr result (Shows units) };
 

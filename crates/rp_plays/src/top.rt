@@ -14,7 +14,7 @@ use std::alloc::Global;
 use std::test::Fail;
 
 const USAGE: &str =
-    "usage: rp run [--form F] | rp race [--workers W] [--loss P] [--salt S] [--form F] | rp gen NUMBER SIZE\n";
+    "usage: rp run [--form F] | rp race [--workers W] [--loss P] [--salt S] [--quota U] [--form F] | rp gen NUMBER SIZE\n";
 
 fn bytes(alloc: Global, text: &[u8]) -> Result<Bytes, Fail> {
     Ok(Seq::from_vec(text.to_vec(alloc)?))

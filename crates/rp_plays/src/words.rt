@@ -18,13 +18,22 @@ fn each_command(rt: HostRuntime) -> Result<(), Fail> {
         workers: 8,
         loss: 50,
         salt: 1,
+        quota: 65_536,
         form: Form::Json,
     };
     assert!(rt; answer(alloc, &["run", "--form", "summary"])? == Ok(Asked::Run(Form::Summary)));
     assert!(rt;
         answer(
             alloc,
-            &["race", "--loss=50", "--form=json", "--workers", "008"]
+            &[
+                "race",
+                "--loss=50",
+                "--form=json",
+                "--workers",
+                "008",
+                "--quota",
+                "65536"
+            ]
         )? == Ok(Asked::Race(race))
     );
     let script = Asked::Gen {
@@ -43,5 +52,6 @@ fn outside_the_table(rt: HostRuntime) -> Result<(), Fail> {
     assert!(rt; answer(alloc, &["run", "--form", "text", "--form", "text"])? == usage);
     assert!(rt; answer(alloc, &["gen", "7", "20001"])? == usage);
     assert!(rt; answer(alloc, &["race", "--loss", "51"])? == usage);
+    assert!(rt; answer(alloc, &["race", "--quota", "0"])? == usage);
     Ok(())
 }

@@ -102,7 +102,7 @@ Answers status form meaning old new =
 
 -- what is written where the words ask for nothing
 abbrev pub usage_line : List ℕ
-usage_line = codes "usage: rp run [--form F] | rp race [--workers W] [--loss P] [--salt S] [--form F] | rp gen NUMBER SIZE" ++ newline
+usage_line = codes "usage: rp run [--form F] | rp race [--workers W] [--loss P] [--salt S] [--quota U] [--form F] | rp gen NUMBER SIZE" ++ newline
 
 -- the words ask for nothing that is done
 abbrev pub IsUnused : Option Asked → Type 0

@@ -33,7 +33,7 @@ use std::alloc::Global;
 
 /// How the program is used.
 const USAGE: &str =
-    "usage: rp run [--form F] | rp race [--workers W] [--loss P] [--salt S] [--form F] | rp gen NUMBER SIZE\n";
+    "usage: rp run [--form F] | rp race [--workers W] [--loss P] [--salt S] [--quota U] [--form F] | rp gen NUMBER SIZE\n";
 
 /// The line that says why a script was not played to its end.
 fn fault_text(alloc: Global, fault: ScriptFault) -> Result<Text, NoMemory>

@@ -39,7 +39,7 @@ value_kept id (g ∷ gs) = go (bytes_eq g.0 id) refl (value_kept id gs)
     go false e h = rw e h
 
 plan_same : (f g : Text → Option Text) → ((id : Text) → f id ≡ g id) → plan_by f ≡ plan_by g
-plan_same f g same = rw (same (codes "workers"), same (codes "loss"), same (codes "salt"), same (codes "form")) refl
+plan_same f g same = rw (same (codes "workers"), same (codes "loss"), same (codes "salt"), same (codes "quota"), same (codes "form")) refl
 
 judged : (line : Line) (get : Text → Option Text) → ((id : Text) → get id ≡ first_of id (shown line).1) → asked_at (shown line).0 get ≡ asked_in line
 judged (run gs) get same = ap (λ (o : Option Text). option_map asks.Run (form_or_text o)) (same (codes "form") ∙ value_kept (codes "form") gs)

@@ -16,9 +16,9 @@ run_app = with_rule (new_app (codes "run")) (option_rule (codes "form"))
 
 abbrev pub race_app : App
 race_app =
-    with_rule (with_rule (with_rule (with_rule (new_app (codes "race"))
+    with_rule (with_rule (with_rule (with_rule (with_rule (new_app (codes "race"))
     (option_rule (codes "workers"))) (option_rule (codes "loss"))) (option_rule (codes "salt")))
-    (option_rule (codes "form"))
+    (option_rule (codes "quota"))) (option_rule (codes "form"))
 
 abbrev pub gen_app : App
 gen_app = with_rule (with_rule (new_app (codes "gen")) (word_rule (codes "number"))) (word_rule (codes "size"))

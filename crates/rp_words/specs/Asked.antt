@@ -22,7 +22,7 @@ abbrev pub run_names : List Text
 run_names = codes "form" ∷ []
 
 abbrev pub race_names : List Text
-race_names = codes "workers" ∷ codes "loss" ∷ codes "salt" ∷ codes "form" ∷ []
+race_names = codes "workers" ∷ codes "loss" ∷ codes "salt" ∷ codes "quota" ∷ codes "form" ∷ []
 
 -- two words that name no option
 abbrev pub two_words : List Text → Option Line
@@ -67,12 +67,13 @@ form_or_text None = Some forms.Text
 form_or_text (Some word) = form_named word
 
 -- how a race is run, by the values of its options: 1 to 8 workers, else 2; 0 to 50 of a hundred
--- messages lost, else none; a salt, else 1; a form
+-- messages lost, else none; a salt, else 1; a quota of 1 to 65,536 units, else 1,024; a form
 abbrev pub plan_by : (Text → Option Text) → Option RacePlan
 plan_by value =
-    option_and_then (λ workers. option_and_then (λ loss. option_and_then (λ salt.
-    option_map (λ form. record { workers = workers; loss = loss; salt = salt; form = form })
+    option_and_then (λ workers. option_and_then (λ loss. option_and_then (λ salt. option_and_then (λ quota.
+    option_map (λ form. record { workers = workers; loss = loss; salt = salt; quota = quota; form = form })
     (form_or_text (value (codes "form"))))
+    (number_or 1024 1 65536 (value (codes "quota"))))
     (number_or 1 0 (2 ^ 64 - 1) (value (codes "salt"))))
     (number_or 0 0 50 (value (codes "loss"))))
     (number_or 2 1 8 (value (codes "workers")))
@@ -83,10 +84,19 @@ script_by number size =
     option_and_then (λ n. option_map (asks.Gen n) (number_in 1 20000 size))
     (number_in 0 (2 ^ 64 - 1) number)
 
--- a script that is asked for has 1 to 20,000 commands
+-- a race that is asked for has 1 to 8 workers, loses at most 50 of a hundred messages, and has 1 to
+-- 65,536 units
+pub record IsPlan (plan : RacePlan) : Type 0 where
+  pub some_workers : 1 ≤ plan.workers
+  pub few_workers : plan.workers ≤ 8
+  pub half : plan.loss ≤ 50
+  pub some_units : 1 ≤ plan.quota
+  pub few_units : plan.quota ≤ 65536
+
+-- and a script has 1 to 20,000 commands
 abbrev pub IsSized : Asked → Type 0
 IsSized (asks.Run form) = Unit {0}
-IsSized (asks.Race plan) = Unit {0}
+IsSized (asks.Race plan) = IsPlan plan
 IsSized (asks.Gen number size) = (1 ≤ size) × (size ≤ 20000)
 
 -- what a command asks for

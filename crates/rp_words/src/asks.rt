@@ -23,6 +23,8 @@ pub struct RacePlan {
     pub loss: u8,
     /// What picks the messages that are lost.
     pub salt: u64,
+    /// How many units the commands under way may take together, 1 to 65,536.
+    pub quota: u64,
     pub form: Form,
 }
 

@@ -53,6 +53,7 @@ fn race<'a>(alloc: Global) -> Result<Command<'a>, NoMemory>
     let command = with_option(alloc, Command::new(alloc, "race"), "workers")?;
     let command = with_option(alloc, command, "loss")?;
     let command = with_option(alloc, command, "salt")?;
+    let command = with_option(alloc, command, "quota")?;
     with_option(alloc, command, "form")
 }
 

@@ -5,7 +5,7 @@ ghost use Rattle.clap.specs.Matches.{found_of, first_value};
 ghost use Rattle.clap.specs.Simple.{subcommand_rows_of};
 ghost use Rattle.clap.specs.Values.{kind_of};
 ghost use Rattle.rp_words.specs.Words.{is_odd};
-ghost use Rattle.rp_words.specs.Asked.{Line, line_of, form_named, form_or_text, number_in, number_or, plan_by, script_by, asked_in, asked_of, IsSized};
+ghost use Rattle.rp_words.specs.Asked.{Line, line_of, form_named, form_or_text, number_in, number_or, plan_by, script_by, asked_in, asked_of, IsPlan, IsSized};
 ghost use Rattle.rp_words.specs.Shown.{shown, asked_at};
 
 use crate::asks::{Asked, Form, RacePlan, WordsFault};
@@ -62,8 +62,10 @@ fn number_in(word: &str, low: u64, high: u64) -> Option<u64>
 
 /// An option's number, or another where it is not given.
 fn number_or(found: Option<&str>, default: u64, low: u64, high: u64) -> Option<u64>
-    requires { default ≤ high }
+    requires least { low ≤ default }
+    requires most { default ≤ high }
     ensures value { result ≡ number_or default low high (option_map (λ word. word.now) found.entry) }
+    ensures least { IfSome result (λ n. low ≤ n) }
     ensures most { IfSome result (λ n. n ≤ high) }
 {
     match found {
@@ -74,16 +76,19 @@ fn number_or(found: Option<&str>, default: u64, low: u64, high: u64) -> Option<u
 
 /// How a race is run.
 fn plan(matches: &ArgMatches<'_>) -> Option<RacePlan>
-    ensures { result ≡ plan_by (first_value (found_of matches.now)) }
+    ensures plan { result ≡ plan_by (first_value (found_of matches.now)) }
+    ensures sized { IfSome result IsPlan }
 {
     let workers = number_or(matches.get_str("workers"), 2, 1, 8)?;
     let loss = number_or(matches.get_str("loss"), 0, 0, 50)?;
     let salt = number_or(matches.get_str("salt"), 1, 0, u64::MAX)?;
+    let quota = number_or(matches.get_str("quota"), 1024, 1, 65_536)?;
     let form = form_or_text(matches.get_str("form"))?;
     Some(RacePlan {
         workers: workers as u8,
         loss: loss as u8,
         salt,
+        quota,
         form,
     })
 }
