@@ -1,0 +1,5 @@
+//! Session adds, outcome by outcome.
+#![tactic(auto)]
+
+#[cfg(test)]
+mod adds;
