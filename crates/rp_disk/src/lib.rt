@@ -2,6 +2,14 @@
 //! system.
 #![tactic(auto)]
 
+mod calls;
 mod disk;
+mod histories;
+mod memory;
+mod schedules;
+mod sound;
 
+pub use calls::{CallKind, DiskCall};
 pub use disk::Disk;
+pub use memory::MemoryDisk;
+pub use sound::SoundDisk;
