@@ -1,5 +1,5 @@
 -- What a disk tells of its file, what its calls do to that, and what a crash may leave.
-use Rattle.std.specs.Prelude.{◌≡◌, ◌⊎◌, ℕ, ◌+◌, ◌<◌, ◌≤◌, max, Bool, IsTrue, List, ◌++◌, length, take, drop}
+use Rattle.std.specs.Prelude.{◌≡◌, ◌⊎◌, ℕ, ◌+◌, ◌<◌, ◌≤◌, max, Bool, false, IsTrue, List, [], ◌++◌, length, take, drop}
 
 -- What a disk tells of its file. Where it tells nothing, the rest means nothing.
 pub record File : Type 1 where
@@ -19,6 +19,10 @@ pub record IsTold (file : File) : Type 0 where
   pub as_seen : file.may_leave file.seen
   pub counts_now : (t : ℕ) (c : List ℕ) → t ≤ file.moment → file.may_leave c → file.left_since t c
   pub only_now : (c : List ℕ) → file.left_since file.moment c → file.may_leave c
+
+-- a disk that tells nothing
+abbrev pub untold : File
+untold = record { tells = false; seen = []; may_leave = λ c. Unit {0}; moment = 0; left_since = λ t c. Unit {0} }
 
 -- these bytes over what stands at this place, and past the end
 abbrev pub put : ℕ → List ℕ → List ℕ → List ℕ

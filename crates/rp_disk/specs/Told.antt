@@ -1,8 +1,8 @@
 -- A file in memory is one: as it reads it is one of those that a crash may leave, and of the moments
 -- from now on there is just this one.
-use Rattle.std.specs.Prelude.{◌≡◌, ℕ, ◌+◌, ◌≤◌, Bool, true, false, List, [], ◌∷◌, length, refl}
+use Rattle.std.specs.Prelude.{◌≡◌, ℕ, ◌+◌, ◌≤◌, Bool, true, false, IsTrue, List, [], ◌∷◌, length, refl}
 use Rattle.std.proofs.Common.{inl, inr, arith}
-use Rattle.rp_disk.specs.Files.{IsTold, Torn}
+use Rattle.rp_disk.specs.Files.{IsTold, Torn, untold}
 use Rattle.rp_disk.specs.Histories.{Call, asked, wrote, cuts, synced, read_after, left_after, left_since, file_after}
 
 -- a write that was not done left all as it was
@@ -35,3 +35,7 @@ told_after told calls = record {
   counts_now = λ t c le left. counts_now calls t c left;
   only_now = λ c left. only_now calls c left;
 }
+
+-- a disk that tells nothing makes no claim
+pub untold_is_told : IsTrue untold.tells → IsTold untold
+untold_is_told told = absurd (cc told)

@@ -8,8 +8,10 @@ mod histories;
 mod memory;
 mod schedules;
 mod sound;
+mod system;
 
 pub use calls::{CallKind, DiskCall};
 pub use disk::Disk;
 pub use memory::MemoryDisk;
 pub use sound::SoundDisk;
+pub use system::FileDisk;
