@@ -1,0 +1,4 @@
+pub mod Files
+pub mod Forms
+pub mod Histories
+pub mod Told
