@@ -3,6 +3,7 @@
 mod base;
 mod draws;
 mod large;
+mod lines;
 mod payload;
 mod raft;
 mod random;
@@ -43,6 +44,11 @@ fn main() -> ExitCode {
         },
         ["large"] => (0, large::KINDS.map(|kind| format!("{kind}\n")).concat()),
         ["large", kind] => large::script(kind).map_or_else(|| (2, "usage\n".to_string()), |text| (0, text)),
+        ["lines"] => (0, lines::KINDS.map(|kind| format!("{kind}\n")).concat()),
+        ["lines", kind, most] => match most.parse().ok().and_then(|most| lines::script(kind, most)) {
+            Some(text) => (0, text),
+            None => (2, "usage\n".to_string()),
+        },
         ["random", number, "simple", lines] => match (number.parse(), lines.parse()) {
             (Ok(number), Ok(lines)) => (0, random::simple(number, lines)),
             _ => (2, "usage\n".to_string()),
