@@ -131,8 +131,10 @@ impl Queues {
     /// The first attempt, by client, command and number, of those in queues that are not passed over,
     /// and its queue.
     pub fn first(&self, passed: &[bool; QUEUES]) -> Option<(usize, CmdId)>
-        ensures { IsFirst self.now passed.now queue_count result }
+        ensures first { IsFirst self.now passed.now queue_count result }
+        ensures many { length self.now ≡ queue_count }
     {
+        let _queues = &self.queues;
         let mut first = None;
         for queue in 0..QUEUES {
             first = self.looked(passed, queue, first);

@@ -9,7 +9,7 @@ ghost use Rattle.rp_book.specs.declared.bookings.Draw.TheVariants as draws;
 ghost use Rattle.rp_book.specs.declared.keeps.Kept.{Kept};
 ghost use Rattle.rp_book.specs.Books.{booking_of, told_of};
 ghost use Rattle.rp_book.specs.Keeping.{booking_in, bookings, outcome_in, outcomes};
-ghost use Rattle.rp_book.specs.Queueing.{AllQueued, AllStand, MayGo, holds, is_among, is_pending, is_unpublished, Stands, queue_count, queue_of, stands_in};
+ghost use Rattle.rp_book.specs.Queueing.{AllQueued, AllStand, MayGo, holds, is_among, is_pending, is_unpublished, Stands, drawn_queue, queue_count, queue_of, stands_in};
 
 use crate::bookings::{Booked, Draw};
 use crate::keeps::Kept;
@@ -95,6 +95,7 @@ fn queue_at(node: NodeId, range: RangeId) -> usize
 /// The queue of an attempt; none where it was published.
 pub fn queue_of(booked: &Booked) -> Option<usize>
     ensures queue { result ≡ queue_of booked.now }
+    ensures undrawn { booked.now.draw ≡ draws.Undrawn → IfSome result (λ queue. queue < drawn_queue) }
     ensures within { IfSome result (λ queue. queue < queue_count) }
 {
     match booked.draw {
