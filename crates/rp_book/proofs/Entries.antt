@@ -232,18 +232,18 @@ replies_by_ids told es =
     ∙ lines_of_ids told (by_attempt (bookings es))
 
 -- a list without an item at a place ends there
-slice_get_none : {A : Type 0} (es : List A) (at : ℕ) → slice_get es at ≡ None → length es ≤ at
+pub slice_get_none : {A : Type 0} (es : List A) (at : ℕ) → slice_get es at ≡ None → length es ≤ at
 slice_get_none [] at h = omega arith
 slice_get_none (x ∷ es) zero h = absurd cc
 slice_get_none (x ∷ es) (suc at) h = let more = slice_get_none es at h in omega (arith, more)
 
 -- one more of them in order
-take_next : {A : Type 0} (es : List A) (at : ℕ) (e : A) → slice_get es at ≡ Some e → take (at + 1) es ≡ take at es ++ e ∷ []
+pub take_next : {A : Type 0} (es : List A) (at : ℕ) (e : A) → slice_get es at ≡ Some e → take (at + 1) es ≡ take at es ++ e ∷ []
 take_next [] at e h = absurd cc
 take_next (x ∷ es) zero e h = let is : x ≡ e = cc in ap (λ y. y ∷ []) is
 take_next (x ∷ es) (suc at) e h = ap (λ k. take k (x ∷ es)) (let k : suc at + 1 ≡ suc (at + 1) = omega arith in k) ∙ ap (λ l. x ∷ l) (take_next es at e h)
 
-keys_end : {A : Type 0} (es : List (CmdId × A)) (e : CmdId × A) → keys_of (es ++ e ∷ []) ≡ keys_of es ++ e.0 ∷ []
+pub keys_end : {A : Type 0} (es : List (CmdId × A)) (e : CmdId × A) → keys_of (es ++ e ∷ []) ≡ keys_of es ++ e.0 ∷ []
 keys_end [] e = refl
 keys_end (x ∷ es) e = ap (λ ids. x.0 ∷ ids) (keys_end es e)
 

@@ -1,12 +1,13 @@
 -- Queues, as attempts come and go, and the first of all.
 use Rattle.std.proofs.Common.{◌≡◌, ℕ, zero, suc, ◌+◌, ◌<◌, ◌≤◌, ◌==◌, eqb, ◌&&◌, ◌||◌, not, Bool, true, false, cond, List, [], ◌∷◌, length, Option, None, Some, IsTrue, refl, sym, ap, subst, ◌∙◌, arith, eqb-true}
-use Rattle.std.specs.Prelude.{slice_index_or, slice_set}
+use Rattle.std.specs.Prelude.{slice_index_or, slice_set, sum_by}
 use Rattle.std.specs.List.{list_any}
 use Rattle.std.specs.Ordering.{is_lt, is_gt, ordering_reverse}
 use Rattle.std.specs.declared.cmp.Ordering.{Ordering}
 use Rattle.std.specs.declared.cmp.Ordering.TheVariants.{Less, Equal, Greater}
 use Rattle.std.specs.BTreeMap.{is_at}
 use Rattle.std.proofs.lemmas.Bool.{eqb-false}
+use Rattle.std.proofs.lemmas.List.Sums.{sum_by-set}
 use Rattle.rp_base.specs.Ids.{cmd_cmp, same_id}
 use Rattle.rp_base.specs.declared.ids.CmdId.{CmdId}
 use Rattle.rp_base.proofs.IdLaws.{at_same, same_back, cmd_not_both, cmd_before_too, cmd_total}
@@ -187,3 +188,15 @@ pub looked_first : (inside q : Queued) (passed : List Bool) (n : ℕ) (found : O
 looked_first inside q passed n found head result ids view is h at lt p f =
     let here : ids ≡ slice_index_or q n [] = at ∙ default_apart inside n ids [] lt ∙ ap (λ l. slice_index_or l n []) view in
     subst (λ r. IsFirst q passed (n + 1) r) (sym is) (first_looked q passed n found head f p (subst (λ l. IsHead l head) here h))
+
+-- one id fewer
+pub fewer_by : (was : Bool) (new old : ℕ) → was ≡ true → new + cond was 1 0 ≡ old → new + 1 ≡ old
+fewer_by true new old is e = e
+fewer_by false new old is e = absurd cc
+
+-- a queue is one shorter, and the queues hold one fewer
+pub size_set : (q : Queued) (queue : ℕ) (ids was : List CmdId) → queue < length q → was ≡ slice_index_or q queue [] → length ids + 1 ≡ length was → sum_by (λ l. length l) (slice_set q queue ids) + 1 ≡ sum_by (λ l. length l) q
+size_set q queue ids was lt is one =
+    let all : sum_by (λ l. length l) (slice_set q queue ids) + length (slice_index_or q queue []) ≡ sum_by (λ l. length l) q + length ids = sum_by-set (λ (l : List CmdId). length l) q queue ids [] lt in
+    let same : length was ≡ length (slice_index_or q queue []) = ap (λ (l : List CmdId). length l) is in
+    omega (arith, all, same, one)

@@ -3,3 +3,4 @@ pub mod Firsts
 pub mod Fronts
 pub mod Latest
 pub mod Sorted
+pub mod Standing

@@ -6,10 +6,13 @@ ghost use Rattle.rp_base.specs.declared.ids.CmdId.{CmdId};
 ghost use Rattle.rp_request.specs.declared.outcomes.Outcome.TheVariants.{Pending};
 ghost use Rattle.rp_book.specs.declared.bookings.Booked.{Booked};
 ghost use Rattle.rp_book.specs.Books.{booked, booking_of, by_attempt, latest_of, reply_of, told_of};
+ghost use Rattle.rp_book.specs.Queueing.{AllQueued};
 
 use crate::bookings::{Booked, Draw};
 use crate::keeps::{Command, Kept};
+use crate::queues::Queues;
 use crate::stores;
+use crate::waits::{Waits, gathered, is_pending, is_unpublished};
 use indexmap::IndexMap;
 use rp_base::{CmdId, NoMemory, Seq};
 use rp_request::{Outcome, Replies};
@@ -17,19 +20,21 @@ use std::alloc::Global;
 use std::marker::Model;
 
 /// The attempts that clients made, in the order in which they came. Contracts see them, what was told
-/// of the outcome of each, and how many more take no memory.
+/// of the outcome of each, and how many more take no memory. It also keeps where those stand that may
+/// still be put into a buffer.
 #[derive(Drop)]
 pub struct Book {
     kept: IndexMap<CmdId, Kept>,
     latest: IndexMap<Command, u16>,
+    waits: Waits,
 }
 
 impl Model for Book {
     ghost use Rattle.std.specs.Prelude.{min};
-    ghost use Rattle.std.specs.Map.{keys_of};
     ghost use Rattle.indexmap.specs.IndexMap.{spare};
     ghost use Rattle.rp_book.specs.Books.{BookState};
-    ghost use Rattle.rp_book.specs.Keeping.{bookings, outcomes, IsIndexed};
+    ghost use Rattle.rp_book.specs.Keeping.{bookings, outcomes};
+    ghost use Rattle.rp_book.specs.Queueing.{IsWellKept};
 
     ghost Value = { BookState };
 
@@ -39,7 +44,8 @@ impl Model for Book {
       spare = min (spare b.kept) (spare b.latest);
     } };
 
-    ghost invariant = { λ b. IsIndexed (keys_of b.kept.entries) b.latest.entries };
+    ghost invariant = { λ b.
+        IsWellKept b.kept.entries b.latest.entries b.waits.queues b.waits.noted.items };
 }
 
 impl Book {
@@ -51,6 +57,7 @@ impl Book {
         Book {
             kept: IndexMap::new(alloc),
             latest: IndexMap::new(alloc),
+            waits: Waits::new(alloc),
         }
     }
 
@@ -77,6 +84,7 @@ impl Book {
     {
         stores::put(&mut self.kept, id, booking);
         stores::note_latest(&mut self.latest, id);
+        self.waits.note_if(true, id);
     }
 
     /// What the book has of an attempt.
@@ -95,6 +103,7 @@ impl Book {
         ensures spare { self.old.spare ≤ self.new.spare }
     {
         stores::set_draw(&mut self.kept, id, draw);
+        self.waits.note_if(is_unpublished(draw), id);
     }
 
     /// The last attempt that the book got of a command.
@@ -129,6 +138,32 @@ impl Book {
         ensures spare { self.old.spare ≤ self.new.spare }
     {
         stores::tell(&mut self.kept, id, outcome);
+        self.waits.note_if(is_pending(&outcome), id);
+    }
+
+    /// Takes the queues of the attempts that may still be put: of those that had no place and are
+    /// pending, and of those that have drawn one. They may hold others too. At want of memory, and
+    /// where they are not given back, the next ones are made of all attempts.
+    pub fn take_queues(&mut self) -> Result<Queues, NoMemory>
+        ensures entries { self.new.entries ≡ self.old.entries }
+        ensures told { (id : CmdId) → told_of id self.new.told ≡ told_of id self.old.told }
+        ensures queued { IfOk result (λ queues. AllQueued self.new.entries self.new.told queues) }
+        ensures spare { self.old.spare ≤ self.new.spare }
+    {
+        let queues = self.waits.queues.take();
+        let all = gathered(queues, self.waits.noted.as_slice(), &self.kept);
+        self.waits.noted.clear();
+        all
+    }
+
+    /// Gives the queues back.
+    pub fn keep_queues(&mut self, queues: Queues)
+        requires { AllQueued self.old.entries self.old.told queues }
+        ensures entries { self.new.entries ≡ self.old.entries }
+        ensures told { (id : CmdId) → told_of id self.new.told ≡ told_of id self.old.told }
+        ensures spare { self.old.spare ≤ self.new.spare }
+    {
+        self.waits.queues = Some(queues);
     }
 
     /// All attempts, by client, command and attempt.

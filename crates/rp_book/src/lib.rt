@@ -8,8 +8,10 @@ mod handling;
 mod keeps;
 mod queues;
 mod stores;
+mod waits;
 
 pub use bookings::{Booked, Draw};
 pub use books::Book;
 pub use handling::Handled;
 pub use queues::{QUEUES, Queues};
+pub use waits::queue_of;

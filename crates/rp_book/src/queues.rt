@@ -1,8 +1,8 @@
 //! Attempts that may still be put into a buffer, in queues.
-ghost use Rattle.std.specs.Prelude.{◌≡◌, ◌+◌, ◌<◌, ℕ, not, [], ◌&&◌, ◌||◌, ◌==◌, replicate, IfOk, OnOk, OnErr};
+ghost use Rattle.std.specs.Prelude.{◌≡◌, ◌+◌, ◌<◌, ℕ, true, not, length, [], ◌&&◌, ◌||◌, ◌==◌, replicate, IfOk, OnOk, OnErr};
 ghost use Rattle.rp_base.specs.Ids.{same_id};
 ghost use Rattle.rp_base.specs.declared.ids.CmdId.{CmdId};
-ghost use Rattle.rp_book.specs.Queueing.{earlier_of, has, holds, queue_count, IsFirst, IsHead};
+ghost use Rattle.rp_book.specs.Queueing.{earlier_of, has, holds, queue_count, size, IsFirst, IsHead};
 
 use rp_base::{CmdId, NoMemory};
 use std::alloc::Global;
@@ -45,7 +45,8 @@ impl Queue {
     }
 
     fn remove(&mut self, id: CmdId)
-        ensures { (other : CmdId) → has other self.new ≡ (not (same_id other id) && has other self.old) }
+        ensures has { (other : CmdId) → has other self.new ≡ (not (same_id other id) && has other self.old) }
+        ensures fewer { has id self.old ≡ true → length self.new + 1 ≡ length self.old }
     {
         self.ids.remove(&id);
     }
@@ -104,8 +105,9 @@ impl Queues {
     /// Takes an attempt out of a queue, where it is there.
     pub fn remove(&mut self, queue: usize, id: CmdId)
         requires { queue < queue_count }
-        ensures { (k : ℕ) (other : CmdId) → holds self.new k other
+        ensures holds { (k : ℕ) (other : CmdId) → holds self.new k other
             ≡ (not (k == queue && same_id other id) && holds self.old k other) }
+        ensures fewer { holds self.old queue id ≡ true → size self.new + 1 ≡ size self.old }
     {
         self.queues[queue].remove(id);
     }
@@ -129,8 +131,10 @@ impl Queues {
     /// The first attempt, by client, command and number, of those in queues that are not passed over,
     /// and its queue.
     pub fn first(&self, passed: &[bool; QUEUES]) -> Option<(usize, CmdId)>
-        ensures { IsFirst self.now passed.now queue_count result }
+        ensures first { IsFirst self.now passed.now queue_count result }
+        ensures many { length self.now ≡ queue_count }
     {
+        let _queues = &self.queues;
         let mut first = None;
         for queue in 0..QUEUES {
             first = self.looked(passed, queue, first);

@@ -57,7 +57,7 @@ pub(crate) fn put(store: &mut Store, id: CmdId, booking: Booked)
 }
 
 /// What is kept of an attempt.
-fn find(store: &Store, id: CmdId) -> Option<&Kept>
+pub(crate) fn find(store: &Store, id: CmdId) -> Option<&Kept>
     ensures { option_copied result ≡ lookup (same_id id) store.now.entries }
 {
     store.get(&id)

@@ -13,6 +13,7 @@ mod scenes;
 mod seats;
 mod settling;
 mod stage;
+mod turns;
 mod weights;
 mod widths;
 mod worlds;
