@@ -20,8 +20,8 @@ use Rattle.rp_request.specs.declared.outcomes.Outcome.TheVariants.{Pending}
 use Rattle.rp_book.specs.declared.bookings.Booked.{Booked}
 use Rattle.rp_book.specs.declared.bookings.Draw.{Draw}
 use Rattle.rp_book.specs.declared.bookings.Draw.TheVariants.{Undrawn, Drawn, Published}
-use Rattle.rp_book.specs.Books.{Book, Told, booking_of, by_attempt, told_of}
-use Rattle.rp_book.specs.Queueing.{AllQueued, Queued, drawn_queue, holds, is_passed, queue_count, queue_of, size, IsFirst, IsLeast}
+use Rattle.rp_book.specs.Books.{booking_of, by_attempt}
+use Rattle.rp_book.specs.Queueing.{Queued, drawn_queue, holds, is_passed, queue_count, queue_of, size, IsFirst, IsLeast}
 use Rattle.rp_book.proofs.Firsts.{none_behind}
 use Rattle.rp_bufcore.specs.Buffers.{Buffer, after_draw, after_publish, buffer_of, can_draw, fresh, is_drawn, start as empty, with_buffer}
 use Rattle.rp_bufcore.specs.declared.buffers.Slot.TheVariants as slots
@@ -296,12 +296,6 @@ gone_other q after k id gone j other ne = gone j other ∙ ap (λ t. not t && ho
 
 gone_elsewhere : (q after : Queued) (k : ℕ) (id : CmdId) → IsGone q after k id → (j : ℕ) (other : CmdId) → (j == k) ≡ false → holds after j other ≡ holds q j other
 gone_elsewhere q after k id gone j other ne = gone j other ∙ ap (λ t. not (t && same_id other id) && holds q j other) ne
-
-gone_less : (q after : Queued) (k : ℕ) (id : CmdId) → IsGone q after k id → (j : ℕ) (other : CmdId) → holds after j other ≡ true → holds q j other ≡ true
-gone_less q after k id gone j other has = go (j == k && same_id other id) (sym (gone j other) ∙ has) where
-  go : (t : Bool) → (not t && holds q j other) ≡ true → holds q j other ≡ true
-  go true e = absurd cc
-  go false e = e
 
 gone_here : (q after : Queued) (k : ℕ) (id : CmdId) → IsGone q after k id → holds after k id ≡ false
 gone_here q after k id gone = gone k id ∙ ap (λ t. not (t && same_id id id) && holds q k id) (here (k == k) refl) ∙ ap (λ t. not t && holds q k id) (same_itself id) where
@@ -672,13 +666,6 @@ left_whole p q after k id gone apart all = still_go p p q after k id gone refl (
 pub over_by : (pends : Bool) (w : World) (id : CmdId) → not pends ≡ true → (pends ≡ false → outcome_of w id ≡ Some Pending → ⊥) → outcome_of w id ≡ Some Pending → ⊥
 over_by true w id e f told = absurd cc
 over_by false w id e f told = f refl told
-
--- the queues of a book are those of its player
-pub queues_go : (p : Player) (told : Told) (q : Queued) → ((id : CmdId) → told_of id told ≡ outcome_of p.world.nodes id) → AllQueued p.book told q → AllGo p q
-queues_go p told q known all id b queue has at may = all id b queue has at (λ u. known id ∙ may u)
-
-pub go_queues : (p : Player) (told : Told) (q : Queued) → ((id : CmdId) → told_of id told ≡ outcome_of p.world.nodes id) → AllGo p q → AllQueued p.book told q
-go_queues p told q known all id b queue has at may = all id b queue has at (λ u. sym (known id) ∙ may u)
 
 -- an attempt is published at a place that it drew before
 pub went_through : (r : Result Went PlayFault) (id : CmdId) (b : Booked) (p mid q : Player) → IfOk r (λ w. w ≡ wents.Put) → OnOk r (WentAs wents.Put id b mid q) → mid.book ≡ p.book → mid.world.nodes ≡ p.world.nodes

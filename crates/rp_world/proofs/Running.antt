@@ -1,6 +1,6 @@
 -- Single events: what is lawful comes, and what is not is skipped.
-use Rattle.std.proofs.Common.{◌≡◌, ℕ, zero, suc, ◌+◌, ◌-◌, ◌<◌, ◌≤◌, Bool, true, false, cond, Option, None, Some, List, [], ◌∷◌, ◌++◌, take, length, map, set, refl, sym, ap, subst, ◌∙◌, arith}
-use Rattle.std.specs.Prelude.{is_some, not, nat_le, nat_lt, ◌&&◌, ◌==◌, IsTrue, get_or}
+use Rattle.std.proofs.Common.{◌≡◌, ℕ, zero, suc, ◌+◌, ◌-◌, ◌<◌, ◌≤◌, Bool, true, false, cond, Option, None, Some, Result, Ok, Err, List, [], ◌∷◌, ◌++◌, take, length, map, set, refl, sym, ap, subst, ◌∙◌, arith}
+use Rattle.std.specs.Prelude.{is_some, not, nat_le, nat_lt, ◌&&◌, ◌==◌, IsTrue, get_or, OnOk}
 use Rattle.std.specs.Option.{option_map, option_map_or}
 use Rattle.std.proofs.lemmas.List.{length-map, take_more}
 use Rattle.rp_base.specs.declared.ids.CmdId.{CmdId}
@@ -23,7 +23,11 @@ use Rattle.rp_lawful.proofs.Coming.{comes_as}
 use Rattle.rp_told.proofs.Asks.{asked_known}
 use Rattle.rp_told.proofs.Turning.{as_many, reached_by}
 use Rattle.rp_world.specs.Comes.{IsNoAdmission, buffered_of}
-use Rattle.rp_world.specs.Runs.{FitsEvent, IsAtNode, has_room, is_allowed_in, is_lawful_in, was_refused_for}
+use Rattle.rp_book.specs.declared.bookings.Booked.{Booked}
+use Rattle.rp_lines.specs.Commands.{booking}
+use Rattle.rp_lines.specs.Players.{Player, with_booking}
+use Rattle.rp_world.specs.Plays.{admission, happened}
+use Rattle.rp_world.specs.Runs.{FitsEvent, IsAtNode, has_room, is_allowed_in, is_lawful_in, ran, ran_all, was_refused_for}
 use Rattle.rp_world.specs.Weighing.{HasPlaces}
 
 -- what is seen of the node
@@ -132,6 +136,80 @@ unlawful_still b (events.Round node) at out = at_still b node Round out
 unlawful_still b (events.Draw node range) at out = absurd at
 unlawful_still b (events.Publish node range place item) at out = absurd at
 
+pub unlawful_ran : (p : Player) (e : WorldEvent) → IsAtNode e → is_lawful_in p.world e ≡ false → ran e p ≡ p
+unlawful_ran p (events.Admit node range id request) at out =
+    let e : WorldEvent = events.Admit node range id request in
+    ap (λ v. happened e (cond v (with_booking id (booking request node range) p) p)) out ∙ ap (λ w. record p { world = w }) (unlawful_still p.world e at out)
+unlawful_ran p (events.Ask node range) at out = ap (λ w. record p { world = w }) (unlawful_still p.world (events.Ask node range) at out)
+unlawful_ran p (events.Transfer node range to) at out = ap (λ w. record p { world = w }) (unlawful_still p.world (events.Transfer node range to) at out)
+unlawful_ran p (events.Collect node range) at out = ap (λ w. record p { world = w }) (unlawful_still p.world (events.Collect node range) at out)
+unlawful_ran p (events.Flush node range) at out = ap (λ w. record p { world = w }) (unlawful_still p.world (events.Flush node range) at out)
+unlawful_ran p (events.Tick node) at out = ap (λ w. record p { world = w }) (unlawful_still p.world (events.Tick node) at out)
+unlawful_ran p (events.Deliver node from number) at out = ap (λ w. record p { world = w }) (unlawful_still p.world (events.Deliver node from number) at out)
+unlawful_ran p (events.Apply node range) at out = ap (λ w. record p { world = w }) (unlawful_still p.world (events.Apply node range) at out)
+unlawful_ran p (events.Cut node range) at out = ap (λ w. record p { world = w }) (unlawful_still p.world (events.Cut node range) at out)
+unlawful_ran p (events.Remove node range) at out = ap (λ w. record p { world = w }) (unlawful_still p.world (events.Remove node range) at out)
+unlawful_ran p (events.Peek node range key) at out = ap (λ w. record p { world = w }) (unlawful_still p.world (events.Peek node range key) at out)
+unlawful_ran p (events.Restart node) at out = ap (λ w. record p { world = w }) (unlawful_still p.world (events.Restart node) at out)
+unlawful_ran p (events.Round node) at out = ap (λ w. record p { world = w }) (unlawful_still p.world (events.Round node) at out)
+unlawful_ran p (events.Draw node range) at out = absurd at
+unlawful_ran p (events.Publish node range place item) at out = absurd at
+
+-- what is lawful happens, and an admission stands in the book
+pub admission_ran : (p : Player) (e : WorldEvent) (node range : ℕ) (id : CmdId) (request : Request) (b : Booked) → e ≡ events.Admit node range id request → is_lawful_in p.world e ≡ true → b ≡ booking request node range
+    → happened (admission id b) (with_booking id b p) ≡ ran e p
+admission_ran p e node range id request b is lawful by =
+    ap (λ c. happened (admission id c) (with_booking id c p)) by
+    ∙ sym (ap (λ v. happened (events.Admit node range id request) (cond v (with_booking id (booking request node range) p) p)) (ap (is_lawful_in p.world) (sym is) ∙ lawful))
+    ∙ ap (λ x. ran x p) (sym is)
+
+pub other_ran : (p : Player) (e : WorldEvent) → IsNoAdmission e → happened e p ≡ ran e p
+other_ran p (events.Admit node range id request) none = absurd none
+other_ran p (events.Ask node range) none = refl
+other_ran p (events.Transfer node range to) none = refl
+other_ran p (events.Collect node range) none = refl
+other_ran p (events.Flush node range) none = refl
+other_ran p (events.Tick node) none = refl
+other_ran p (events.Deliver node from number) none = refl
+other_ran p (events.Apply node range) none = refl
+other_ran p (events.Cut node range) none = refl
+other_ran p (events.Remove node range) none = refl
+other_ran p (events.Peek node range key) none = refl
+other_ran p (events.Restart node) none = refl
+other_ran p (events.Round node) none = refl
+other_ran p (events.Draw node range) none = refl
+other_ran p (events.Publish node range place item) none = refl
+
+-- what is left at success, by another name
+pub ok_is : {A E : Type 0} (r : Result A E) (q x y : Player) → OnOk r (q ≡ x) → x ≡ y → OnOk r (q ≡ y)
+ok_is (Ok a) q x y is same = is ∙ same
+ok_is (Err e) q x y is same = tt
+
+-- of the nodes and the buffers they leave what the events make of them
+ran_world : (e : WorldEvent) (p : Player) → (ran e p).world ≡ buffered_step p.world e
+ran_world (events.Admit node range id request) p = go (is_lawful_in p.world (events.Admit node range id request)) where
+  go : (v : Bool) → (happened (events.Admit node range id request) (cond v (with_booking id (booking request node range) p) p)).world ≡ buffered_step p.world (events.Admit node range id request)
+  go true = refl
+  go false = refl
+ran_world (events.Ask node range) p = refl
+ran_world (events.Transfer node range to) p = refl
+ran_world (events.Collect node range) p = refl
+ran_world (events.Flush node range) p = refl
+ran_world (events.Tick node) p = refl
+ran_world (events.Deliver node from number) p = refl
+ran_world (events.Apply node range) p = refl
+ran_world (events.Cut node range) p = refl
+ran_world (events.Remove node range) p = refl
+ran_world (events.Peek node range key) p = refl
+ran_world (events.Restart node) p = refl
+ran_world (events.Round node) p = refl
+ran_world (events.Draw node range) p = refl
+ran_world (events.Publish node range place item) p = refl
+
+pub ran_all_world : (es : List WorldEvent) (p : Player) → (ran_all es p).world ≡ buffered_run p.world es
+ran_all_world [] p = refl
+ran_all_world (e ∷ es) p = ran_all_world es (ran e p) ∙ ap (λ b. buffered_run b es) (ran_world e p)
+
 -- buffers of a node that is not there stay
 set_past : {A : Type 0} (xs : List A) (i : ℕ) (x : A) → length xs ≤ i → set xs i x ≡ xs
 set_past [] i x h = refl
@@ -184,16 +262,29 @@ step_reached b (events.Round node) fits reached = scene_reached b.nodes (scene_a
 step_reached b (events.Draw node range) fits reached = reached
 step_reached b (events.Publish node range place item) fits reached = reached
 
--- one event more
-run_further : (b : Buffered) (es : List WorldEvent) (e : WorldEvent) → buffered_run b (es ++ e ∷ []) ≡ buffered_step (buffered_run b es) e
-run_further b [] e = refl
-run_further b (x ∷ es) e = run_further (buffered_step b x) es e
+take_whole : {A : Type 0} (xs : List A) (i : ℕ) → length xs ≤ i → take i xs ≡ xs
+take_whole [] zero h = refl
+take_whole [] (suc i) h = refl
+take_whole (x ∷ xs) zero h = absurd (omega (arith, h))
+take_whole (x ∷ xs) (suc i) h = ap (λ l. x ∷ l) (take_whole xs i (omega (arith, h)))
 
-pub run_on : (b before : Buffered) (es : List WorldEvent) (i : ℕ) (e : WorldEvent) → i < length es → e ≡ get_or es i e → before ≡ buffered_run b (take i es)
-    → buffered_step before e ≡ buffered_run b (take (i + 1) es)
-run_on b before es i e within is so_far =
-    ap (λ a. buffered_step a e) so_far ∙ sym (run_further b (take i es) e)
-    ∙ ap (buffered_run b) (ap (λ x. take i es ++ x ∷ []) is ∙ sym (take_more es i e within))
+pub all_ran_world : (p q : Player) (es : List WorldEvent) (i : ℕ) → length es ≤ i → q ≡ ran_all (take i es) p → q.world ≡ buffered_run p.world es
+all_ran_world p q es i past is =
+    ap (λ (m : Player). m.world) (is ∙ ap (λ l. ran_all l p) (take_whole es i past)) ∙ ran_all_world es p
+
+pub ran_reached : (p : Player) (e : WorldEvent) → FitsEvent e → IsReached (length p.world.nodes) p.world.nodes → IsReached (length (ran e p).world.nodes) (ran e p).world.nodes
+ran_reached p e fits reached = subst (λ (b : Buffered). IsReached (length b.nodes) b.nodes) (sym (ran_world e p)) (step_reached p.world e fits reached)
+
+-- one event more
+run_further : (p : Player) (es : List WorldEvent) (e : WorldEvent) → ran_all (es ++ e ∷ []) p ≡ ran e (ran_all es p)
+run_further p [] e = refl
+run_further p (x ∷ es) e = run_further (ran x p) es e
+
+pub run_on : (p before : Player) (es : List WorldEvent) (i : ℕ) (e : WorldEvent) → i < length es → e ≡ get_or es i e → before ≡ ran_all (take i es) p
+    → ran e before ≡ ran_all (take (i + 1) es) p
+run_on p before es i e within is so_far =
+    ap (ran e) so_far ∙ sym (run_further p (take i es) e)
+    ∙ ap (λ l. ran_all l p) (ap (λ x. take i es ++ x ∷ []) is ∙ sym (take_more es i e within))
 
 -- an event that is no admission
 pub no_admission : (e : WorldEvent) → ((node range : ℕ) (id : CmdId) (request : Request) → e ≡ events.Admit node range id request → ⊥) → IsNoAdmission e

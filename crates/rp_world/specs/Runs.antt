@@ -1,5 +1,5 @@
 -- Which events are lawful, as a world that runs them looks at it.
-use Rattle.std.specs.Prelude.{◌≡◌, ℕ, Bool, false, not, ◌&&◌}
+use Rattle.std.specs.Prelude.{◌≡◌, ℕ, Bool, false, not, ◌&&◌, if◌then◌else◌, List, [], ◌∷◌}
 use Rattle.std.specs.Option.{option_map_or}
 use Rattle.rp_base.specs.declared.ids.CmdId.{CmdId}
 use Rattle.rp_request.specs.Fits.{FitsId, FitsRequest}
@@ -11,7 +11,10 @@ use Rattle.rp_events.specs.Nodes.{is_full}
 use Rattle.rp_events.specs.Worlds.{World, node_of, asked_request}
 use Rattle.rp_events.specs.Lawful.{is_allowed, is_lawful, was_refused}
 use Rattle.rp_events.specs.Buffered.{Buffered}
+use Rattle.rp_lines.specs.Commands.{booking}
+use Rattle.rp_lines.specs.Players.{Player, with_booking}
 use Rattle.rp_lawful.specs.Comings.{happening_of, node_in, scene_at}
+use Rattle.rp_world.specs.Plays.{happened}
 
 -- the world has this node, and its journal is not full
 abbrev pub has_room : World → (node : ℕ) → Bool
@@ -36,6 +39,21 @@ abbrev pub IsAtNode : WorldEvent → Type 0
 IsAtNode (events.Draw node range) = ⊥
 IsAtNode (events.Publish node range place item) = ⊥
 IsAtNode _ = Unit {0}
+
+-- an event leaves what happens in the nodes and the buffers; an attempt whose admission is lawful stands in
+-- the book, and all else stays
+abbrev pub ran : WorldEvent → Player → Player
+ran (events.Admit node range id request) p =
+    happened (events.Admit node range id request)
+    (if is_lawful_in p.world (events.Admit node range id request)
+    then with_booking id (booking request node range) p
+    else p)
+ran e p = happened e p
+
+-- one after another
+abbrev pub ran_all : List WorldEvent → Player → Player
+ran_all [] p = p
+ran_all (e ∷ es) p = ran_all es (ran e p)
 
 -- the numbers of an event have the widths of their types
 abbrev pub FitsEvent : WorldEvent → Type 0

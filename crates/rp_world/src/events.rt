@@ -118,22 +118,6 @@ impl World {
         Ok(answer)
     }
 
-    /// An event of a node whose answer tells nothing.
-    pub(crate) fn pass(&mut self, event: &WorldEvent) -> Result<(), PlayFault>
-        requires going { Going self.old }
-        requires comes { Comes self.old.world event.now }
-        requires no_admission { IsNoAdmission event.now }
-        ensures does { Does result self.new (did event.now self.old) }
-        ensures going { IsPlain (length self.old.world.nodes) event.now
-            → OnOk result (Going self.new) }
-        ensures nodes { OnOk result (AsMany self.old self.new) }
-    {
-        match self.event(event) {
-            Ok(_) => Ok(()),
-            Err(fault) => Err(fault),
-        }
-    }
-
     /// An attempt that was not asked before asks to be admitted, and stands in the book. At want of
     /// memory nothing happens.
     pub(crate) fn admit(&mut self, id: CmdId, booked: &Booked) -> Result<EventAnswer, NoMemory>

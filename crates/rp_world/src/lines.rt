@@ -209,11 +209,15 @@ impl World {
             (did (events.Deliver to sender number) (with_handled sender number self.old)) }
     {
         self.handle(sender, number)?;
-        self.pass(&WorldEvent::Deliver {
+        let event = WorldEvent::Deliver {
             node: to,
             from: sender,
             number,
-        })
+        };
+        match self.event(&event) {
+            Ok(_) => Ok(()),
+            Err(fault) => Err(fault),
+        }
     }
 
     /// A message is handled from now on.

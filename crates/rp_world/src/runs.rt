@@ -1,14 +1,15 @@
 //! Single events, where they are lawful.
 ghost use Rattle.std.specs.Prelude.{◌≡◌, ◌≤◌, ℕ, true, take, length, OnOk, OnErr};
-ghost use Rattle.rp_events.specs.Buffered.{buffered_run, buffered_step};
+ghost use Rattle.rp_events.specs.Buffered.{buffered_run};
+ghost use Rattle.rp_lines.specs.Players.{with_booking};
 ghost use Rattle.rp_events.specs.Lawful.{IsReached, is_sent_to, may_begin, was_refused};
 ghost use Rattle.rp_events.specs.Worlds.{was_asked};
 ghost use Rattle.rp_events.specs.declared.world_events.WorldEvent.TheVariants as events;
 ghost use Rattle.rp_request.specs.Requests.{same_request};
 ghost use Rattle.rp_lawful.specs.Comings.{Comes};
 ghost use Rattle.rp_world.specs.Comes.{IsNoAdmission};
-ghost use Rattle.rp_world.specs.Plays.{admission};
-ghost use Rattle.rp_world.specs.Runs.{IsAtNode, has_room, is_allowed_in, is_lawful_in, was_refused_for};
+ghost use Rattle.rp_world.specs.Plays.{admission, happened};
+ghost use Rattle.rp_world.specs.Runs.{IsAtNode, has_room, is_allowed_in, is_lawful_in, ran, ran_all, was_refused_for};
 
 use crate::commands::booking;
 use crate::scenes::node_of;
@@ -137,9 +138,9 @@ impl World {
     fn run_admission(&mut self, id: CmdId, booked: &Booked) -> Result<(), NoMemory>
         requires reached { IsReached (length self.old.world.nodes) self.old.world.nodes }
         requires comes { Comes self.old.world (admission id booked.now) }
-        ensures ok { OnOk result (self.new.world
-            ≡ buffered_step self.old.world (admission id booked.now)) }
-        ensures err { OnErr result (self.new.world ≡ self.old.world) }
+        ensures ok { OnOk result (self.new
+            ≡ happened (admission id booked.now) (with_booking id booked.now self.old)) }
+        ensures err { OnErr result (self.new ≡ self.old) }
     {
         match self.admit(id, booked) {
             Ok(_answer) => Ok(()),
@@ -152,8 +153,8 @@ impl World {
         requires reached { IsReached (length self.old.world.nodes) self.old.world.nodes }
         requires comes { Comes self.old.world event.now }
         requires no_admission { IsNoAdmission event.now }
-        ensures ok { OnOk result (self.new.world ≡ buffered_step self.old.world event.now) }
-        ensures err { OnErr result (self.new.world ≡ self.old.world) }
+        ensures ok { OnOk result (self.new ≡ happened event.now self.old) }
+        ensures err { OnErr result (self.new ≡ self.old) }
     {
         match self.happen(event) {
             Ok(_answer) => Ok(()),
@@ -165,8 +166,8 @@ impl World {
     fn run_lawful(&mut self, event: &WorldEvent) -> Result<(), NoMemory>
         requires reached { IsReached (length self.old.world.nodes) self.old.world.nodes }
         requires lawful { is_lawful_in self.old.world event.now ≡ true }
-        ensures ok { OnOk result (self.new.world ≡ buffered_step self.old.world event.now) }
-        ensures err { OnErr result (self.new.world ≡ self.old.world) }
+        ensures ok { OnOk result (self.new ≡ ran event.now self.old) }
+        ensures err { OnErr result (self.new ≡ self.old) }
     {
         event_fits(event);
         match event {
@@ -181,12 +182,12 @@ impl World {
     }
 
     /// An event of a node happens where it is lawful. At want of memory nothing happens.
-    #[tactic(auto, using(crate::proofs::Running::unlawful_still))]
+    #[tactic(auto, using(crate::proofs::Running::unlawful_ran))]
     fn run_at_node(&mut self, event: &WorldEvent) -> Result<(), NoMemory>
         requires reached { IsReached (length self.old.world.nodes) self.old.world.nodes }
         requires at_node { IsAtNode event.now }
-        ensures ok { OnOk result (self.new.world ≡ buffered_step self.old.world event.now) }
-        ensures err { OnErr result (self.new.world ≡ self.old.world) }
+        ensures ok { OnOk result (self.new ≡ ran event.now self.old) }
+        ensures err { OnErr result (self.new ≡ self.old) }
     {
         if self.is_lawful(event) {
             return self.run_lawful(event);
@@ -196,7 +197,7 @@ impl World {
 
     /// A place is drawn in the buffer of a node and a range, where they are there.
     fn run_draw(&mut self, node: NodeId, range: RangeId)
-        ensures { self.new.world ≡ buffered_step self.old.world (events.Draw node range) }
+        ensures { self.new ≡ happened (events.Draw node range) self.old }
     {
         if usize::from(node.get()) <= self.stage.nodes().len() {
             let _place = self.stage.draw(node, range);
@@ -205,8 +206,7 @@ impl World {
 
     /// An item is published in the buffer of a node and a range, where they are there.
     fn run_publish(&mut self, node: NodeId, range: RangeId, place: u8, item: Item)
-        ensures { self.new.world
-            ≡ buffered_step self.old.world (events.Publish node range place item) }
+        ensures { self.new ≡ happened (events.Publish node range place item) self.old }
     {
         if usize::from(node.get()) <= self.stage.nodes().len() {
             let _published = self.stage.publish(node, range, place, item);
@@ -216,8 +216,8 @@ impl World {
     /// An event comes; one that is not lawful is skipped. At want of memory nothing happens.
     fn run_one(&mut self, event: &WorldEvent) -> Result<(), NoMemory>
         requires { IsReached (length self.old.world.nodes) self.old.world.nodes }
-        ensures ok { OnOk result (self.new.world ≡ buffered_step self.old.world event.now) }
-        ensures err { OnErr result (self.new.world ≡ self.old.world) }
+        ensures ok { OnOk result (self.new ≡ ran event.now self.old) }
+        ensures err { OnErr result (self.new ≡ self.old) }
     {
         match *event {
             WorldEvent::Draw { node, range } => {
@@ -237,13 +237,14 @@ impl World {
         }
     }
 
-    /// Plays single events, one after another; one that is not lawful is skipped. At want of memory
-    /// those before it stand.
+    /// Plays single events, one after another; one that is not lawful is skipped, and none is counted. At
+    /// want of memory those before it stand.
     pub fn run(&mut self, events: &[WorldEvent]) -> Result<(), NoMemory>
         requires { IsReached (length self.old.world.nodes) self.old.world.nodes }
-        ensures ok { OnOk result (self.new.world ≡ buffered_run self.old.world events.now) }
+        ensures ok { OnOk result (self.new ≡ ran_all events.now self.old) }
+        ensures world { OnOk result (self.new.world ≡ buffered_run self.old.world events.now) }
         ensures err { OnErr result ((k : ℕ)
-            × (self.new.world ≡ buffered_run self.old.world (take k events.now))) }
+            × (self.new ≡ ran_all (take k events.now) self.old)) }
         ensures reached { IsReached (length self.new.world.nodes) self.new.world.nodes }
     {
         for event in events {
