@@ -1,0 +1,20 @@
+use Rattle.std.proofs.Common.{Some, sym, ap, ◌∙◌}
+use Rattle.std.proofs.lemmas.Result.{err_from_is_err_and}
+use Rattle.rp_reread.specs.Forms.{answer_of}
+use Rattle.rp_reread.proofs.Each.{each_begins, each_puts, each_fails, each_ends}
+use Rattle.rp_reread.proofs.forms.each_answer.Goals as goal
+
+pub loop-value-preserved : goal.loop-value-preserved
+loop-value-preserved c =
+    each_puts answer_of c.args.values.now c.loop-value.value-index c.value-item.result c.loop-value.found.items c.put_answer.new.found.items _ _
+    c.loop-value-test.true c.value-item.is c.in_ok-put_answer.ensures c.loop-value.invariant
+
+pub returns-in_err-put_answer : goal.returns-in_err-put_answer
+returns-in_err-put_answer c =
+    let p = err_from_is_err_and c.from_residual.result c.from_residual.ensures.1 in
+    rw (p.1, p.2) (each_fails answer_of c.args.values.now c.loop-value.value-index c.value-item.result c.loop-value.found.items c.put_answer.new.found.items _ _
+    c.loop-value-test.true c.value-item.is c.in_err-put_answer.ensures c.loop-value.invariant)
+
+pub returns : goal.returns
+returns c = each_ends answer_of c.args.values.now c.loop-value.value-index c.loop-value.found.items _ c.loop-value-test.false c.loop-value.invariant
+    ∙ ap Some (sym c.from_vec.ensures)
