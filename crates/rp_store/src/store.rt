@@ -57,10 +57,7 @@ pub enum SaveFault<D: Disk> {
 
 /// Opens a disk, and gives the payload of its last open record. It syncs first, so that what it reads
 /// is what a crash leaves. What stands behind the closed gate is cut off.
-pub fn open<D: Disk>(
-    alloc: Global,
-    mut disk: D,
-) -> Result<(Store<D>, Option<Bytes>), OpenFault<D>>
+pub fn open<D: Disk>(alloc: Global, mut disk: D) -> Result<(Store<D>, Option<Bytes>), OpenFault<D>>
     // The payload is the last that the file gives, as it read when the call began.
     ensures given { IfOk result (λ r. IsTrue (D.file r.0.disk).tells → (payloads : _)
         × Gives (D.file disk).seen (Ok payloads) × (r.1 ≡ last_of payloads)
@@ -79,11 +76,13 @@ pub fn open<D: Disk>(
     ensures cause { OpenBlames D.faults disk result }
 {
     match settle(alloc, &mut disk) {
-        Ok(Settled {
-            end,
-            place,
-            payload,
-        }) => Ok((Store { disk, end, place }, payload)),
+        Ok(
+            Settled {
+                end,
+                place,
+                payload,
+            },
+        ) => Ok((Store { disk, end, place }, payload)),
         Err(Trouble::Damaged { place }) => Err(OpenFault::Damaged { disk, place }),
         Err(Trouble::Disk) => Err(OpenFault::Disk { disk }),
         Err(Trouble::NoMemory) => Err(OpenFault::NoMemory { disk }),
@@ -107,7 +106,7 @@ impl<D: Disk> Store<D> {
         // Full comes exactly where the file would pass the most bytes, and changes nothing.
         ensures full { MatchFull result
             (λ store needed. (store ≡ self) × (268435456 < self.end + 10 + length payload.now)
-              × (needed ≡ min (self.end + 10 + length payload.now) (2 ^ 64 - 1)))
+            × (needed ≡ min (self.end + 10 + length payload.now) (2 ^ 64 - 1)))
             (self.end + 10 + length payload.now ≤ 268435456) }
         ensures cause { SaveBlames D.faults self.disk result }
     {
