@@ -1,13 +1,13 @@
 -- What a save leaves of a file.
-use Rattle.std.proofs.Common.{◌≡◌, ◌≢◌, ◌⊎◌, inl, inr, ⊎_elim, ℕ, ◌+◌, ◌-◌, ◌^◌, ◌≤◌, ◌<◌, min, max, List, [], ◌∷◌, ◌++◌, length, get_or, take, drop, Option, Some, None, option_map, Ok, Err, IsTrue, refl, sym, ◌∙◌, ap, subst, arith, append_assoc, length-append, length-take, length-drop, take-append-drop}
-use Rattle.std.specs.Int.{w64, from_be_bytes, to_be_bytes}
+use Rattle.std.proofs.Common.{◌≡◌, ◌≢◌, inl, inr, ⊎_elim, ℕ, ◌+◌, ◌-◌, ◌^◌, ◌≤◌, ◌<◌, List, [], ◌∷◌, ◌++◌, length, get_or, take, drop, Option, Some, option_map, Ok, IsTrue, refl, sym, ◌∙◌, ap, subst, arith, append_assoc, length-append, length-take, take-append-drop}
+use Rattle.std.specs.Int.{w64, to_be_bytes}
 use Rattle.std.proofs.lemmas.Nat.{from_be_bytes-to_be_bytes_8}
 use Rattle.std.proofs.lemmas.Bool.{cases_eq}
 use Rattle.std.proofs.lemmas.List.{take_at, drop_at, take_all, drop_all, drop_more, take-take, append-nil}
-use Rattle.rp_disk.specs.Files.{File, IsTold, LeavesOnly, Changes, Torn, Only, put}
-use Rattle.rp_store.specs.Records.{IsRecord, AreRecords, HasRecords, Gives, last_of, size_of, place_of}
-use Rattle.rp_store.specs.Stores.{Standing, IsAtRest, IsKept, Keeps, KeepsSome, IsBeforeOrAfter, SavesOrNot, IsSound, staged, opened}
-use Rattle.rp_store.specs.Walks.{Runs, Through, Begins, IsButAt, IsAppending}
+use Rattle.rp_disk.specs.Files.{File, IsTold, Changes, Torn, Only, put}
+use Rattle.rp_store.specs.Records.{IsRecord, AreRecords, Gives, last_of, size_of, place_of}
+use Rattle.rp_store.specs.Stores.{Standing, IsAtRest, IsKept, Keeps, KeepsSome, IsBeforeOrAfter, SavesOrNot, LeavesLast, IsSound, staged, opened}
+use Rattle.rp_store.specs.Walks.{Through, Begins, IsButAt, IsAppending}
 use Rattle.rp_store.proofs.Bytes.{begins_split}
 use Rattle.rp_store.proofs.Calls.{leaves_then, through_call}
 use Rattle.rp_store.proofs.Files.{length-records, records_push, last_of-push, size_of-push}
@@ -35,17 +35,16 @@ pub but_goes : (place : ℕ) (file d x : List ℕ) → place < length file → I
 but_goes place file d x within (byte, is) torn =
     let front : length (take place file) ≡ place = omega (arith, length-take place file, within) in
     let long : length d ≡ place + length (byte ∷ drop (place + 1) file) =
-        ap length is ∙ length-append (take place file) (byte ∷ drop (place + 1) file) ∙ ap (λ (k : ℕ). k + length (byte ∷ drop (place + 1) file)) front in
+    ap length is ∙ length-append (take place file) (byte ∷ drop (place + 1) file) ∙ ap (λ (k : ℕ). k + length (byte ∷ drop (place + 1) file)) front in
     let before : take place x ≡ take place file =
-        torn.before ∙ ap (λ (l : List ℕ). take place l) is ∙ take_at (take place file) (byte ∷ drop (place + 1) file) place front in
+    torn.before ∙ ap (λ (l : List ℕ). take place l) is ∙ take_at (take place file) (byte ∷ drop (place + 1) file) place front in
     let split : d ≡ (take place file ++ (byte ∷ [])) ++ drop (place + 1) file = is ∙ sym (append_assoc (take place file) (byte ∷ []) (drop (place + 1) file)) in
     let head : length (take place file ++ (byte ∷ [])) ≡ place + 1 = omega (arith, length-append (take place file) (byte ∷ []), front) in
     let behind : drop (place + 1) x ≡ drop (place + 1) file =
-        torn.behind ∙ ap (λ (l : List ℕ). drop (place + 1) l) split ∙ drop_at (take place file ++ (byte ∷ [])) (drop (place + 1) file) (place + 1) head in
-    (
+    torn.behind ∙ ap (λ (l : List ℕ). drop (place + 1) l) split ∙ drop_at (take place file ++ (byte ∷ [])) (drop (place + 1) file) (place + 1) head in (
       get_or x place 0,
       sym (take-append-drop place x) ∙ ap (λ (l : List ℕ). l ++ drop place x) before
-      ∙ ap (λ (l : List ℕ). take place file ++ l) (drop_more x place 0 (omega (arith, torn.no_shorter, long)) ∙ ap (λ (l : List ℕ). get_or x place 0 ∷ l) behind),
+          ∙ ap (λ (l : List ℕ). take place file ++ l) (drop_more x place 0 (omega (arith, torn.no_shorter, long)) ∙ ap (λ (l : List ℕ). get_or x place 0 ∷ l) behind),
     )
 
 pub opened_put : (place : ℕ) (file : List ℕ) → put place (1 ∷ []) file ≡ opened place file
@@ -62,11 +61,11 @@ through_join P Q R a b c first second left right told =
     record {
       told = earlier.told;
       leaves = leaves_then R Q a b c
-        (record {
-          later = earlier.leaves.later;
-          each = λ x was. here x (earlier.leaves.each x was);
-          before = λ t x le was. ⊎_elim (λ had. inl had) (λ is. inr (here x is)) (earlier.leaves.before t x le was);
-        }) later.leaves there;
+          (record {
+            later = earlier.leaves.later;
+            each = λ x was. here x (earlier.leaves.each x was);
+            before = λ t x le was. ⊎_elim (λ had. inl had) (λ is. inr (here x is)) (earlier.leaves.before t x le was);
+          }) later.leaves there;
       now = λ x was. there x (later.now x was);
     }
 
@@ -169,7 +168,7 @@ appending_kept payloads payload file end place fits kept c appending =
     let rest = kept.at_rest in
     let there : end ≡ length rest.front = kept.end_is ∙ end_front payloads file rest in
     appending_gives payloads payload rest.front rest.gate rest.records rest.closed fits c
-      (subst (λ (k : ℕ). IsAppending k (rest.front ++ (rest.gate ∷ [])) payload c) there (subst (λ (l : List ℕ). IsAppending end l payload c) rest.whole appending))
+    (subst (λ (k : ℕ). IsAppending k (rest.front ++ (rest.gate ∷ [])) payload c) there (subst (λ (l : List ℕ). IsAppending end l payload c) rest.whole appending))
 
 pub appended_kept : (payloads : List (List ℕ)) (payload : List ℕ) (file new : File) (end : ℕ) (place : Option ℕ) → length payload < 2 ^ 64 → IsKept payloads file end place
     → new.seen ≡ opened end (staged file.seen payload) → Only new.seen new.may_leave
@@ -178,7 +177,7 @@ appended_kept payloads payload file new end place fits kept is only =
     let rest = kept.at_rest in
     let there : end ≡ length rest.front = kept.end_is ∙ end_front payloads file rest in
     let seen : new.seen ≡ opened (length rest.front) (staged (rest.front ++ (rest.gate ∷ [])) payload) =
-        is ∙ ap (λ (k : ℕ). opened k (staged file.seen payload)) there ∙ ap (λ (l : List ℕ). opened (length rest.front) (staged l payload)) rest.whole in
+    is ∙ ap (λ (k : ℕ). opened k (staged file.seen payload)) there ∙ ap (λ (l : List ℕ). opened (length rest.front) (staged l payload)) rest.whole in
     let sized = size_of-push payloads payload in
     record {
       at_rest = appended_rest payloads payload rest.front rest.gate rest.records rest.closed fits new seen only;
@@ -224,7 +223,7 @@ save_sound file old new payload fits keeps calls told c left =
     let runs = calls told in
     let kept = keeps runs.told in
     ⊎_elim (λ before. (kept.0, before)) (λ after. (kept.0 ++ (payload ∷ []), after))
-      (appending_kept kept.0 payload (file old.disk) old.end old.place fits kept.1 c (runs.now c left))
+    (appending_kept kept.0 payload (file old.disk) old.end old.place fits kept.1 c (runs.now c left))
 
 -- and once it is done
 pub save_kept : {D : Type 0} (file : D → File) (old : Standing D) (new : D) (payload : List ℕ) (n : ℕ) → n ≡ length payload → length payload < 2 ^ 64 → KeepsSome file old
@@ -233,10 +232,17 @@ pub save_kept : {D : Type 0} (file : D → File) (old : Standing D) (new : D) (p
     → (payloads : List (List ℕ)) × Keeps file old payloads × IsKept (payloads ++ (payload ∷ [])) (file new) (old.end + 9 + n) (Some (old.end + 9))
 save_kept file old new payload n is fits keeps calls done told =
     let kept = keeps (calls told).told in
-    let seen = done told in
-    (
+    let seen = done told in (
       kept.0,
       kept.1,
       subst (λ (k : ℕ). IsKept (kept.0 ++ (payload ∷ [])) (file new) (old.end + 9 + k) (Some (old.end + 9))) (sym is)
-        (appended_kept kept.0 payload (file old.disk) (file new) old.end old.place fits kept.1 seen.0 seen.1),
+          (appended_kept kept.0 payload (file old.disk) (file new) old.end old.place fits kept.1 seen.0 seen.1),
     )
+
+-- whatever crash comes, the last payload is there
+pub kept_last : (payloads : List (List ℕ)) (payload : List ℕ) (file : File) → IsAtRest (payloads ++ (payload ∷ [])) file → LeavesLast payload file
+kept_last payloads payload file rest c left = (
+  payloads ++ (payload ∷ []),
+  inr (record { front = rest.front; gate = rest.gate; behind = []; records = rest.records; closed = rest.closed; whole = rest.durable c left ∙ rest.whole }),
+  last_of-push payloads payload,
+)

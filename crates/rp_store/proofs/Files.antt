@@ -1,8 +1,8 @@
 -- What files of records give.
-use Rattle.std.proofs.Common.{◌≡◌, ◌≢◌, ◌⊎◌, inl, inr, ℕ, zero, suc, ◌+◌, ◌-◌, ◌≤◌, ◌<◌, List, [], ◌∷◌, ◌++◌, length, get_or, take, drop, Option, Some, None, option_map, Result, Ok, Err, refl, sym, ◌∙◌, ap, subst, arith, append_assoc, length-append, length-take, length-drop, take-append-drop}
+use Rattle.std.proofs.Common.{◌≡◌, ◌≢◌, ◌⊎◌, inl, inr, ℕ, ◌+◌, ◌≤◌, ◌<◌, List, [], ◌∷◌, ◌++◌, length, get_or, take, drop, Some, Result, Ok, Err, refl, sym, ◌∙◌, ap, arith, append_assoc, length-append}
 use Rattle.std.specs.Int.{w64, from_be_bytes}
-use Rattle.std.proofs.lemmas.List.{take_at, drop_at, append-nil}
-use Rattle.rp_store.specs.Records.{IsRecord, AreRecords, HasRecords, IsCutShort, IsDamagedAt, Gives, last_of, size_of, place_of}
+use Rattle.std.proofs.lemmas.List.{take_at, append-nil}
+use Rattle.rp_store.specs.Records.{IsRecord, AreRecords, HasRecords, IsCutShort, IsDamagedAt, Gives, last_of, size_of}
 use Rattle.rp_store.proofs.Bytes.{split_same}
 
 -- a record is its head and its payload
@@ -68,14 +68,16 @@ short_clash p size rest more eight number some is (inr few) =
     let front : take 8 more ≡ size = ap (λ (l : List ℕ). take 8 l) is ∙ take_at size (p ++ rest) 8 eight in
     let named : from_be_bytes w64 (take 8 more) ≡ length p = ap (λ (l : List ℕ). from_be_bytes w64 l) front ∙ number in
     let long : length more ≡ length size + (length p + length rest) =
-        ap length is ∙ length-append size (p ++ rest) ∙ ap (λ (k : ℕ). length size + k) (length-append p rest) in
+    ap length is ∙ length-append size (p ++ rest) ∙ ap (λ (k : ℕ). length size + k) (length-append p rest) in
     omega (arith, few, named, long, eight, some)
 
 pub stops_short : (bytes : List ℕ) → IsCutShort bytes → Stops bytes
 stops_short [] short = absurd short
-stops_short (gate ∷ more) short =
-    (omega arith, λ p first rest r some is.
-      short_clash p r.size rest more r.eight r.number some (tail_same gate 1 more (r.size ++ (p ++ rest)) (is ∙ record_whole p first rest r)) short.1)
+stops_short (gate ∷ more) short = (
+  omega arith,
+  λ p first rest r some is.
+      short_clash p r.size rest more r.eight r.number some (tail_same gate 1 more (r.size ++ (p ++ rest)) (is ∙ record_whole p first rest r)) short.1,
+)
 
 -- Two walks over one file find the same records.
 walks_same : (ps qs : List (List ℕ)) (f h u v : List ℕ) → AreRecords ps f → AreRecords qs h → Stops u → Stops v → f ++ u ≡ h ++ v → (ps ≡ qs) × (f ≡ h) × (u ≡ v)
@@ -91,8 +93,7 @@ walks_same (p ∷ ps) (q ∷ qs) f h u v (a, x, r, more, whole) (b, y, s, others
     let there : a ++ (x ++ u) ≡ b ++ (y ++ v) =
     sym (append_assoc a x u) ∙ sym (ap (λ (l : List ℕ). l ++ u) whole) ∙ is ∙ ap (λ (l : List ℕ). l ++ v) full ∙ append_assoc b y v in
     let one = record_same p q a b (x ++ u) (y ++ v) r s there in
-    let rest = walks_same ps qs x y u v more others su sv one.2 in
-    (
+    let rest = walks_same ps qs x y u v more others su sv one.2 in (
       ap (λ (l : List ℕ). l ∷ ps) one.0 ∙ ap (λ (l : List (List ℕ)). q ∷ l) rest.0,
       whole ∙ ap (λ (l : List ℕ). l ++ x) one.1 ∙ ap (λ (l : List ℕ). b ++ l) rest.1 ∙ sym full,
       rest.2,
@@ -109,7 +110,7 @@ none_in_one (p ∷ ps) file has few =
 pub has_same : (ps qs : List (List ℕ)) (file : List ℕ) → HasRecords ps file → HasRecords qs file → ps ≡ qs
 has_same ps qs file a b =
     (walks_same ps qs a.front b.front (a.gate ∷ a.behind) (b.gate ∷ b.behind) a.records b.records (stops_closed a.gate a.behind a.closed) (stops_closed b.gate b.behind b.closed)
-      (sym a.whole ∙ b.whole)).0
+    (sym a.whole ∙ b.whole)).0
 
 closed_short : (gate : ℕ) (behind bytes : List ℕ) → gate ≢ 1 → IsCutShort bytes → gate ∷ behind ≡ bytes → ⊥
 closed_short gate behind [] closed short is = absurd short
@@ -118,8 +119,8 @@ closed_short gate behind (g ∷ more) closed short is = closed (head_same gate g
 pub has_undamaged : (ps : List (List ℕ)) (place : ℕ) (file : List ℕ) → HasRecords ps file → IsDamagedAt place file → ⊥
 has_undamaged ps place file a d =
     closed_short a.gate a.behind d.behind a.closed d.short
-      (walks_same ps d.payloads a.front d.front (a.gate ∷ a.behind) d.behind a.records d.records (stops_closed a.gate a.behind a.closed) (stops_short d.behind d.short)
-        (sym a.whole ∙ d.whole)).2
+    (walks_same ps d.payloads a.front d.front (a.gate ∷ a.behind) d.behind a.records d.records (stops_closed a.gate a.behind a.closed) (stops_short d.behind d.short)
+    (sym a.whole ∙ d.whole)).2
 
 place_same : (m n : ℕ) (file : List ℕ) → IsDamagedAt m file → IsDamagedAt n file → m ≡ n
 place_same m n file a b =

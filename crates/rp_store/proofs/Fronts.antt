@@ -1,8 +1,8 @@
 -- Each file gives some answer.
-use Rattle.std.proofs.Common.{◌≡◌, ◌≢◌, ◌⊎◌, inl, inr, ℕ, zero, suc, ◌+◌, ◌-◌, ◌≤◌, ◌<◌, List, [], ◌∷◌, ◌++◌, length, take, drop, Result, Ok, Err, refl, sym, ◌∙◌, ap, arith, append_assoc, length-append, length-take, length-drop, take-append-drop}
+use Rattle.std.proofs.Common.{◌≡◌, ◌≢◌, ◌⊎◌, inl, inr, ℕ, zero, suc, ◌+◌, ◌≤◌, ◌<◌, List, [], ◌∷◌, ◌++◌, length, take, drop, Result, Ok, Err, refl, sym, ◌∙◌, ap, arith, append_assoc, length-append, length-take, length-drop, take-append-drop}
 use Rattle.std.specs.Int.{w64, from_be_bytes}
 use Rattle.std.proofs.lemmas.Bool.{cases_eq, cases_lt}
-use Rattle.rp_store.specs.Records.{IsRecord, AreRecords, HasRecords, IsCutShort, IsDamagedAt, Gives}
+use Rattle.rp_store.specs.Records.{IsRecord, AreRecords, IsCutShort, Gives}
 use Rattle.rp_store.proofs.Files.{length-record}
 
 -- what stands at a gate: a closed one, a record that is cut short, or a whole one with a byte behind it
@@ -19,8 +19,8 @@ front_more gate more is_open eight many =
     let long : length size ≡ 8 = omega (arith, length-take 8 more, eight) in
     let sized : length (take n behind) ≡ n = omega (arith, length-take n behind, length-drop 8 more, many) in
     whole (take n behind) (1 ∷ (size ++ take n behind)) (drop n behind) (record { size = size; eight = long; number = sym sized; whole = refl })
-      (omega (arith, length-drop n behind, length-drop 8 more, many))
-      (ap (λ (k : ℕ). k ∷ more) is_open ∙ ap (λ (l : List ℕ). 1 ∷ l) (sym (take-append-drop 8 more) ∙ ap (λ (l : List ℕ). size ++ l) (sym (take-append-drop n behind)) ∙ sym (append_assoc size (take n behind) (drop n behind))))
+    (omega (arith, length-drop n behind, length-drop 8 more, many))
+    (ap (λ (k : ℕ). k ∷ more) is_open ∙ ap (λ (l : List ℕ). 1 ∷ l) (sym (take-append-drop 8 more) ∙ ap (λ (l : List ℕ). size ++ l) (sym (take-append-drop n behind)) ∙ sym (append_assoc size (take n behind) (drop n behind))))
 
 front_of : (gate : ℕ) (more : List ℕ) → Front (gate ∷ more)
 front_of gate more = elim (cases_eq gate 1) [
@@ -69,14 +69,14 @@ answered file many w = elim w.stop [
   | inl shut ↦ (
     Ok w.payloads,
     inr
-      (record {
-        front = w.front;
-        gate = shut.0;
-        behind = shut.1;
-        records = w.records;
-        closed = shut.2;
-        whole = w.split ∙ ap (λ (l : List ℕ). w.front ++ l) shut.3;
-      }),
+        (record {
+          front = w.front;
+          gate = shut.0;
+          behind = shut.1;
+          records = w.records;
+          closed = shut.2;
+          whole = w.split ∙ ap (λ (l : List ℕ). w.front ++ l) shut.3;
+        }),
   )
   | inr cut ↦ (
     Err (length w.front),

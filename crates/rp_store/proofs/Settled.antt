@@ -1,11 +1,11 @@
 -- What an opening leaves of a file.
-use Rattle.std.proofs.Common.{◌≡◌, ◌≢◌, ◌⊎◌, inl, inr, ⊎_elim, ℕ, ◌+◌, ◌-◌, ◌≤◌, ◌<◌, min, max, List, [], ◌∷◌, ◌++◌, length, take, drop, Option, Some, None, option_map, Result, Ok, Err, IsTrue, IfSome, refl, sym, ◌∙◌, ap, subst, arith, append_assoc, length-append, length-take, length-drop}
-use Rattle.std.proofs.lemmas.List.{take_at, drop_all, take-take}
+use Rattle.std.proofs.Common.{◌≡◌, ◌≢◌, inl, inr, ⊎_elim, ℕ, ◌+◌, ◌-◌, ◌≤◌, List, [], ◌∷◌, ◌++◌, length, take, drop, Option, Some, None, option_map, Ok, Err, IsTrue, IfSome, refl, sym, ◌∙◌, ap, subst, arith, length-append, length-take, length-drop}
+use Rattle.std.proofs.lemmas.List.{drop_all, take-take}
 use Rattle.std.proofs.Math.Seq.{take-append-add}
-use Rattle.rp_disk.specs.Files.{File, IsTold, LeavesOnly, Torn, MayBeCut, Only, put}
-use Rattle.rp_store.specs.Records.{AreRecords, HasRecords, Gives, last_of, size_of, place_of}
-use Rattle.rp_store.specs.Stores.{IsAtRest, IsKept, GivesAlike, GivesAsLeft, OpensAlike, IsWhole, IsSound, StaysSound, IsTrimmedTo}
-use Rattle.rp_store.specs.Walks.{Stays, IsCalm, Runs, Through, BeginsClosed, HasWalked, IsLookedUp, IsTrimmed, payload_in}
+use Rattle.rp_disk.specs.Files.{File, IsTold, Torn, MayBeCut, Only, put}
+use Rattle.rp_store.specs.Records.{Gives, last_of, size_of, place_of}
+use Rattle.rp_store.specs.Stores.{IsKept, GivesAlike, GivesAsLeft, OpensAlike, IsWhole, IsSound, StaysSound, IsTrimmedTo}
+use Rattle.rp_store.specs.Walks.{IsCalm, Through, BeginsClosed, HasWalked, IsLookedUp, IsTrimmed, payload_in}
 use Rattle.rp_store.proofs.Calls.{leaves_then}
 use Rattle.rp_store.proofs.Files.{length-records, gives_one}
 use Rattle.rp_store.proofs.Walked.{walked_closed}
@@ -37,22 +37,21 @@ pub settled_kept : (file : List ℕ) (new : File) (end : ℕ) (last : Option ℕ
     → IsTrimmedTo end file new.seen → Only new.seen new.may_leave
     → (payloads : List (List ℕ)) × Gives file (Ok payloads) × (payload ≡ last_of payloads) × IsKept payloads new end (option_map (λ size. end - size) last)
 settled_kept file new end last payload (inl (few, at_front, no_last, no_payload)) room (inl (also, blank)) only = (
-    [],
-    inl (few, refl),
-    no_payload,
-    record {
-      at_rest = record { front = []; gate = 0; records = refl; closed = λ is. omega (arith, is); whole = blank; durable = only };
-      end_is = at_front;
-      place_is = ap (λ (o : Option ℕ). option_map (λ size. end - size) o) no_last;
-    },
-  )
+  [],
+  inl (few, refl),
+  no_payload,
+  record {
+    at_rest = record { front = []; gate = 0; records = refl; closed = λ is. omega (arith, is); whole = blank; durable = only };
+    end_is = at_front;
+    place_is = ap (λ (o : Option ℕ). option_map (λ size. end - size) o) no_last;
+  },
+)
 settled_kept file new end last payload (inl (few, at_front, no_last, no_payload)) room (inr (many, cut)) only = absurd (omega (arith, few, many))
 settled_kept file new end last payload (inr (many, w, closed, found)) room (inl (few, blank)) only = absurd (omega (arith, few, many))
 settled_kept file new end last payload (inr (many, w, closed, found)) room (inr (also, cut)) only =
     let parts = closed_parts (drop end file) closed in
     let sized : end ≡ size_of w.payloads = w.end_is ∙ length-records w.payloads w.front w.records in
-    let within : end ≤ length file = omega (arith, w.end_is, ap length w.whole, length-append w.front (drop end file)) in
-    (
+    let within : end ≤ length file = omega (arith, w.end_is, ap length w.whole, length-append w.front (drop end file)) in (
       w.payloads,
       inr (walked_closed end last file w closed),
       found ∙ w.last_is,
@@ -74,18 +73,20 @@ trimmed_alike file c end last payload (inr (also, w, closed, found)) (inr (many,
     let parts = closed_parts (drop end file) closed in
     let is : answer ≡ Ok w.payloads = gives_one file answer (Ok w.payloads) gives (inr (walked_closed end last file w closed)) in
     subst (λ a. Gives c a) (sym is)
-      (inr (record { front = w.front; gate = parts.0; behind = []; records = w.records; closed = parts.2; whole = cut ∙ cut_parts end last file w closed }))
+    (inr (record { front = w.front; gate = parts.0; behind = []; records = w.records; closed = parts.2; whole = cut ∙ cut_parts end last file w closed }))
 
 -- calls that change nothing
 pub opens_calm : (a b : File) → IsCalm a b → OpensAlike a b
 opens_calm a b calm told =
     let stays = calm told in
-    let alike : (c : List ℕ) → a.may_leave c → GivesAsLeft a c = λ c left. (c, left, λ answer gives. gives) in
-    (stays.told, record {
-      later = stays.leaves.later;
-      each = λ c left. alike c (stays.leaves.each c left);
-      before = λ t c le left. ⊎_elim (λ was. inl was) (λ is. inr (alike c is)) (stays.leaves.before t c le left);
-    })
+    let alike : (c : List ℕ) → a.may_leave c → GivesAsLeft a c = λ c left. (c, left, λ answer gives. gives) in (
+      stays.told,
+      record {
+        later = stays.leaves.later;
+        each = λ c left. alike c (stays.leaves.each c left);
+        before = λ t c le left. ⊎_elim (λ was. inl was) (λ is. inr (alike c is)) (stays.leaves.before t c le left);
+      },
+    )
 
 -- calls that change nothing, and then a trim
 pub opens_trimmed : (a b c : File) (end : ℕ) (last : Option ℕ) (payload : Option (List ℕ)) → (IsTrue a.tells → IsTold a) → IsCalm a b
@@ -93,8 +94,7 @@ pub opens_trimmed : (a b c : File) (end : ℕ) (last : Option ℕ) (payload : Op
 opens_trimmed a b c end last payload is_told calm found trim told =
     let runs = trim told in
     let stays = calm runs.told in
-    let alike : (x : List ℕ) → IsTrimmed end b.seen x → GivesAsLeft a x = λ x trimmed.
-    (
+    let alike : (x : List ℕ) → IsTrimmed end b.seen x → GivesAsLeft a x = λ x trimmed. (
       a.seen,
       (is_told stays.told).as_seen,
       trimmed_alike a.seen x end last payload (found runs.told) (subst (λ (l : List ℕ). IsTrimmed end l x) stays.seen trimmed),
@@ -105,8 +105,7 @@ opens_trimmed a b c end last payload is_told calm found trim told =
 pub sound_after : (a b : File) → (IsTrue b.tells → IsTold b) → OpensAlike a b → StaysSound a b
 sound_after a b is_told opens told sound =
     let leaves = (opens told).1 in
-    let whole : (c : List ℕ) → GivesAsLeft a c → IsWhole c = λ c from. let was = sound from.0 from.1 in (was.0, from.2 (Ok was.0) was.1) in
-    (
+    let whole : (c : List ℕ) → GivesAsLeft a c → IsWhole c = λ c from. let was = sound from.0 from.1 in (was.0, from.2 (Ok was.0) was.1) in (
       record {
         later = leaves.later;
         each = λ c left. whole c (leaves.each c left);
@@ -143,13 +142,12 @@ pub settled_given : (file : List ℕ) (new : File) (end : ℕ) (last : Option �
     → end' ≡ end → place' ≡ option_map (λ size. end - size) last → payload' ≡ payload
     → (payloads : List (List ℕ)) × Gives file (Ok payloads) × (payload' ≡ last_of payloads) × IsKept payloads new end' place'
 settled_given file new end last payload end' place' payload' found room trimmed only end_is place_is payload_is =
-    let all = settled_kept file new end last payload found room trimmed only in
-    (
+    let all = settled_kept file new end last payload found room trimmed only in (
       all.0,
       all.1,
       payload_is ∙ all.2,
       subst (λ (o : Option ℕ). IsKept all.0 new end' o) (sym place_is)
-        (subst (λ (k : ℕ). IsKept all.0 new k (option_map (λ size. end - size) last)) (sym end_is) all.3),
+          (subst (λ (k : ℕ). IsKept all.0 new k (option_map (λ size. end - size) last)) (sym end_is) all.3),
     )
 
 -- the empty file

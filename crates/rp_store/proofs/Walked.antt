@@ -1,11 +1,11 @@
 -- What a walk over the records of a file finds.
-use Rattle.std.proofs.Common.{◌≡◌, ◌≢◌, ◌⊎◌, inl, inr, ℕ, ◌+◌, ◌-◌, ◌≤◌, ◌<◌, min, List, [], ◌∷◌, ◌++◌, length, get_or, take, drop, Option, Some, None, option_map, Result, Ok, Err, refl, sym, ◌∙◌, ap, arith, append_assoc, length-append, length-take, length-drop, take-append-drop}
+use Rattle.std.proofs.Common.{◌≡◌, ℕ, ◌+◌, ◌-◌, ◌≤◌, ◌<◌, min, List, [], ◌∷◌, ◌++◌, length, get_or, take, drop, Option, Some, None, refl, sym, ◌∙◌, ap, arith, append_assoc, length-append, length-take, length-drop, take-append-drop}
 use Rattle.std.specs.Int.{w64, from_be_bytes}
 use Rattle.std.proofs.lemmas.List.{take_at, drop_at, take_all, drop-drop}
-use Rattle.rp_store.specs.Records.{IsRecord, AreRecords, HasRecords, IsCutShort, IsDamagedAt, Gives, last_of, size_of, place_of}
-use Rattle.rp_store.specs.Walks.{BeginsClosed, BeginsWhole, HasWalked, IsLookedUp, payload_in}
+use Rattle.rp_store.specs.Records.{AreRecords, HasRecords, IsCutShort, IsDamagedAt}
+use Rattle.rp_store.specs.Walks.{BeginsClosed, BeginsWhole, HasWalked}
 use Rattle.rp_store.proofs.Bytes.{begins_split}
-use Rattle.rp_store.proofs.Files.{length-record, length-records, records_push, last_of-push, none_in_one}
+use Rattle.rp_store.proofs.Files.{length-record, records_push, last_of-push}
 
 -- an open gate, eight bytes that name a size, and more bytes than that
 pub begins_whole : (gate : ℕ) (eight bytes : List ℕ) (size : ℕ) → gate ≡ 1 → length eight ≡ 8 → size ≡ from_be_bytes w64 eight
@@ -24,7 +24,7 @@ begins_whole gate eight bytes size is_open long named begins more =
       size_is = sized;
       some = omega (arith, length-drop size behind, rest, long, more);
       whole = split ∙ ap (λ (l : List ℕ). (gate ∷ eight) ++ l) (sym (take-append-drop size behind)) ∙ ap (λ (k : ℕ). k ∷ (eight ++ (payload ++ drop size behind))) is_open
-      ∙ ap (λ (l : List ℕ). 1 ∷ l) (sym (append_assoc eight payload (drop size behind)));
+          ∙ ap (λ (l : List ℕ). 1 ∷ l) (sym (append_assoc eight payload (drop size behind)));
     }
 
 -- the first nine bytes of a file that has more
@@ -41,7 +41,7 @@ head_whole front bytes size rest is_open some few eight named within long begins
     let parts = front_parts front some in
     let sized : length (drop 1 front) ≡ 8 = sym (ap length all) ∙ eight in
     begins_whole (get_or front 0 0) (drop 1 front) bytes size is_open sized (named ∙ ap (λ (l : List ℕ). from_be_bytes w64 l) all)
-      (sym (ap (λ (l : List ℕ). take (length l) bytes) parts) ∙ begins ∙ parts) (omega (arith, behind, sized, some, few, within, long))
+    (sym (ap (λ (l : List ℕ). take (length l) bytes) parts) ∙ begins ∙ parts) (omega (arith, behind, sized, some, few, within, long))
 
 -- no record so far
 pub walked_none : (file : List ℕ) → HasWalked 0 None file
@@ -53,13 +53,13 @@ walked_more end size next last file w b is =
     let first = b.first in
     let long : length first ≡ 9 + size = omega (arith, length-record b.payload first b.is_record, b.size_is) in
     let behind : drop next file ≡ b.rest =
-        ap (λ (k : ℕ). drop k file) is ∙ sym (drop-drop (9 + size) end file) ∙ ap (λ (l : List ℕ). drop (9 + size) l) b.whole ∙ drop_at first b.rest (9 + size) long in
+    ap (λ (k : ℕ). drop k file) is ∙ sym (drop-drop (9 + size) end file) ∙ ap (λ (l : List ℕ). drop (9 + size) l) b.whole ∙ drop_at first b.rest (9 + size) long in
     let head : length (1 ∷ b.is_record.size) ≡ 9 = omega (arith, b.is_record.eight) in
     let place : next - size ≡ end + 9 = omega (arith, is) in
     let inner : drop (next - size) file ≡ b.payload ++ b.rest =
-        ap (λ (k : ℕ). drop k file) place ∙ sym (drop-drop 9 end file)
-        ∙ ap (λ (l : List ℕ). drop 9 l) (b.whole ∙ ap (λ (l : List ℕ). l ++ b.rest) b.is_record.whole ∙ append_assoc (1 ∷ b.is_record.size) b.payload b.rest)
-        ∙ drop_at (1 ∷ b.is_record.size) (b.payload ++ b.rest) 9 head in
+    ap (λ (k : ℕ). drop k file) place ∙ sym (drop-drop 9 end file)
+    ∙ ap (λ (l : List ℕ). drop 9 l) (b.whole ∙ ap (λ (l : List ℕ). l ++ b.rest) b.is_record.whole ∙ append_assoc (1 ∷ b.is_record.size) b.payload b.rest)
+    ∙ drop_at (1 ∷ b.is_record.size) (b.payload ++ b.rest) 9 head in
     record {
       payloads = w.payloads ++ (b.payload ∷ []);
       front = w.front ++ first;

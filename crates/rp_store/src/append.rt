@@ -19,7 +19,7 @@ pub(crate) fn append<D: Disk>(disk: &mut D, end: u64, payload: &[u8]) -> Result<
         → Only (D.file disk.old).seen (D.file disk.old).may_leave }
     ensures appended { OnOk result (IsTrue (D.file disk.new).tells
         → ((D.file disk.new).seen ≡ opened end (staged (D.file disk.old).seen payload.now))
-          × Only (D.file disk.new).seen (D.file disk.new).may_leave) }
+        × Only (D.file disk.new).seen (D.file disk.new).may_leave) }
     ensures through { Through (IsAppending end (D.file disk.old).seen payload.now)
         (D.file disk.old) (D.file disk.new) }
     ensures faults { D.faults disk.old ≤ D.faults disk.new }
@@ -38,7 +38,7 @@ fn stage<D: Disk>(disk: &mut D, end: u64, payload: &[u8]) -> Result<(), Failed>
         → Only (D.file disk.old).seen (D.file disk.old).may_leave }
     ensures staged { OnOk result (IsTrue (D.file disk.new).tells
         → ((D.file disk.new).seen ≡ staged (D.file disk.old).seen payload.now)
-          × Only (D.file disk.new).seen (D.file disk.new).may_leave) }
+        × Only (D.file disk.new).seen (D.file disk.new).may_leave) }
     ensures through { Through (Begins (D.file disk.old).seen)
         (D.file disk.old) (D.file disk.new) }
     ensures faults { D.faults disk.old ≤ D.faults disk.new }
@@ -59,7 +59,7 @@ fn open_gate<D: Disk>(disk: &mut D, place: u64) -> Result<(), Failed>
         → Only (D.file disk.old).seen (D.file disk.old).may_leave }
     ensures opened { OnOk result (IsTrue (D.file disk.new).tells
         → ((D.file disk.new).seen ≡ opened place (D.file disk.old).seen)
-          × Only (D.file disk.new).seen (D.file disk.new).may_leave) }
+        × Only (D.file disk.new).seen (D.file disk.new).may_leave) }
     ensures through { Through (IsButAt place (D.file disk.old).seen)
         (D.file disk.old) (D.file disk.new) }
     ensures faults { D.faults disk.old ≤ D.faults disk.new }

@@ -44,7 +44,7 @@ pub(crate) fn settle<D: Disk>(alloc: Global, disk: &mut D) -> Result<Settled, Tr
     ensures end { IfOk result (λ s. s.end + 1 < 2 ^ 64) }
     ensures damaged { IfDamage result (λ place. IsTrue (D.file disk.new).tells
         → Gives (D.file disk.old).seen (Err place)
-          × ((D.file disk.new).seen ≡ (D.file disk.old).seen)) }
+        × ((D.file disk.new).seen ≡ (D.file disk.old).seen)) }
     ensures any_moment { OpensAlike (D.file disk.old) (D.file disk.new) }
     ensures cause { Blames (D.faults disk.old) (D.faults disk.new) result }
 {
@@ -67,7 +67,7 @@ fn finish<D: Disk>(disk: &mut D, found: Found) -> Result<Settled, Failed>
         × (s.payload ≡ found.payload)) }
     ensures trimmed { OnOk result (IsTrue (D.file disk.new).tells
         → IsTrimmedTo found.end (D.file disk.old).seen (D.file disk.new).seen
-          × Only (D.file disk.new).seen (D.file disk.new).may_leave) }
+        × Only (D.file disk.new).seen (D.file disk.new).may_leave) }
     ensures through { Through (IsTrimmed found.end (D.file disk.old).seen)
         (D.file disk.old) (D.file disk.new) }
     ensures faults { D.faults disk.old ≤ D.faults disk.new }
@@ -143,12 +143,7 @@ fn last_payload<D: Disk>(
 }
 
 /// So many bytes from this place on, the payload of a record.
-fn payload_at<D: Disk>(
-    alloc: Global,
-    disk: &mut D,
-    at: u64,
-    size: u64,
-) -> Result<Bytes, Trouble>
+fn payload_at<D: Disk>(alloc: Global, disk: &mut D, at: u64, size: u64) -> Result<Bytes, Trouble>
     requires head { 9 ≤ at }
     requires range { at + size < 2 ^ 64 }
     requires end { IsTrue (D.file disk.old).tells → at + size ≤ length (D.file disk.old).seen }
@@ -176,7 +171,7 @@ fn trim<D: Disk>(disk: &mut D, len: u64, end: u64) -> Result<(), Failed>
         → Only (D.file disk.old).seen (D.file disk.old).may_leave }
     ensures trimmed { OnOk result (IsTrue (D.file disk.new).tells
         → IsTrimmedTo end (D.file disk.old).seen (D.file disk.new).seen
-          × Only (D.file disk.new).seen (D.file disk.new).may_leave) }
+        × Only (D.file disk.new).seen (D.file disk.new).may_leave) }
     ensures through { Through (IsTrimmed end (D.file disk.old).seen)
         (D.file disk.old) (D.file disk.new) }
     ensures faults { D.faults disk.old ≤ D.faults disk.new }
@@ -197,7 +192,7 @@ fn blank<D: Disk>(disk: &mut D) -> Result<(), Failed>
         → Only (D.file disk.old).seen (D.file disk.old).may_leave }
     ensures blank { OnOk result (IsTrue (D.file disk.new).tells
         → ((D.file disk.new).seen ≡ 0 ∷ [])
-          × Only (D.file disk.new).seen (D.file disk.new).may_leave) }
+        × Only (D.file disk.new).seen (D.file disk.new).may_leave) }
     ensures through { Through (λ c. length c ≤ 1) (D.file disk.old) (D.file disk.new) }
     ensures faults { D.faults disk.old ≤ D.faults disk.new }
     ensures still { OnOk result (D.faults disk.new ≡ D.faults disk.old) }
@@ -214,7 +209,7 @@ fn cut_to<D: Disk>(disk: &mut D, to: u64) -> Result<(), Failed>
         → Only (D.file disk.old).seen (D.file disk.old).may_leave }
     ensures cut { OnOk result (IsTrue (D.file disk.new).tells
         → ((D.file disk.new).seen ≡ take to (D.file disk.old).seen)
-          × Only (D.file disk.new).seen (D.file disk.new).may_leave) }
+        × Only (D.file disk.new).seen (D.file disk.new).may_leave) }
     ensures through { Through (MayBeCut to (D.file disk.old).seen)
         (D.file disk.old) (D.file disk.new) }
     ensures faults { D.faults disk.old ≤ D.faults disk.new }

@@ -2,7 +2,7 @@
 ghost use Rattle.std.specs.Prelude.{◌≡◌, ◌+◌, ◌^◌, ◌-◌, ◌<◌, ◌≤◌, ◌++◌, [], ◌∷◌, min, Ok, Err, IsTrue, IfOk, length};
 ghost use Rattle.rp_store.specs.Answers.{open_disk, save_disk, IfDamaged, MatchFull, OpenBlames, SaveBlames};
 ghost use Rattle.rp_store.specs.Records.{Gives, last_of};
-ghost use Rattle.rp_store.specs.Stores.{Keeps, KeepsSome, SavesOrNot, OpensAlike, IsSound, StaysSound, IsTrimmedTo, staged, opened};
+ghost use Rattle.rp_store.specs.Stores.{Keeps, KeepsSome, SavesOrNot, LeavesLast, OpensAlike, IsSound, StaysSound, IsTrimmedTo, staged, opened};
 
 use crate::append::append;
 use crate::heads::HEAD;
@@ -57,10 +57,7 @@ pub enum SaveFault<D: Disk> {
 
 /// Opens a disk, and gives the payload of its last open record. It syncs first, so that what it reads
 /// is what a crash leaves. What stands behind the closed gate is cut off.
-pub fn open<D: Disk>(
-    alloc: Global,
-    mut disk: D,
-) -> Result<(Store<D>, Option<Bytes>), OpenFault<D>>
+pub fn open<D: Disk>(alloc: Global, mut disk: D) -> Result<(Store<D>, Option<Bytes>), OpenFault<D>>
     // The payload is the last that the file gives, as it read when the call began.
     ensures given { IfOk result (λ r. IsTrue (D.file r.0.disk).tells → (payloads : _)
         × Gives (D.file disk).seen (Ok payloads) × (r.1 ≡ last_of payloads)
@@ -79,11 +76,13 @@ pub fn open<D: Disk>(
     ensures cause { OpenBlames D.faults disk result }
 {
     match settle(alloc, &mut disk) {
-        Ok(Settled {
-            end,
-            place,
-            payload,
-        }) => Ok((Store { disk, end, place }, payload)),
+        Ok(
+            Settled {
+                end,
+                place,
+                payload,
+            },
+        ) => Ok((Store { disk, end, place }, payload)),
         Err(Trouble::Damaged { place }) => Err(OpenFault::Damaged { disk, place }),
         Err(Trouble::Disk) => Err(OpenFault::Disk { disk }),
         Err(Trouble::NoMemory) => Err(OpenFault::NoMemory { disk }),
@@ -99,6 +98,9 @@ impl<D: Disk> Store<D> {
             × Keeps D.file store (payloads ++ (payload.now ∷ []))) }
         ensures written { IfOk result (λ store. IsTrue (D.file store.disk).tells
             → (D.file store.disk).seen ≡ opened self.end (staged (D.file self.disk).seen payload.now)) }
+        // Once it has answered Ok, every crash leaves the new payload as the last one.
+        ensures acknowledged { IfOk result (λ store. IsTrue (D.file store.disk).tells
+            → LeavesLast payload.now (D.file store.disk)) }
         // A crash at any moment of the call leaves the payloads from before it or the new one behind
         // them, also where the call fails.
         ensures any_moment { SavesOrNot D.file self payload.now (save_disk result) }
@@ -107,7 +109,7 @@ impl<D: Disk> Store<D> {
         // Full comes exactly where the file would pass the most bytes, and changes nothing.
         ensures full { MatchFull result
             (λ store needed. (store ≡ self) × (268435456 < self.end + 10 + length payload.now)
-              × (needed ≡ min (self.end + 10 + length payload.now) (2 ^ 64 - 1)))
+            × (needed ≡ min (self.end + 10 + length payload.now) (2 ^ 64 - 1)))
             (self.end + 10 + length payload.now ≤ 268435456) }
         ensures cause { SaveBlames D.faults self.disk result }
     {
@@ -130,6 +132,8 @@ impl<D: Disk> Store<D> {
             × Keeps D.file store (payloads ++ (payload.now ∷ []))) }
         ensures written { IfOk result (λ store. IsTrue (D.file store.disk).tells
             → (D.file store.disk).seen ≡ opened self.end (staged (D.file self.disk).seen payload.now)) }
+        ensures acknowledged { IfOk result (λ store. IsTrue (D.file store.disk).tells
+            → LeavesLast payload.now (D.file store.disk)) }
         ensures any_moment { SavesOrNot D.file self payload.now (save_disk result) }
         ensures sound { IsTrue (D.file (save_disk result)).tells
             → IsSound (D.file (save_disk result)) }

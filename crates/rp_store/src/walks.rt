@@ -22,7 +22,7 @@ pub(crate) fn walk<D: Disk>(disk: &mut D, len: u64) -> Result<Walked, Trouble>
     requires length { IsTrue (D.file disk.old).tells → len ≡ length (D.file disk.old).seen }
     ensures found { IfOk result (λ w. IsTrue (D.file disk.new).tells
         → HasWalked w.end w.last (D.file disk.old).seen
-          × BeginsClosed (drop w.end (D.file disk.old).seen)) }
+        × BeginsClosed (drop w.end (D.file disk.old).seen)) }
     ensures range { IfOk result (λ w. w.end < len) }
     ensures last { IfOk result (λ w. IfSome w.last (λ size. size + 9 ≤ w.end)) }
     ensures damaged { IfDamage result (λ place.

@@ -1,4 +1,4 @@
-use Rattle.std.proofs.Common.{◌≡◌, ℕ, ◌+◌, ◌-◌, ◌≤◌, refl, ◌∙◌, ap, List, length, take, drop, arith, rules}
+use Rattle.std.proofs.Common.{◌≡◌, ℕ, ◌+◌, ◌-◌, refl, ◌∙◌, ap, List, length, take, drop, arith, rules}
 use borrow.Rule.Slice.PartMut.{put_mid}
 use Rattle.rp_store.proofs.Bytes.{filled_more}
 use Rattle.rp_store.proofs.Calls.{calm_then}
@@ -19,10 +19,10 @@ loop-done-preserved g c =
       place = inv.place;
       range = omega (arith, whole, inv.range);
       front = λ told fits.
-      let stays = came.calm told in
-      let reads = came.bytes told in
-      filled_more done (length buf - done) c.in_ok-n.n c.args.at buf new (g.D.Disk.file c.args.disk.now).seen inv.fits refl long (omega (arith, came.within, long)) (inv.front stays.told (omega (arith, fits, whole)))
-        (reads.given ∙ ap (λ (l : List ℕ). take c.in_ok-n.n (drop (c.args.at + done) l)) (inv.calm stays.told).seen);
+          let stays = came.calm told in
+          let reads = came.bytes told in
+          filled_more done (length buf - done) c.in_ok-n.n c.args.at buf new (g.D.Disk.file c.args.disk.now).seen inv.fits refl long (omega (arith, came.within, long)) (inv.front stays.told (omega (arith, fits, whole)))
+          (reads.given ∙ ap (λ (l : List ℕ). take c.in_ok-n.n (drop (c.args.at + done) l)) (inv.calm stays.told).seen);
       calm = calm_then (g.D.Disk.file c.args.disk.now) (g.D.Disk.file c.loop-done.disk) (g.D.Disk.file c.read_some.new.disk) inv.calm came.calm;
       still = came.still ∙ inv.still;
     }

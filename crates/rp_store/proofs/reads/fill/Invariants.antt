@@ -9,7 +9,7 @@ invariant-loop-done g l = record {
   place : l.at ≡ l.fn.at;
   range : l.at + length l.buf < 2 ^ 64;
   front : IsTrue (g.D.Disk.file l.disk).tells → l.at + length l.buf ≤ length (g.D.Disk.file l.fn.disk).seen
-    → take l.done l.buf ≡ take l.done (drop l.at (g.D.Disk.file l.fn.disk).seen);
+      → take l.done l.buf ≡ take l.done (drop l.at (g.D.Disk.file l.fn.disk).seen);
   calm : IsCalm (g.D.Disk.file l.fn.disk) (g.D.Disk.file l.disk);
   still : g.D.Disk.faults l.disk ≡ g.D.Disk.faults l.fn.disk;
 }

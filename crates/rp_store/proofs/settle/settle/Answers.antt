@@ -1,4 +1,4 @@
-use Rattle.std.proofs.Common.{◌≡◌, ℕ, List, IsTrue, ap, subst}
+use Rattle.std.proofs.Common.{ℕ, List, subst}
 use Rattle.rp_store.specs.Stores.{IsTrimmedTo}
 use Rattle.rp_store.specs.Walks.{IsLookedUp}
 use Rattle.rp_store.proofs.Calls.{calm_then}
@@ -14,7 +14,7 @@ returns-in_err-finish-clause-any_moment g c =
     let f = c.in_ok-found.found in
     let look = c.in_ok-found.ensures in
     opens_trimmed a d e f.end f.last f.payload (g.met.D.Disk.is_told c.args.disk.now) (calm_then a b d c.sync.ensures.calm look.calm)
-      (λ told. subst (λ (l : List ℕ). IsLookedUp l f.end f.last f.payload) (c.sync.ensures.calm (look.calm told).told).seen (look.found told)) c.finish.ensures.through
+    (λ told. subst (λ (l : List ℕ). IsLookedUp l f.end f.last f.payload) (c.sync.ensures.calm (look.calm told).told).seen (look.found told)) c.finish.ensures.through
 
 pub returns-clause-any_moment : goal.returns-clause-any_moment
 returns-clause-any_moment g c =
@@ -25,7 +25,7 @@ returns-clause-any_moment g c =
     let f = c.in_ok-found.found in
     let look = c.in_ok-found.ensures in
     opens_trimmed a d e f.end f.last f.payload (g.met.D.Disk.is_told c.args.disk.now) (calm_then a b d c.sync.ensures.calm look.calm)
-      (λ told. subst (λ (l : List ℕ). IsLookedUp l f.end f.last f.payload) (c.sync.ensures.calm (look.calm told).told).seen (look.found told)) c.finish.ensures.through
+    (λ told. subst (λ (l : List ℕ). IsLookedUp l f.end f.last f.payload) (c.sync.ensures.calm (look.calm told).told).seen (look.found told)) c.finish.ensures.through
 
 pub returns-clause-given : goal.returns-clause-given
 returns-clause-given g c told =
@@ -44,4 +44,4 @@ returns-clause-given g c told =
     let same = (calm_then a b d c.sync.ensures.calm look.calm in_d).seen in
     let trimmed = finish.trimmed told in
     settled_given a.seen e f.end f.last f.payload s.end s.place s.payload looked look.last (subst (λ (l : List ℕ). IsTrimmedTo f.end l e.seen) same trimmed.0) trimmed.1
-      finish.settled.0 finish.settled.1 finish.settled.2
+    finish.settled.0 finish.settled.1 finish.settled.2
