@@ -1,13 +1,13 @@
 -- What a save leaves of a file.
-use Rattle.std.proofs.Common.{◌≡◌, ◌≢◌, ◌⊎◌, inl, inr, ⊎_elim, ℕ, ◌+◌, ◌-◌, ◌^◌, ◌≤◌, ◌<◌, min, max, List, [], ◌∷◌, ◌++◌, length, get_or, take, drop, Option, Some, None, option_map, Ok, Err, IsTrue, refl, sym, ◌∙◌, ap, subst, arith, append_assoc, length-append, length-take, length-drop, take-append-drop}
-use Rattle.std.specs.Int.{w64, from_be_bytes, to_be_bytes}
+use Rattle.std.proofs.Common.{◌≡◌, ◌≢◌, inl, inr, ⊎_elim, ℕ, ◌+◌, ◌-◌, ◌^◌, ◌≤◌, ◌<◌, List, [], ◌∷◌, ◌++◌, length, get_or, take, drop, Option, Some, option_map, Ok, IsTrue, refl, sym, ◌∙◌, ap, subst, arith, append_assoc, length-append, length-take, take-append-drop}
+use Rattle.std.specs.Int.{w64, to_be_bytes}
 use Rattle.std.proofs.lemmas.Nat.{from_be_bytes-to_be_bytes_8}
 use Rattle.std.proofs.lemmas.Bool.{cases_eq}
 use Rattle.std.proofs.lemmas.List.{take_at, drop_at, take_all, drop_all, drop_more, take-take, append-nil}
-use Rattle.rp_disk.specs.Files.{File, IsTold, LeavesOnly, Changes, Torn, Only, put}
-use Rattle.rp_store.specs.Records.{IsRecord, AreRecords, HasRecords, Gives, last_of, size_of, place_of}
-use Rattle.rp_store.specs.Stores.{Standing, IsAtRest, IsKept, Keeps, KeepsSome, IsBeforeOrAfter, SavesOrNot, IsSound, staged, opened}
-use Rattle.rp_store.specs.Walks.{Runs, Through, Begins, IsButAt, IsAppending}
+use Rattle.rp_disk.specs.Files.{File, IsTold, Changes, Torn, Only, put}
+use Rattle.rp_store.specs.Records.{IsRecord, AreRecords, Gives, last_of, size_of, place_of}
+use Rattle.rp_store.specs.Stores.{Standing, IsAtRest, IsKept, Keeps, KeepsSome, IsBeforeOrAfter, SavesOrNot, LeavesLast, IsSound, staged, opened}
+use Rattle.rp_store.specs.Walks.{Through, Begins, IsButAt, IsAppending}
 use Rattle.rp_store.proofs.Bytes.{begins_split}
 use Rattle.rp_store.proofs.Calls.{leaves_then, through_call}
 use Rattle.rp_store.proofs.Files.{length-records, records_push, last_of-push, size_of-push}
@@ -238,3 +238,11 @@ save_kept file old new payload n is fits keeps calls done told =
       subst (λ (k : ℕ). IsKept (kept.0 ++ (payload ∷ [])) (file new) (old.end + 9 + k) (Some (old.end + 9))) (sym is)
           (appended_kept kept.0 payload (file old.disk) (file new) old.end old.place fits kept.1 seen.0 seen.1),
     )
+
+-- whatever crash comes, the last payload is there
+pub kept_last : (payloads : List (List ℕ)) (payload : List ℕ) (file : File) → IsAtRest (payloads ++ (payload ∷ [])) file → LeavesLast payload file
+kept_last payloads payload file rest c left = (
+  payloads ++ (payload ∷ []),
+  inr (record { front = rest.front; gate = rest.gate; behind = []; records = rest.records; closed = rest.closed; whole = rest.durable c left ∙ rest.whole }),
+  last_of-push payloads payload,
+)

@@ -1,7 +1,7 @@
 -- Calls of a disk, one behind the other.
-use Rattle.std.proofs.Common.{◌≡◌, ◌⊎◌, ℕ, ◌≤◌, List, Result, Ok, Err, OnOk, IsTrue, inl, inr, ⊎_elim, refl, ◌∙◌, arith}
-use Rattle.rp_disk.specs.Files.{File, IsTold, LeavesOnly, Elapses, Changed, Changes, Same, SeenStays}
-use Rattle.rp_store.specs.Walks.{Stays, IsCalm, Runs, Through}
+use Rattle.std.proofs.Common.{ℕ, List, Result, Ok, Err, OnOk, IsTrue, inl, inr, ⊎_elim, refl, ◌∙◌, arith}
+use Rattle.rp_disk.specs.Files.{File, IsTold, LeavesOnly, Changes}
+use Rattle.rp_store.specs.Walks.{IsCalm, Through}
 
 -- a crash at any moment of both leaves only files that have P
 pub leaves_then : (P Q : List ℕ → Type 0) (a b c : File) → LeavesOnly a b P → LeavesOnly b c Q → ((x : List ℕ) → Q x → P x) → LeavesOnly a c P

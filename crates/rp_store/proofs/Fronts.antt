@@ -1,8 +1,8 @@
 -- Each file gives some answer.
-use Rattle.std.proofs.Common.{◌≡◌, ◌≢◌, ◌⊎◌, inl, inr, ℕ, zero, suc, ◌+◌, ◌-◌, ◌≤◌, ◌<◌, List, [], ◌∷◌, ◌++◌, length, take, drop, Result, Ok, Err, refl, sym, ◌∙◌, ap, arith, append_assoc, length-append, length-take, length-drop, take-append-drop}
+use Rattle.std.proofs.Common.{◌≡◌, ◌≢◌, ◌⊎◌, inl, inr, ℕ, zero, suc, ◌+◌, ◌≤◌, ◌<◌, List, [], ◌∷◌, ◌++◌, length, take, drop, Result, Ok, Err, refl, sym, ◌∙◌, ap, arith, append_assoc, length-append, length-take, length-drop, take-append-drop}
 use Rattle.std.specs.Int.{w64, from_be_bytes}
 use Rattle.std.proofs.lemmas.Bool.{cases_eq, cases_lt}
-use Rattle.rp_store.specs.Records.{IsRecord, AreRecords, HasRecords, IsCutShort, IsDamagedAt, Gives}
+use Rattle.rp_store.specs.Records.{IsRecord, AreRecords, IsCutShort, Gives}
 use Rattle.rp_store.proofs.Files.{length-record}
 
 -- what stands at a gate: a closed one, a record that is cut short, or a whole one with a byte behind it

@@ -1,11 +1,11 @@
 -- What an opening leaves of a file.
-use Rattle.std.proofs.Common.{◌≡◌, ◌≢◌, ◌⊎◌, inl, inr, ⊎_elim, ℕ, ◌+◌, ◌-◌, ◌≤◌, ◌<◌, min, max, List, [], ◌∷◌, ◌++◌, length, take, drop, Option, Some, None, option_map, Result, Ok, Err, IsTrue, IfSome, refl, sym, ◌∙◌, ap, subst, arith, append_assoc, length-append, length-take, length-drop}
-use Rattle.std.proofs.lemmas.List.{take_at, drop_all, take-take}
+use Rattle.std.proofs.Common.{◌≡◌, ◌≢◌, inl, inr, ⊎_elim, ℕ, ◌+◌, ◌-◌, ◌≤◌, List, [], ◌∷◌, ◌++◌, length, take, drop, Option, Some, None, option_map, Ok, Err, IsTrue, IfSome, refl, sym, ◌∙◌, ap, subst, arith, length-append, length-take, length-drop}
+use Rattle.std.proofs.lemmas.List.{drop_all, take-take}
 use Rattle.std.proofs.Math.Seq.{take-append-add}
-use Rattle.rp_disk.specs.Files.{File, IsTold, LeavesOnly, Torn, MayBeCut, Only, put}
-use Rattle.rp_store.specs.Records.{AreRecords, HasRecords, Gives, last_of, size_of, place_of}
-use Rattle.rp_store.specs.Stores.{IsAtRest, IsKept, GivesAlike, GivesAsLeft, OpensAlike, IsWhole, IsSound, StaysSound, IsTrimmedTo}
-use Rattle.rp_store.specs.Walks.{Stays, IsCalm, Runs, Through, BeginsClosed, HasWalked, IsLookedUp, IsTrimmed, payload_in}
+use Rattle.rp_disk.specs.Files.{File, IsTold, Torn, MayBeCut, Only, put}
+use Rattle.rp_store.specs.Records.{Gives, last_of, size_of, place_of}
+use Rattle.rp_store.specs.Stores.{IsKept, GivesAlike, GivesAsLeft, OpensAlike, IsWhole, IsSound, StaysSound, IsTrimmedTo}
+use Rattle.rp_store.specs.Walks.{IsCalm, Through, BeginsClosed, HasWalked, IsLookedUp, IsTrimmed, payload_in}
 use Rattle.rp_store.proofs.Calls.{leaves_then}
 use Rattle.rp_store.proofs.Files.{length-records, gives_one}
 use Rattle.rp_store.proofs.Walked.{walked_closed}

@@ -1,11 +1,11 @@
 -- What a walk over the records of a file finds.
-use Rattle.std.proofs.Common.{◌≡◌, ◌≢◌, ◌⊎◌, inl, inr, ℕ, ◌+◌, ◌-◌, ◌≤◌, ◌<◌, min, List, [], ◌∷◌, ◌++◌, length, get_or, take, drop, Option, Some, None, option_map, Result, Ok, Err, refl, sym, ◌∙◌, ap, arith, append_assoc, length-append, length-take, length-drop, take-append-drop}
+use Rattle.std.proofs.Common.{◌≡◌, ℕ, ◌+◌, ◌-◌, ◌≤◌, ◌<◌, min, List, [], ◌∷◌, ◌++◌, length, get_or, take, drop, Option, Some, None, refl, sym, ◌∙◌, ap, arith, append_assoc, length-append, length-take, length-drop, take-append-drop}
 use Rattle.std.specs.Int.{w64, from_be_bytes}
 use Rattle.std.proofs.lemmas.List.{take_at, drop_at, take_all, drop-drop}
-use Rattle.rp_store.specs.Records.{IsRecord, AreRecords, HasRecords, IsCutShort, IsDamagedAt, Gives, last_of, size_of, place_of}
-use Rattle.rp_store.specs.Walks.{BeginsClosed, BeginsWhole, HasWalked, IsLookedUp, payload_in}
+use Rattle.rp_store.specs.Records.{AreRecords, HasRecords, IsCutShort, IsDamagedAt}
+use Rattle.rp_store.specs.Walks.{BeginsClosed, BeginsWhole, HasWalked}
 use Rattle.rp_store.proofs.Bytes.{begins_split}
-use Rattle.rp_store.proofs.Files.{length-record, length-records, records_push, last_of-push, none_in_one}
+use Rattle.rp_store.proofs.Files.{length-record, records_push, last_of-push}
 
 -- an open gate, eight bytes that name a size, and more bytes than that
 pub begins_whole : (gate : ℕ) (eight bytes : List ℕ) (size : ℕ) → gate ≡ 1 → length eight ≡ 8 → size ≡ from_be_bytes w64 eight

@@ -1,8 +1,8 @@
 -- What contracts see of a store, and what a crash leaves of it.
-use Rattle.std.specs.Prelude.{◌≡◌, ◌≢◌, ◌⊎◌, ℕ, ◌+◌, ◌<◌, ◌≤◌, List, [], ◌∷◌, ◌++◌, length, take, drop, Option, Result, Ok, Err, IsTrue}
+use Rattle.std.specs.Prelude.{◌≡◌, ◌≢◌, ◌⊎◌, ℕ, ◌+◌, ◌<◌, ◌≤◌, List, [], ◌∷◌, ◌++◌, length, take, drop, Option, Some, Result, Ok, IsTrue}
 use Rattle.std.specs.Int.{w64, to_be_bytes}
 use Rattle.rp_disk.specs.Files.{File, Only, LeavesOnly}
-use Rattle.rp_store.specs.Records.{AreRecords, Gives, size_of, place_of}
+use Rattle.rp_store.specs.Records.{AreRecords, Gives, last_of, size_of, place_of}
 
 -- a store: its disk, where the closed gate behind the last record stands, and where the last
 -- record's payload begins
@@ -57,6 +57,11 @@ IsBeforeOrAfter payloads new c = Gives c (Ok payloads) ⊎ Gives c (Ok (payloads
 abbrev pub SavesOrNot : {D : Type 0} → (D → File) → Standing D → List ℕ → D → Type 0
 SavesOrNot file old new disk = IsTrue (file disk).tells → (payloads : List (List ℕ)) × Keeps file old payloads
     × IsTrue (file old.disk).tells × LeavesOnly (file old.disk) (file disk) (IsBeforeOrAfter payloads new)
+
+-- whatever a crash leaves of the file, this is the last payload of it
+abbrev pub LeavesLast : List ℕ → File → Type 0
+LeavesLast payload file = (c : List ℕ) → file.may_leave c
+    → (payloads : List (List ℕ)) × Gives c (Ok payloads) × (last_of payloads ≡ Some payload)
 
 -- what a file gives, another gives too
 abbrev pub GivesAlike : List ℕ → List ℕ → Type 0

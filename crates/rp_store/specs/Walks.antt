@@ -1,9 +1,9 @@
 -- What the parts of an opening and of a save find in a file, what they leave of it, and what their
 -- errors say.
-use Rattle.std.specs.Prelude.{◌≡◌, ◌≢◌, ◌⊎◌, ℕ, ◌+◌, ◌-◌, ◌<◌, ◌≤◌, List, [], ◌∷◌, ◌++◌, length, take, drop, Option, Some, None, option_map, Result, Ok, Err, IsTrue}
+use Rattle.std.specs.Prelude.{◌≡◌, ◌≢◌, ◌⊎◌, ℕ, ◌+◌, ◌-◌, ◌<◌, ◌≤◌, List, [], ◌∷◌, ◌++◌, length, take, drop, Option, None, option_map, Result, Ok, Err, IsTrue}
 use Rattle.rp_outside.specs.Devices.{Rose}
 use Rattle.rp_disk.specs.Files.{File, LeavesOnly, MayBeCut}
-use Rattle.rp_store.specs.Records.{IsRecord, AreRecords, IsCutShort, Gives, last_of}
+use Rattle.rp_store.specs.Records.{IsRecord, AreRecords, IsCutShort, last_of}
 use Rattle.rp_store.specs.Stores.{staged}
 use Rattle.rp_store.specs.declared.heads.Head.{Head}
 use Rattle.rp_store.specs.declared.heads.Head.TheVariants.{Closed, Whole, CutShort}

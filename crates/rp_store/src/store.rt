@@ -2,7 +2,7 @@
 ghost use Rattle.std.specs.Prelude.{◌≡◌, ◌+◌, ◌^◌, ◌-◌, ◌<◌, ◌≤◌, ◌++◌, [], ◌∷◌, min, Ok, Err, IsTrue, IfOk, length};
 ghost use Rattle.rp_store.specs.Answers.{open_disk, save_disk, IfDamaged, MatchFull, OpenBlames, SaveBlames};
 ghost use Rattle.rp_store.specs.Records.{Gives, last_of};
-ghost use Rattle.rp_store.specs.Stores.{Keeps, KeepsSome, SavesOrNot, OpensAlike, IsSound, StaysSound, IsTrimmedTo, staged, opened};
+ghost use Rattle.rp_store.specs.Stores.{Keeps, KeepsSome, SavesOrNot, LeavesLast, OpensAlike, IsSound, StaysSound, IsTrimmedTo, staged, opened};
 
 use crate::append::append;
 use crate::heads::HEAD;
@@ -98,6 +98,9 @@ impl<D: Disk> Store<D> {
             × Keeps D.file store (payloads ++ (payload.now ∷ []))) }
         ensures written { IfOk result (λ store. IsTrue (D.file store.disk).tells
             → (D.file store.disk).seen ≡ opened self.end (staged (D.file self.disk).seen payload.now)) }
+        // Once it has answered Ok, every crash leaves the new payload as the last one.
+        ensures acknowledged { IfOk result (λ store. IsTrue (D.file store.disk).tells
+            → LeavesLast payload.now (D.file store.disk)) }
         // A crash at any moment of the call leaves the payloads from before it or the new one behind
         // them, also where the call fails.
         ensures any_moment { SavesOrNot D.file self payload.now (save_disk result) }
@@ -129,6 +132,8 @@ impl<D: Disk> Store<D> {
             × Keeps D.file store (payloads ++ (payload.now ∷ []))) }
         ensures written { IfOk result (λ store. IsTrue (D.file store.disk).tells
             → (D.file store.disk).seen ≡ opened self.end (staged (D.file self.disk).seen payload.now)) }
+        ensures acknowledged { IfOk result (λ store. IsTrue (D.file store.disk).tells
+            → LeavesLast payload.now (D.file store.disk)) }
         ensures any_moment { SavesOrNot D.file self payload.now (save_disk result) }
         ensures sound { IsTrue (D.file (save_disk result)).tells
             → IsSound (D.file (save_disk result)) }

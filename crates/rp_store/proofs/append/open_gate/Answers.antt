@@ -1,4 +1,3 @@
-use Rattle.std.proofs.Common.{◌<◌, ◌≡◌, List, ℕ, IsTrue}
 use Rattle.rp_disk.specs.Files.{Torn}
 use Rattle.rp_store.specs.Walks.{IsButAt}
 use Rattle.rp_store.proofs.Appended.{but_same, but_goes}

@@ -1,5 +1,4 @@
-use Rattle.std.proofs.Common.{◌≡◌, ◌≤◌, ℕ, ◌+◌, List, length, IsTrue, ap, sym, subst, ◌∙◌, refl, arith}
-use Rattle.rp_disk.specs.Files.{Only}
+use Rattle.std.proofs.Common.{length, ap, sym, ◌∙◌, arith}
 use Rattle.rp_store.specs.Walks.{Begins}
 use Rattle.rp_store.proofs.Appended.{begins_all, through_behind, staged_seen}
 use Rattle.rp_store.proofs.Calls.{through_calm, through_then, on_ok}

@@ -1,4 +1,4 @@
-use Rattle.std.proofs.Common.{◌≡◌, get_or, length, take, drop, ◌-◌, rules}
+use Rattle.std.proofs.Common.{◌≡◌, get_or, rules}
 use Rattle.rp_store.proofs.Walked.{head_whole}
 use Rattle.rp_store.proofs.heads.head_of.Goals as goal
 

@@ -1,4 +1,4 @@
-use Rattle.std.proofs.Common.{◌≡◌, ℕ, ◌+◌, ◌-◌, ◌≤◌, refl, ◌∙◌, ap, List, length, take, drop, arith, rules}
+use Rattle.std.proofs.Common.{◌≡◌, ℕ, ◌+◌, ◌-◌, refl, ◌∙◌, ap, List, length, take, drop, arith, rules}
 use borrow.Rule.Slice.PartMut.{put_mid}
 use Rattle.rp_store.proofs.Bytes.{filled_more}
 use Rattle.rp_store.proofs.Calls.{calm_then}

@@ -1,4 +1,4 @@
-use Rattle.std.proofs.Common.{◌≡◌, ℕ, List, IsTrue, ap, subst}
+use Rattle.std.proofs.Common.{ℕ, List, subst}
 use Rattle.rp_store.specs.Stores.{IsTrimmedTo}
 use Rattle.rp_store.specs.Walks.{IsLookedUp}
 use Rattle.rp_store.proofs.Calls.{calm_then}

@@ -1,5 +1,5 @@
-use Rattle.std.proofs.Common.{◌≡◌, ℕ, ◌+◌, ◌≤◌, ◌<◌, ◌∙◌, refl, ap, subst, List, drop, length, arith, rules}
-use Rattle.rp_store.specs.Walks.{BeginsWhole, HasWalked}
+use Rattle.std.proofs.Common.{ℕ, ◌+◌, refl, subst, List, drop, arith, rules}
+use Rattle.rp_store.specs.Walks.{BeginsWhole}
 use Rattle.rp_store.proofs.Calls.{calm_then}
 use Rattle.rp_store.proofs.Walked.{walked_more}
 use Rattle.rp_store.proofs.walks.walk.Goals as goal

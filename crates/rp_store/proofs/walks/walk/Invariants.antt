@@ -1,4 +1,4 @@
-use Rattle.std.proofs.Common.{◌≡◌, ◌+◌, ◌-◌, ◌<◌, ◌≤◌, length, drop, IsTrue, IfSome}
+use Rattle.std.proofs.Common.{◌≡◌, ◌+◌, ◌-◌, ◌<◌, ◌≤◌, IsTrue, IfSome}
 use Rattle.rp_store.specs.Walks.{IsCalm, HasWalked}
 use Rattle.rp_store.proofs.walks.walk.Given as goal
 

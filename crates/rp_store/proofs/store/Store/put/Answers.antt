@@ -1,8 +1,8 @@
-use Rattle.std.proofs.Common.{◌≡◌, ℕ, ◌+◌, ◌<◌, ◌^◌, ◌++◌, ◌∷◌, [], List, length, IsTrue, ap, subst, sym, ◌∙◌, arith}
-use Rattle.rp_disk.specs.Files.{File, Only}
+use Rattle.std.proofs.Common.{◌≡◌, ℕ, ◌+◌, ◌<◌, ◌^◌, ◌++◌, ◌∷◌, [], List, Some, length, IsTrue, subst, arith}
+use Rattle.rp_disk.specs.Files.{Only}
 use Rattle.rp_store.specs.Stores.{Standing, SavesOrNot, Keeps, IsKept, opened, staged}
 use Rattle.rp_store.specs.Walks.{Through, IsAppending}
-use Rattle.rp_store.proofs.Appended.{end_length, save_moments, save_sound, save_kept}
+use Rattle.rp_store.proofs.Appended.{end_length, kept_last, save_moments, save_sound, save_kept}
 use Rattle.rp_store.proofs.store.Store.put.Goals as goal
 
 pub append-requires-clause-end : goal.append-requires-clause-end
@@ -75,3 +75,9 @@ invariant_of-result g c told =
     let done = subst (λ (l : List ℕ). IsTrue new.tells → (new.seen ≡ opened in_self.end (staged (file in_self.disk).seen l)) × Only new.seen new.may_leave) c.as_slice.ensures c.in-Ok.ensures.appended in
     let all = save_kept file old c.append.new.disk p c.len.result c.len.ensures fits c.self.invariant calls done told in
     (all.0 ++ (p ∷ []), all.2)
+
+pub returns-in-Ok-clause-acknowledged : goal.returns-in-Ok-clause-acknowledged
+returns-in-Ok-clause-acknowledged g c told =
+    let saved = returns-in-Ok-clause-saved g c told in
+    let all : IsKept (saved.0 ++ (c.args.payload.now ∷ [])) (g.D.Disk.file c.append.new.disk) (c.self.inside.end + 9 + c.len.result) (Some (c.self.inside.end + 9)) = saved.2 in
+    kept_last saved.0 c.args.payload.now (g.D.Disk.file c.append.new.disk) all.at_rest
