@@ -246,8 +246,13 @@ range_of nodes d = do
   entries ← entries_in d
   replicas ← replicas_in nodes d
   Some (record {
-    id = head.id; level = head.level; start = head.start; end = head.end;
-    lease = lease; entries = entries; replicas = replicas;
+    id = head.id;
+    level = head.level;
+    start = head.start;
+    end = head.end;
+    lease = lease;
+    entries = entries;
+    replicas = replicas;
   })
 
 -- the numbers of ranges rise

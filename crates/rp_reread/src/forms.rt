@@ -80,10 +80,7 @@ fn add_answer(found: &mut Vec<Answer>, part: &Answer) -> Result<(), FormFault>
     ensures ok { OnOk result (found.new.items ≡ found.old.items ++ part.now ∷ []) }
     ensures err { IfErr result (λ e. e ≡ no_memory) }
 {
-    if found
-        .extend_from_slice(std::slice::from_ref(part))
-        .is_err()
-    {
+    if found.extend_from_slice(std::slice::from_ref(part)).is_err() {
         return Err(FormFault::NoMemory);
     }
     Ok(())
@@ -156,10 +153,7 @@ fn add_entry(found: &mut Vec<Entry>, part: &Entry) -> Result<(), FormFault>
     ensures ok { OnOk result (found.new.items ≡ found.old.items ++ part.now ∷ []) }
     ensures err { IfErr result (λ e. e ≡ no_memory) }
 {
-    if found
-        .extend_from_slice(std::slice::from_ref(part))
-        .is_err()
-    {
+    if found.extend_from_slice(std::slice::from_ref(part)).is_err() {
         return Err(FormFault::NoMemory);
     }
     Ok(())
@@ -216,10 +210,7 @@ fn add_row(found: &mut Vec<Row>, part: &Row) -> Result<(), FormFault>
     ensures ok { OnOk result (found.new.items ≡ found.old.items ++ part.now ∷ []) }
     ensures err { IfErr result (λ e. e ≡ no_memory) }
 {
-    if found
-        .extend_from_slice(std::slice::from_ref(part))
-        .is_err()
-    {
+    if found.extend_from_slice(std::slice::from_ref(part)).is_err() {
         return Err(FormFault::NoMemory);
     }
     Ok(())
@@ -248,9 +239,7 @@ fn each_row(alloc: Global, values: &[Value]) -> Result<Seq<Row>, FormFault>
 fn rise(rows: &[Row], later: &[Row]) -> bool
     ensures { result ≡ list_all (λ p. nat_lt p.0.key p.1.key) (zip rows.now later.now) }
 {
-    rows.iter()
-        .zip(later)
-        .all(|(row, next)| row.key < next.key)
+    rows.iter().zip(later).all(|(row, next)| row.key < next.key)
 }
 
 fn keys_rise(rows: &[Row]) -> bool

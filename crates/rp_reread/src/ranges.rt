@@ -20,11 +20,7 @@ fn for_node(value: &Value, turn: u64) -> Result<u64, NotRead>
     ensures { Tells result (for_node turn (view value.now)) }
 {
     let node = whole_in(value, "node", 5)?;
-    if node == turn {
-        Ok(node)
-    } else {
-        Err(NotRead)
-    }
+    if node == turn { Ok(node) } else { Err(NotRead) }
 }
 
 #[tactic(auto, unfolding(crate::specs::Forms::live_of))]
