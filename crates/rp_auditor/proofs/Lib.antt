@@ -1,0 +1,5 @@
+pub mod Going
+pub mod Meanings
+pub mod PlayLaws
+pub mod Walks
+pub mod Yeses

@@ -1,0 +1,9 @@
+pub mod Audits
+pub mod Faults
+pub mod Holding
+pub mod Places
+pub mod Playing
+pub mod Reached
+pub mod Seen
+pub mod Starts
+pub mod Verdicts
