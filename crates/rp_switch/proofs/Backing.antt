@@ -1,11 +1,11 @@
 -- What a caller may give back of a node that it has just taken.
-use Rattle.std.proofs.Common.{◌≡◌, ℕ, suc, ◌-◌, ◌<◌, ◌≤◌, [], refl, ap, sym, ◌∙◌, arith, subst, slice_get, slice_set, Some, Result, Ok, Err}
+use Rattle.std.proofs.Common.{◌≡◌, ℕ, ◌-◌, ◌≤◌, [], refl, ap, sym, ◌∙◌, arith, subst, slice_get, slice_set, Some, Ok}
 use Rattle.rp_events.specs.Nodes.{Node}
 use Rattle.rp_events.specs.Worlds.{World}
 use Rattle.rp_switch.specs.declared.switch.Taken.{Taken}
-use Rattle.rp_switch.specs.Views.{Knowledge, HasNode, taking}
+use Rattle.rp_switch.specs.Views.{Knowledge}
 use Rattle.rp_switch.specs.Rules.{IsNow}
-use Rattle.rp_switch.specs.Gifts.{IsGift, admissions, Gives, MayGive}
+use Rattle.rp_switch.specs.Gifts.{IsGift, admissions, MayGive}
 use Rattle.rp_switch.specs.Seats.{Takes}
 use Rattle.rp_switch.proofs.Taking.{set_at}
 

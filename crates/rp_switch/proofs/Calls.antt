@@ -1,5 +1,5 @@
 -- What several steps of a call tell together.
-use Rattle.std.proofs.Common.{◌≡◌, ◌≢◌, ◌⊎◌, inl, inr, ⊎_elim, ℕ, zero, suc, ◌+◌, ◌-◌, ◌<◌, ◌≤◌, eqb, Bool, true, false, List, [], ◌∷◌, refl, ap, sym, ◌∙◌, arith, subst, slice_get, Option, Some, None}
+use Rattle.std.proofs.Common.{◌≡◌, ℕ, suc, ◌+◌, ◌-◌, ◌<◌, eqb, List, [], ◌∷◌, refl, ap, sym, ◌∙◌, arith, subst, slice_get, Option, Some}
 use mathlib.Core.Option as maybe
 use prog.Atomic.{either}
 use Rattle.atomic_table.specs.Table.{step, Allows, rest}
@@ -11,10 +11,10 @@ use Rattle.rp_journals.proofs.Growing.{some_node}
 use Rattle.rp_switch.specs.declared.slots.Slot.{Slot}
 use Rattle.rp_switch.specs.declared.slots.Slot.TheVariants.{Nothing, Body, Reply}
 use Rattle.rp_switch.specs.declared.terms.Terms.{Terms}
-use Rattle.rp_switch.specs.Views.{Stage, Idle, HasNode, HasCell, Chooses, Look, Found, Knowledge, noting, taking, reaching, fetching, at_rest}
+use Rattle.rp_switch.specs.Views.{Stage, Idle, HasNode, HasCell, Chooses, Knowledge, reaching, fetching, posting, at_rest}
 use Rattle.rp_switch.specs.Rules.{Kept, IsTrueOf, IsNow, clients_of}
 use Rattle.rp_switch.specs.Gifts.{MayGive, Gives}
-use Rattle.rp_switch.specs.Calm.{is_calm, slots_at}
+use Rattle.rp_switch.specs.Calm.{slots_at}
 use Rattle.rp_switch.specs.Plays as plays
 use Rattle.rp_switch.specs.Plays.{Standing, giving}
 use Rattle.rp_switch.proofs.Giving.{gives_node}
@@ -103,9 +103,9 @@ module _ {E : Type 0} where
   -- with the cell in hand, and the answer in its slot
   pub posts_at : (t : Terms) (slots id q i : ℕ) (a : Answer) (me : Standing E) → i ≡ t.nodes + q → me.0.stage ≡ HasCell q → me.1 ≡ (i, Reply a) ∷ rest me.1
       → IsTrueOf t me.0.seen (suc q) a → 0 < me.0.parts
-      → Allows (Kept t) slots id me i (λ _. 1) (plays.left_cell (step slots i 1 0 maybe.none) me)
+      → Allows (Kept t) slots id me i (λ _. 1) (plays.posted (step slots i 1 0 maybe.none) me)
   posts_at t slots id q i a me e stage has true_ some_part =
-      subst (λ (w : ℕ). Allows (Kept t) slots id me w (λ _. 1) (plays.left_cell (step slots w 1 0 maybe.none) me)) (sym e)
+      subst (λ (w : ℕ). Allows (Kept t) slots id me w (λ _. 1) (plays.posted (step slots w 1 0 maybe.none) me)) (sym e)
       (posts t slots id q a me stage (subst (λ (w : ℕ). me.1 ≡ (w, Reply a) ∷ rest me.1) e has) true_ some_part)
 
   pub clears_at : (t : Terms) (slots id q i : ℕ) (me : Standing E) → i ≡ t.nodes + q → me.0.stage ≡ HasCell q → me.1 ≡ (i, Nothing) ∷ rest me.1 → 0 < me.0.parts
@@ -138,7 +138,7 @@ module _ {E : Type 0} where
 
   pub post_ready : (t : Terms) (slots id q i client : ℕ) (a : Answer) (old me now : Standing E) → i ≡ t.nodes + q → client ≡ suc q → old.0.terms ≡ t
       → Reached old me i (i - old.0.terms.nodes) → now ≡ (me.0, (i, Reply a) ∷ rest me.1) → IsTrueOf t old.0.seen client a → 0 < old.0.parts
-      → Allows (Kept t) slots id now i (λ _. 1) (plays.left_cell (step slots i 1 0 maybe.none) now)
+      → Allows (Kept t) slots id now i (λ _. 1) (plays.posted (step slots i 1 0 maybe.none) now)
   post_ready t slots id q i client a old me now e is_client terms r is true_ some_part =
       let place : i - old.0.terms.nodes ≡ q = let n = ap (λ (u : Terms). u.nodes) terms in omega (arith, n, e) in
       let known : now.0 ≡ reaching i (i - old.0.terms.nodes) old.0 = ap (λ (s : Standing E). s.0) is ∙ r.known in
@@ -171,13 +171,18 @@ module _ {E : Type 0} where
     pub known : now.0 ≡ at_rest v
     pub none : now.1 ≡ []
 
+  pub record PostedIt (old now : Standing E) (i place : ℕ) (a : Answer) : Type 0 where
+    pub known : now.0 ≡ posting i a (reaching i place old.0)
+    pub none : now.1 ≡ []
+
   pub post_done : (slots i : ℕ) (a : Answer) (old me now after : Standing E) (found : ℕ) → old.1 ≡ slots_at old.0.stage → old.0.stage ≡ Idle
       → Reached old me i (i - old.0.terms.nodes) → now ≡ (me.0, (i, Reply a) ∷ rest me.1)
-      → plays.left_cell (step slots i 1 0 maybe.none) now found after → Rested old after (reaching i (i - old.0.terms.nodes) old.0)
-  post_done slots i a old me now after found calm idle r is told = record {
-    known = told.0 ∙ ap at_rest (ap (λ (s : Standing E). s.0) is ∙ r.known);
-    none = told.1 ∙ ap (λ (s : Standing E). rest s.1) is ∙ ap rest r.slots ∙ calm ∙ ap slots_at idle;
-  }
+      → plays.posted (step slots i 1 0 maybe.none) now found after → PostedIt old after i (i - old.0.terms.nodes) a
+  post_done slots i a old me now after found calm idle r is told =
+      let done = (subst (λ (s : Standing E). plays.posted (step slots i 1 0 maybe.none) s found after) is told) a refl in record {
+        known = done.0 ∙ ap (posting i a) r.known;
+        none = done.1 ∙ ap rest r.slots ∙ calm ∙ ap slots_at idle;
+      }
 
   pub fetch_done : (slots i client : ℕ) (old me now after : Standing E) (found : ℕ) → old.1 ≡ slots_at old.0.stage → old.0.stage ≡ Idle
       → (r : FetchedIt old.0.terms old me i (i - old.0.terms.nodes) client) → now ≡ (me.0, (i, Nothing) ∷ rest me.1)

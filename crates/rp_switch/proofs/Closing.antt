@@ -1,5 +1,5 @@
 -- What a closed switch leaves.
-use Rattle.std.proofs.Common.{◌≡◌, ◌≢◌, ◌⊎◌, inl, inr, ⊎_elim, ℕ, zero, suc, ◌+◌, ◌-◌, ◌<◌, ◌≤◌, Bool, true, false, List, [], ◌∷◌, ◌++◌, length, map, set, get_or, sum_by, refl, ap, sym, ◌∙◌, arith, subst, slice_index, slice_index_or, slice_set, slice_get, take, Option, Some, None}
+use Rattle.std.proofs.Common.{◌≡◌, ℕ, zero, suc, ◌+◌, ◌-◌, ◌<◌, ◌≤◌, Bool, false, List, [], ◌∷◌, ◌++◌, length, set, get_or, refl, ap, sym, ◌∙◌, arith, subst, slice_index_or, slice_get, take, Some}
 use Rattle.std.proofs.lemmas.List.{get_or-set_other}
 use mathlib.Core.Option as maybe
 use mathlib.Core.Option.{some-injective, some-ne-none}
@@ -15,18 +15,18 @@ use Rattle.rp_events.specs.Worlds.{World, node_of}
 use Rattle.rp_events.specs.Lawful.{IsReached}
 use Rattle.rp_journals.proofs.Growing.{some_node}
 use Rattle.rp_node.specs.Steps.{Held}
-use Rattle.rp_race.specs.Gives.{Tried}
+use Rattle.rp_race.specs.Gives.{Tried, AllSeen}
 use Rattle.rp_race.specs.Played.{IsTriesOf}
 use Rattle.rp_race.specs.Race.{IsRace}
 use Rattle.rp_switch.specs.Openings.{bare}
 use Rattle.rp_switch.specs.Closings.{body_in, bodies, IsEmptiedTo}
 use Rattle.rp_switch.specs.Seats.{Closes, is_broken}
-use Rattle.rp_switch.specs.Gifts.{CarriesClient, tries_known, IsTries}
+use Rattle.rp_switch.specs.Gifts.{tries_known, IsTries}
 use Rattle.rp_switch.specs.declared.slots.Slot.{Slot}
 use Rattle.rp_switch.specs.declared.slots.Slot.TheVariants.{Nothing, Body, Reply}
 use Rattle.rp_switch.specs.declared.terms.Terms.{Terms}
 use Rattle.rp_switch.specs.Views.{Right, Lacks, Tries, Rounds, BrokenOff, Stage, Idle, HasNode, Knowledge, all_parts, right_at}
-use Rattle.rp_switch.specs.Rules.{Phase, home, out, InPhase, RightOf, IsWith, IsWhole, Knows, weight, right_on, Kept, clients_of, size_of}
+use Rattle.rp_switch.specs.Rules.{Phase, home, out, InPhase, RightOf, AllHeard, IsWhole, weight, right_on, Kept, clients_of, size_of}
 use Rattle.rp_switch.proofs.Giving.{agrees, some_nodes}
 use Rattle.rp_switch.proofs.Lifts.{reached_length, low_node}
 use Rattle.rp_switch.proofs.Parting.{none_at}
@@ -188,6 +188,8 @@ module _ {E : Type 0} where
           whole = λ node n has e. k.race.whole node n has (whole_at t s k id v at all node n has e);
           owed = k.race.owed;
         });
+        past = subst (λ (u : Terms). AllSeen u.nodes v.seen k.world) (sym terms) full_.seen;
+        heard = subst (λ (u : Terms). AllHeard u.nodes v.joined k.world) (sym terms) full_.heard;
         carries = λ client first last.
             carried_there t k.tries k.broken (v.terms.nodes + client - 1) (right_at v.rights (v.terms.nodes + client - 1)) (omega (arith, nodes, first))
             (has_each t s k id v at all (v.terms.nodes + client - 1) (omega (arith, nodes, clients, first, last))) (known.rights (v.terms.nodes + client - 1));

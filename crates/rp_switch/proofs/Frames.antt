@@ -1,13 +1,13 @@
 -- What changes at a step, and what stays.
-use Rattle.std.proofs.Common.{◌≡◌, ◌≢◌, ◌⊎◌, inl, inr, ⊎_elim, ℕ, zero, suc, ◌+◌, ◌-◌, ◌<◌, ◌≤◌, Bool, true, false, List, [], ◌∷◌, ◌++◌, length, set, sum_by, refl, ap, sym, ◌∙◌, arith, subst, slice_index, slice_set, slice_get, Option, Some, None}
-use Rattle.std.proofs.lemmas.List.{length-set, set-get_or, get_or-set_same, get_or-set_other}
+use Rattle.std.proofs.Common.{◌≡◌, ◌≢◌, ℕ, zero, suc, ◌+◌, ◌<◌, Bool, List, [], ◌∷◌, length, set, refl, ap, sym, ◌∙◌, arith, subst, slice_index}
+use Rattle.std.proofs.lemmas.List.{set-get_or}
 use mathlib.Core.Option as maybe
 use mathlib.Core.Option.{some-injective, some-ne-none}
 use mathlib.Core.Logic.{dite}
 use native.Mathlib.Decide.{ℕ_discrete}
 use lib.ListN.{get_elem?}
 use Rattle.atomic_table.specs.Table.{State}
-use Rattle.atomic_table.proofs.Lists.{set_here, set_else}
+use Rattle.atomic_table.proofs.Lists.{set_else}
 use Rattle.rp_passes.proofs.Tally.{total_set, each_set}
 use Rattle.rp_events.specs.Worlds.{World}
 use Rattle.rp_events.specs.Lawful.{IsReached}
@@ -15,11 +15,9 @@ use Rattle.rp_race.specs.Gives.{Tried}
 use Rattle.rp_race.specs.Played.{IsTriesOf}
 use Rattle.rp_race.specs.Race.{IsRace}
 use Rattle.rp_switch.specs.declared.slots.Slot.{Slot}
-use Rattle.rp_switch.specs.declared.slots.Slot.TheVariants.{Nothing, Body, Reply}
 use Rattle.rp_switch.specs.declared.terms.Terms.{Terms}
-use Rattle.rp_switch.specs.Views.{Right, Stage, Idle, HasNode, HasCell, Chooses, Knowledge, all_parts, right_at}
-use Rattle.rp_switch.specs.Rules.{Phase, home, out, Cell, empty, full, taken, node_word, cell_word, clients_of, size_of, InPhase, InCell, HasIt, AtStage, RightOf, IsWhole, Knows, weight, right_on, IsWith, Kept}
-use Rattle.rp_switch.proofs.Places.{put, put_here, put_else, at_put}
+use Rattle.rp_switch.specs.Views.{HasNode, Knowledge, right_at}
+use Rattle.rp_switch.specs.Rules.{Phase, home, out, Cell, empty, full, taken, node_word, cell_word, clients_of, size_of, InPhase, InCell, Knows, weight, right_on, IsWith, Kept}
 
 -- a view that was there is the one that is set there
 pub set_there : {V : Type 0} (l : List V) (i : ℕ) (v w : V) → get_elem? l i ≡ maybe.some v → get_elem? (set l i w) i ≡ maybe.some w

@@ -1,6 +1,6 @@
 -- What a node's journal has since it was taken, and what that makes of the clients' tries.
-use Rattle.std.proofs.Common.{◌≡◌, ◌≢◌, ◌⊎◌, inl, inr, ⊎_elim, ℕ, zero, suc, ◌+◌, ◌-◌, ◌<◌, ◌≤◌, Bool, true, false, not, cond, eqb, List, [], ◌∷◌, ◌++◌, drop, length, refl, ap, sym, ◌∙◌, arith, subst, slice_get, Option, Some, None}
-use Rattle.std.proofs.lemmas.Bool.{eqb-true, ne_eqb, cases_eq}
+use Rattle.std.proofs.Common.{◌≡◌, ◌≢◌, ◌⊎◌, inl, inr, ℕ, false, not, cond, eqb, List, [], ◌∷◌, ◌++◌, drop, length, refl, ap, sym, ◌∙◌, subst, Option, Some, None}
+use Rattle.std.proofs.lemmas.Bool.{ne_eqb}
 use Rattle.rp_base.specs.declared.ids.CmdId.{CmdId}
 use Rattle.rp_request.specs.Applied.{AppliedState}
 use Rattle.rp_request.specs.declared.requests.Request.{Request}
@@ -10,21 +10,20 @@ use Rattle.rp_events.specs.declared.node_events.Event.{Event}
 use Rattle.rp_events.specs.declared.node_events.Event.TheVariants as events
 use Rattle.rp_events.specs.declared.replica_events.ReplicaEvent.{ReplicaEvent}
 use Rattle.rp_events.specs.declared.replica_events.ReplicaEvent.TheVariants as at_replica
-use Rattle.rp_events.specs.Replicas.{Replica, Done}
 use Rattle.rp_events.specs.ReplicaEvents.{event}
 use Rattle.rp_events.specs.Nodes.{Node, Status, Absent, Live, Removed, seat, opened, opened_by}
-use Rattle.rp_events.specs.NodeEvents.{step, by_status, after_replica, with_request}
+use Rattle.rp_events.specs.NodeEvents.{step, by_status, with_request}
 use Rattle.rp_events.specs.Worlds.{World, Happening, Admit, Ask, Transfer, Collect, Flush, Tick, Deliver, Apply, Cut, Remove, Peek, Restart, Round, node_of, happens, run, taken_in}
 use Rattle.rp_journals.specs.Asked.{all_at}
 use Rattle.rp_journals.specs.Entries.{at_node}
-use Rattle.rp_journals.proofs.Growing.{Happened, happened, with_same, with_other, some_node}
+use Rattle.rp_journals.proofs.Growing.{Happened, happened, with_other}
 use Rattle.rp_journals.proofs.Reading.{entry_of, step_journal}
 use Rattle.rp_race.specs.declared.rules.RaceRules.{RaceRules}
-use Rattle.rp_race.specs.Gives.{Tried, with_try, try_at, after_admission, MayTry, AllMayTry, tried_after, admitted_after, MayHappen, AllMayHappen, is_within_round, after_round}
+use Rattle.rp_race.specs.Gives.{Tried, with_try, try_at, after_admission, AllMayTry, tried_after, admitted_after}
 use Rattle.rp_race.specs.Rounds.{Stage, between, delivering, flushing, collected, applying, broken}
 use Rattle.rp_race.specs.Played.{HasRoundSince, requests_of}
 use Rattle.rp_switch.specs.Views.{Knowledge}
-use Rattle.rp_switch.specs.Gifts.{entries_since, with_admission, tries_by, tries_given, CarriesClient, CarriesAll, is_between}
+use Rattle.rp_switch.specs.Gifts.{with_admission, tries_by, tries_given, CarriesClient, CarriesAll, is_between}
 
 -- an admission ends no round
 opened_rounds : (n : Node) (s : AppliedState) (st : Status) → (opened_by n s st).rounds ≡ n.rounds

@@ -1,37 +1,36 @@
 -- A node is given back.
-use Rattle.std.proofs.Common.{◌≡◌, ◌≢◌, ◌⊎◌, inl, inr, ⊎_elim, ℕ, zero, suc, ◌+◌, ◌-◌, ◌<◌, ◌≤◌, eqb, cond, Bool, true, false, not, ◌&&◌, IsTrue, List, [], ◌∷◌, ◌++◌, length, set, sum_by, refl, ap, sym, ◌∙◌, arith, subst, slice_index, slice_set, slice_get, Option, Some, None}
+use Rattle.std.proofs.Common.{◌≡◌, ◌≢◌, ℕ, suc, ◌+◌, ◌-◌, ◌<◌, ◌≤◌, eqb, cond, Bool, true, false, ◌&&◌, List, [], ◌∷◌, set, sum_by, refl, ap, sym, ◌∙◌, arith, subst, slice_index, slice_get, Option, Some}
 use Rattle.std.proofs.lemmas.List.{length-set, get_or-set_same, get_or-set_other}
-use Rattle.std.proofs.lemmas.Bool.{eqb-true, eq-eqb, ne_eqb, ltb-true}
+use Rattle.std.proofs.lemmas.Bool.{eqb-true, eq-eqb, ltb-true}
 use mathlib.Core.Option as maybe
 use mathlib.Core.Logic.{dite}
 use native.Mathlib.Decide.{ℕ_discrete}
 use lib.ListN.{get_elem?}
-use Rattle.atomic_table.specs.Table.{State, Me, Step, step, Act, keeps, takes, gives, Valid, Allows, stepped, carried_after, put_back, rest}
+use Rattle.atomic_table.specs.Table.{State, step, gives, Allows, put_back, rest}
 use Rattle.atomic_table.proofs.Lists.{set_here, set_else}
-use Rattle.rp_passes.proofs.Tally.{pair_le, part_le}
+use Rattle.rp_passes.proofs.Tally.{pair_le}
 use Rattle.rp_journals.proofs.Asking.{asked_once}
 use Rattle.rp_journals.proofs.Growing.{some_node}
-use Rattle.rp_clients.specs.Tries.{Try}
 use Rattle.rp_events.specs.Nodes.{Node}
-use Rattle.rp_events.specs.Worlds.{World, node_of}
-use Rattle.rp_events.specs.Lawful.{IsReached, IsLater}
-use Rattle.rp_race.specs.Gives.{AllSeen, Tried}
+use Rattle.rp_events.specs.Worlds.{World}
+use Rattle.rp_events.specs.Lawful.{IsReached}
+use Rattle.rp_race.specs.Gives.{Tried}
 use Rattle.rp_node.specs.Steps.{Held}
 use Rattle.rp_switch.specs.declared.slots.Slot.{Slot}
 use Rattle.rp_switch.specs.declared.slots.Slot.TheVariants.{Nothing, Body, Reply}
 use Rattle.rp_switch.specs.declared.terms.Terms.{Terms}
-use Rattle.rp_switch.specs.Views.{Right, Lacks, Tries, Rounds, BrokenOff, Stage, Idle, HasNode, HasCell, Chooses, Knowledge, right_at, by_place}
-use Rattle.rp_switch.specs.Rules.{Phase, home, out, Cell, node_word, cell_word, clients_of, size_of, InPhase, InCell, HasIt, AtStage, RightOf, IsWhole, Knows, weight, right_on, IsWith, Kept}
+use Rattle.rp_switch.specs.Views.{Right, Lacks, Tries, Rounds, BrokenOff, HasNode, Knowledge, right_at, by_place}
+use Rattle.rp_switch.specs.Rules.{Phase, home, out, node_word, InPhase, HasIt, AtStage, RightOf, weight, right_on, IsWith, Kept}
 use Rattle.rp_switch.specs.Gifts.{tries_given, is_broken_off, tries_in, tries_known, IsTries, CarriesClient, IsGift, Gives}
 use Rattle.rp_switch.specs.Plays as plays
 use Rattle.rp_switch.specs.Plays.{Standing, right_given, giving}
-use Rattle.rp_switch.proofs.Places.{put, put_here, put_else, at_put}
+use Rattle.rp_switch.proofs.Places.{put, at_put}
 use Rattle.rp_switch.proofs.Rights.{at_place, as_many}
-use Rattle.rp_switch.proofs.Frames.{set_there, still_with, rebuilt, home_stays, cell_stays}
+use Rattle.rp_switch.proofs.Frames.{still_with, rebuilt, home_stays, cell_stays}
 use Rattle.rp_switch.proofs.Taking.{sees}
 use Rattle.rp_switch.proofs.Given.{Agree}
-use Rattle.rp_switch.proofs.Lifts.{all_seen_later, world_stays, answer_stays, stage_later}
-use Rattle.rp_switch.proofs.Went.{Ready, Went, went}
+use Rattle.rp_switch.proofs.Lifts.{all_seen_later, all_heard_later, world_stays, answer_stays, stage_later}
+use Rattle.rp_switch.proofs.Went.{Went, went}
 
 -- where there are nodes, a client's right is at the place of its number
 client_at : (n k : ℕ) → 0 < n → n ≤ k → n + suc (k - n) - 1 ≡ k
@@ -218,19 +217,20 @@ module _ {E : Type 0} where
           terms = full_.terms;
           seen = sees t.nodes v.seen g.world place x.node low g.reached g.has (all_seen_later t.nodes v.seen k.world g.world g.later full_.seen);
           rights = as_many (right_given v.terms.nodes place before x.node) 0 v.rights ∙ full_.rights;
+          heard = all_heard_later t.nodes v.joined k.world g.world g.later full_.heard;
         };
       })
       (λ j u away there. let theirs = k.each_seat j u there in record {
         stage = stage_later t k.world g.world k.phases k.cells place j home u.seen u.stage g.later g.others (free j away) theirs.stage;
         rights = λ i. theirs_given t k.world k.broken k.tries v u place id j before x.node s.views g some full_.terms away in_views there k.once i (right_at u.rights i) refl (theirs.rights i);
         spent = theirs.spent;
-        whole = λ p. let h = theirs.whole p in record { terms = h.terms; seen = all_seen_later t.nodes u.seen k.world g.world g.later h.seen; rights = h.rights };
+        whole = λ p. let h = theirs.whole p in record { terms = h.terms; seen = all_seen_later t.nodes u.seen k.world g.world g.later h.seen; rights = h.rights; heard = all_heard_later t.nodes u.joined k.world g.world g.later h.heard };
       })
       (λ q j. at_put (λ y (p : Phase). p ≡ out j → IsWith (set s.views id w) y j) k.phases place home q
       (λ e is. absurd (cc))
       (λ away is. still_with s.views id v w in_views q j (λ world is_there. absurd (away (has_same q place world at (sym is_there ∙ stage)))) (k.with_seat q j is)))
 
-  rest_same : (cs : List (ℕ × Slot E)) (k : ℕ) (y z : Slot E) → cs ≡ (k, y) ∷ rest cs → cs ≡ (k, z) ∷ rest cs → y ≡ z
+  pub rest_same : (cs : List (ℕ × Slot E)) (k : ℕ) (y z : Slot E) → cs ≡ (k, y) ∷ rest cs → cs ≡ (k, z) ∷ rest cs → y ≡ z
   rest_same cs k y z a b = ap top (sym a ∙ b)
     where
       top : List (ℕ × Slot E) → Slot E

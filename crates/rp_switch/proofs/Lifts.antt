@@ -1,12 +1,7 @@
 -- What is true of a world stays true of a later one.
-use Rattle.std.proofs.Common.{◌≡◌, ◌≢◌, ◌⊎◌, inl, inr, ⊎_elim, ℕ, zero, suc, ◌+◌, ◌-◌, ◌<◌, ◌≤◌, Bool, true, false, IsTrue, List, [], ◌∷◌, length, refl, ap, sym, ◌∙◌, arith, subst, slice_get, Option, Some, None}
-use Rattle.std.proofs.lemmas.List.{length-set, length-map, length-append}
+use Rattle.std.proofs.Common.{◌≡◌, ◌≢◌, ℕ, zero, suc, ◌<◌, ◌≤◌, List, [], ◌∷◌, length, refl, ap, sym, ◌∙◌, arith, subst, slice_get, Some}
+use Rattle.std.proofs.lemmas.List.{length-map, length-append}
 use mathlib.Core.Option as maybe
-use mathlib.Core.Logic.{dite}
-use native.Mathlib.Decide.{ℕ_discrete, dec_lt}
-use lib.ListN.{get_elem?}
-use Rattle.rp_base.specs.declared.ids.CmdId.{CmdId}
-use Rattle.rp_request.specs.declared.outcomes.Outcome.{Outcome}
 use Rattle.rp_clients.specs.declared.answers.Answer.{Answer}
 use Rattle.rp_clients.specs.declared.answers.Answer.TheVariants as answers
 use Rattle.rp_events.specs.declared.answers.Ended.{Ended}
@@ -14,15 +9,15 @@ use Rattle.rp_raftstep.specs.RaftState.{nodes_to}
 use Rattle.rp_events.specs.Nodes.{Node, first_node}
 use Rattle.rp_events.specs.Worlds.{World, first_world, node_of}
 use Rattle.rp_events.specs.Lawful.{IsReached, IsLater}
-use Rattle.rp_journals.specs.Growth.{Begins, Grows, HasLater, WorldGrows}
+use Rattle.rp_journals.specs.Growth.{WorldGrows}
 use Rattle.rp_journals.proofs.Growing.{later_grows, later_trans, run_grows}
 use Rattle.rp_journals.proofs.Lists.{get_begins}
-use Rattle.rp_race.specs.Ends.{IsWaitedOutForGood, patience}
-use Rattle.rp_race.specs.Gives.{AllSeen, WasSeen, Tried}
+use Rattle.rp_race.specs.Ends.{patience}
+use Rattle.rp_race.specs.Gives.{AllSeen}
 use Rattle.rp_switch.specs.declared.slots.Slot.{Slot}
 use Rattle.rp_switch.specs.declared.terms.Terms.{Terms}
-use Rattle.rp_switch.specs.Views.{Right, Lacks, Tries, Rounds, BrokenOff, Stage, Idle, HasNode, HasCell, Chooses, Knowledge, right_at}
-use Rattle.rp_switch.specs.Rules.{Phase, home, out, Cell, empty, full, taken, clients_of, size_of, InPhase, InCell, IsTrueOf, HasIt, AtStage, RightOf, IsWhole, Knows}
+use Rattle.rp_switch.specs.Views.{Stage, Idle, HasNode, HasCell, Chooses}
+use Rattle.rp_switch.specs.Rules.{Phase, home, out, Cell, empty, full, taken, InPhase, InCell, IsTrueOf, AllHeard, AtStage}
 use Rattle.rp_race.proofs.Waited.{waited_later, seen_not_less}
 use Rattle.rp_switch.proofs.Places.{put, put_else}
 
@@ -37,6 +32,9 @@ all_seen_later nodes seen w later goes all = record {
     has = was.has;
   };
 }
+
+pub all_heard_later : (nodes : ℕ) (joined : List World) (w later : World) → IsLater w later → AllHeard nodes joined w → AllHeard nodes joined later
+all_heard_later nodes joined w later goes all k seen e = all_seen_later nodes seen w later goes (all k seen e)
 
 ended_later : (w later : World) → WorldGrows w later → (node : ℕ) (n : Node) (k : ℕ) (e : Ended) → node_of w node ≡ Some n → slice_get n.outcomes k ≡ Some e
     → (m : Node) × (node_of later node ≡ Some m) × (slice_get m.outcomes k ≡ Some e)

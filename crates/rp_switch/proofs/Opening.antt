@@ -1,25 +1,22 @@
 -- A switch starts by its rule.
-use Rattle.std.proofs.Common.{◌≡◌, ◌≢◌, ◌⊎◌, inl, inr, ⊎_elim, ℕ, zero, suc, ◌+◌, ◌-◌, ◌<◌, ◌≤◌, Bool, true, false, IsTrue, List, [], ◌∷◌, ◌++◌, length, map, set, sum_by, replicate, refl, ap, sym, ◌∙◌, arith, subst, slice_index, slice_get, Option, Some, None}
+use Rattle.std.proofs.Common.{◌≡◌, ◌⊎◌, inl, inr, ⊎_elim, ℕ, zero, suc, ◌+◌, ◌<◌, ◌≤◌, false, List, [], ◌∷◌, ◌++◌, length, map, replicate, refl, ap, sym, ◌∙◌, arith, subst, slice_index, slice_get, Some}
 use Rattle.std.proofs.lemmas.List.{length-map, length-append, length-replicate}
 use Rattle.std.proofs.lemmas.Bool.{lt-ltb, le-leb}
 use mathlib.Core.Option as maybe
 use mathlib.Core.Option.{some-injective, some-ne-none}
-use mathlib.Core.Logic.{dite}
-use native.Mathlib.Decide.{dec_lt}
 use lib.ListN.{get_elem?}
-use Rattle.atomic_table.specs.Table.{State, opening}
-use Rattle.rp_events.specs.Nodes.{Node}
-use Rattle.rp_events.specs.Worlds.{World, first_world, node_of}
+use Rattle.atomic_table.specs.Table.{opening}
+use Rattle.rp_events.specs.Worlds.{World, first_world}
 use Rattle.rp_events.specs.Lawful.{IsReached}
 use Rattle.rp_journals.proofs.Growing.{later_refl}
-use Rattle.rp_race.specs.Gives.{AllSeen, WasSeen}
+use Rattle.rp_race.specs.Gives.{AllSeen}
 use Rattle.rp_node.specs.Steps.{Held}
 use Rattle.rp_switch.specs.Openings.{first_slots, bare, AreFirst}
 use Rattle.rp_switch.specs.declared.slots.Slot.{Slot}
-use Rattle.rp_switch.specs.declared.slots.Slot.TheVariants.{Nothing, Body, Reply}
+use Rattle.rp_switch.specs.declared.slots.Slot.TheVariants.{Nothing, Body}
 use Rattle.rp_switch.specs.declared.terms.Terms.{Terms}
-use Rattle.rp_switch.specs.Views.{Right, Lacks, Tries, Rounds, BrokenOff, Stage, Idle, Knowledge, all_parts, right_at}
-use Rattle.rp_switch.specs.Rules.{home, empty, clients_of, size_of, RightOf, Knows, weight, right_on, Kept, first}
+use Rattle.rp_switch.specs.Views.{Right, Lacks, Tries, Rounds, BrokenOff, Knowledge, right_at}
+use Rattle.rp_switch.specs.Rules.{home, empty, clients_of, size_of, AllHeard, RightOf, Knows, weight, Kept, first}
 use Rattle.rp_race.proofs.Keeping.{race_first}
 use Rattle.rp_race.proofs.Trying.{tries_first}
 use Rattle.rp_switch.proofs.Lifts.{first_length}
@@ -125,6 +122,10 @@ all_first n reached = record {
   each = λ node x has. record { before = first_world n; reached = reached; later = later_refl (first_world n); has = has };
 }
 
+nothing_heard : (n : ℕ) (w : World) → AllHeard n [] w
+nothing_heard n w zero seen e = absurd (cc)
+nothing_heard n w (suc k) seen e = absurd (cc)
+
 pub opens : {E : Type 0} → (t : Terms) (nodes : List (Held E)) → length nodes ≡ t.nodes → 1 ≤ t.nodes → t.nodes ≤ 5 → AreFirst nodes
     → Kept t (opening (replicate (size_of t) 0) (first_slots nodes (clients_of t)) (first t))
 opens {E} t nodes size some few are_first =
@@ -155,6 +156,7 @@ opens {E} t nodes size some few are_first =
           terms = refl;
           seen = all_first n reached;
           rights = length-append (replicate n Rounds) (replicate c (Tries [])) ∙ (let a = length-replicate n Rounds in let b = length-replicate c (Tries []) in omega (arith, a, b));
+          heard = nothing_heard n w;
         };
       });
       with_seat = λ place id e. absurd (cc);

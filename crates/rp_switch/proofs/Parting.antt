@@ -1,27 +1,47 @@
 -- Rights are handed over, and come back.
-use Rattle.std.proofs.Common.{◌≡◌, ◌≢◌, ◌⊎◌, inl, inr, ⊎_elim, ℕ, zero, suc, ◌+◌, ◌-◌, ◌<◌, ◌≤◌, eqb, cond, Bool, true, false, List, [], ◌∷◌, ◌++◌, length, set, sum_by, refl, ap, sym, ◌∙◌, arith, subst, slice_index, slice_set, Option, Some, None}
+use Rattle.std.proofs.Common.{◌≡◌, ℕ, zero, suc, ◌+◌, ◌<◌, ◌≤◌, eqb, Bool, List, [], ◌∷◌, ◌++◌, set, refl, ap, sym, ◌∙◌, arith, subst, slice_index, slice_get, Option, Some, None}
 use Rattle.std.proofs.lemmas.List.Sums.{sum_by_push}
 use mathlib.Core.Option as maybe
 use prog.Atomic.{either}
 use lib.ListN.{get_elem?}
-use Rattle.atomic_table.specs.Table.{State, Me, Step, step, Act, keeps, Valid, Allows, Splits, Joins, stepped, carried_after}
+use Rattle.atomic_table.specs.Table.{Step, step, Act, keeps, Valid, Allows, Splits, Joins, stepped, carried_after}
 use Rattle.atomic_table.proofs.Lists.{exchanged, set_else, at_longer}
 use Rattle.rp_passes.proofs.Tally.{total_set, pair_le, each_set, each_snoc}
-use Rattle.rp_race.specs.Gives.{Tried}
+use Rattle.rp_events.specs.Worlds.{World}
+use Rattle.rp_race.specs.Gives.{AllSeen}
 use Rattle.rp_switch.specs.declared.slots.Slot.{Slot}
 use Rattle.rp_switch.specs.declared.terms.Terms.{Terms}
-use Rattle.rp_switch.specs.Views.{Right, Lacks, Tries, Rounds, BrokenOff, Choice, OfClient, OfWorker, Stage, Idle, HasNode, HasCell, Chooses, Knowledge, all_parts, nothing_known, right_at, is_chosen, chosen, others, either_right, together, choosing, left, right, both}
-use Rattle.rp_switch.specs.Rules.{Phase, home, out, Cell, node_word, clients_of, size_of, HasIt, AtStage, RightOf, IsWhole, Knows, weight, right_on, IsWith, Kept}
+use Rattle.rp_switch.specs.Views.{Lacks, Choice, OfClient, OfWorker, Idle, Chooses, Knowledge, nothing_known, right_at, is_chosen, choosing, left, right, both}
+use Rattle.rp_switch.specs.Rules.{Phase, home, out, node_word, AllHeard, RightOf, Knows, weight, right_on, Kept}
 use Rattle.rp_switch.specs.Plays as plays
 use Rattle.rp_switch.specs.Plays.{Standing}
 use Rattle.rp_switch.proofs.Rights.{in_chosen, in_others, halves_weigh, in_half, in_other_half, chosen_long, others_long, together_at, together_long, either_weighs, in_either}
-use Rattle.rp_switch.proofs.Frames.{set_there, still_with, stands}
+use Rattle.rp_switch.proofs.Frames.{still_with, stands}
 use Rattle.rp_switch.proofs.Giving.{some_nodes}
 
 -- a node's word is 0 or 1
 small_word : (p : Phase) → node_word p ≤ 1
 small_word home = omega arith
 small_word (out id) = omega arith
+
+nothing_at : (i : ℕ) (seen : World) → slice_get [] i ≡ Some seen → ⊥
+nothing_at zero seen e = absurd (cc)
+nothing_at (suc i) seen e = absurd (cc)
+
+unsome : (a b : World) → ◌≡◌ {A = Option World} (Some a) (Some b) → a ≡ b
+unsome a b e = ap (value_or a) e
+  where
+    value_or : World → Option World → World
+    value_or c None = c
+    value_or c (Some d) = d
+
+-- what two seats had seen, and what was joined to them, is past
+both_heard : (nodes : ℕ) (w : World) (xs : List World) (seen : World) (ys : List World) → AllHeard nodes xs w → AllSeen nodes seen w → AllHeard nodes ys w
+    → AllHeard nodes (xs ++ seen ∷ ys) w
+both_heard nodes w [] seen ys first mine more zero s e = subst (λ (z : World). AllSeen nodes z w) (unsome seen s e) mine
+both_heard nodes w [] seen ys first mine more (suc i) s e = more i s e
+both_heard nodes w (x ∷ xs) seen ys first mine more zero s e = first 0 s e
+both_heard nodes w (x ∷ xs) seen ys first mine more (suc i) s e = both_heard nodes w xs seen ys (λ j z d. first (suc j) z d) mine more i s e
 
 pub none_at : (k : ℕ) → right_at [] k ≡ Lacks
 none_at zero = refl
@@ -45,7 +65,7 @@ module _ {E : Type 0} where
         keeps,
         tt,
         stands t s id 0 me.0 w k at refl (λ j. refl) (λ y world is. absurd (let i = idle in cc))
-            (record { stage = tt; rights = known.rights; spent = λ none_left. absurd (omega (arith, none_left, some_part)); whole = λ p. let h = known.whole p in record { terms = h.terms; seen = h.seen; rights = h.rights } }),
+            (record { stage = tt; rights = known.rights; spent = λ none_left. absurd (omega (arith, none_left, some_part)); whole = λ p. let h = known.whole p in record { terms = h.terms; seen = h.seen; rights = h.rights; heard = h.heard } }),
         told found,
       ))
 
@@ -77,7 +97,7 @@ module _ {E : Type 0} where
               rights = λ i. subst (λ r. RightOf t k.tries k.broken i r) (sym (in_chosen p v.rights i))
                   (in_half (λ r. RightOf t k.tries k.broken i r) tt (p i) (right_at v.rights i) (known.rights i));
               spent = λ e. absurd (omega (arith, e, two));
-              whole = λ e. record { terms = full_.terms; seen = full_.seen; rights = chosen_long p v.rights ∙ full_.rights };
+              whole = λ e. record { terms = full_.terms; seen = full_.seen; rights = chosen_long p v.rights ∙ full_.rights; heard = λ i seen at_. absurd (nothing_at i seen at_) };
             })
             (each_set (λ j x. Knows t k.world k.tries k.broken k.phases k.cells j x) s.views id (left v)
             (record {
@@ -85,7 +105,7 @@ module _ {E : Type 0} where
               rights = λ i. subst (λ r. RightOf t k.tries k.broken i r) (sym (in_others p v.rights i))
                   (in_other_half (λ r. RightOf t k.tries k.broken i r) tt (p i) (right_at v.rights i) (known.rights i));
               spent = λ e. absurd (omega (arith, e, two));
-              whole = λ e. record { terms = full_.terms; seen = full_.seen; rights = others_long p v.rights ∙ full_.rights };
+              whole = λ e. record { terms = full_.terms; seen = full_.seen; rights = others_long p v.rights ∙ full_.rights; heard = full_.heard };
             })
             (λ j x away e. k.each_seat j x e));
         with_seat = λ place j is. let w = still_with s.views id v (left v) at place j (λ world has. absurd (let st = stage in cc)) (k.with_seat place j is) in
@@ -138,7 +158,7 @@ module _ {E : Type 0} where
               rights = λ i. subst (λ r. RightOf t k.tries k.broken i r) (sym (together_at v.rights w.rights i))
                   (in_either (λ r. RightOf t k.tries k.broken i r) (right_at v.rights i) (right_at w.rights i) (known.rights i) (theirs.rights i));
               spent = λ none_left. absurd (omega (arith, none_left, some_part));
-              whole = λ e. record { terms = full_.terms; seen = full_.seen; rights = together_long v.rights w.rights (full_.rights ∙ sym their_whole.rights) ∙ full_.rights };
+              whole = λ e. record { terms = full_.terms; seen = full_.seen; rights = together_long v.rights w.rights (full_.rights ∙ sym their_whole.rights) ∙ full_.rights; heard = both_heard t.nodes k.world v.joined w.seen w.joined full_.heard their_whole.seen their_whole.heard };
             })
             (λ i y _ d. k.each_seat i y d) j x e);
         with_seat = λ place j is. still_with views other w nothing_known there place j (λ world has. absurd (let st = idle in cc))

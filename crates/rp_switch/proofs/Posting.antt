@@ -1,13 +1,13 @@
 -- The steps on a client's cell.
-use Rattle.std.proofs.Common.{◌≡◌, ◌≢◌, ◌⊎◌, inl, inr, ⊎_elim, ℕ, zero, suc, ◌+◌, ◌-◌, ◌<◌, ◌≤◌, eqb, cond, Bool, true, false, List, [], ◌∷◌, ◌++◌, length, set, sum_by, refl, ap, sym, ◌∙◌, arith, subst, slice_index, slice_set, slice_get, Option, Some, None}
+use Rattle.std.proofs.Common.{◌≡◌, ◌≢◌, ℕ, suc, ◌+◌, ◌-◌, ◌<◌, ◌≤◌, eqb, cond, Bool, true, false, List, ◌∷◌, length, set, sum_by, refl, ap, sym, ◌∙◌, arith, subst, slice_index, slice_get, Some}
 use Rattle.std.proofs.lemmas.List.{length-set, get_or-set_same, get_or-set_other}
-use Rattle.std.proofs.lemmas.Bool.{eqb-true, eq-eqb, ne_eqb}
+use Rattle.std.proofs.lemmas.Bool.{eqb-true, eq-eqb}
 use mathlib.Core.Option as maybe
 use mathlib.Core.Logic.{dite}
 use native.Mathlib.Decide.{ℕ_discrete}
 use prog.Atomic.{either}
 use lib.ListN.{get_elem?}
-use Rattle.atomic_table.specs.Table.{State, Me, Step, step, Act, keeps, takes, gives, Valid, Allows, stepped, carried_after, put_back, rest}
+use Rattle.atomic_table.specs.Table.{State, step, Act, keeps, takes, gives, Valid, Allows, stepped, carried_after, put_back, rest}
 use Rattle.atomic_table.proofs.Lists.{exchanged, set_here, set_else}
 use Rattle.rp_base.specs.declared.ids.CmdId.{CmdId}
 use Rattle.rp_request.specs.declared.outcomes.Outcome.{Outcome}
@@ -22,8 +22,8 @@ use Rattle.rp_race.specs.Played.{IsTriesOf}
 use Rattle.rp_switch.specs.declared.slots.Slot.{Slot}
 use Rattle.rp_switch.specs.declared.slots.Slot.TheVariants.{Nothing, Body, Reply}
 use Rattle.rp_switch.specs.declared.terms.Terms.{Terms}
-use Rattle.rp_switch.specs.Views.{Right, Lacks, Tries, Rounds, BrokenOff, Stage, Idle, HasNode, HasCell, Chooses, Look, Found, Fetched, Knowledge, right_at, by_place, right_learns, right_told, rights_told, noting, reaching, fetching, at_rest}
-use Rattle.rp_switch.specs.Rules.{Phase, home, out, Cell, empty, full, taken, node_word, cell_word, clients_of, size_of, InPhase, InCell, IsTrueOf, IsNow, HasIt, AtStage, RightOf, IsWhole, Knows, weight, right_on, IsWith, Kept}
+use Rattle.rp_switch.specs.Views.{Right, Lacks, Tries, Rounds, BrokenOff, Stage, Idle, HasNode, HasCell, Chooses, Look, Found, Knowledge, right_at, right_learns, right_told, rights_told, noting, reaching, fetching, posting, at_rest}
+use Rattle.rp_switch.specs.Rules.{Phase, Cell, empty, full, taken, cell_word, clients_of, size_of, InCell, IsTrueOf, IsNow, AtStage, RightOf, Knows, weight, right_on, Kept}
 use Rattle.rp_switch.specs.Plays as plays
 use Rattle.rp_switch.specs.Plays.{Standing}
 use Rattle.rp_journals.proofs.Asking.{asked_once}
@@ -33,7 +33,7 @@ use Rattle.rp_switch.proofs.Places.{put, put_here, put_else, at_put}
 use Rattle.rp_switch.proofs.Rights.{at_place, as_many}
 use Rattle.rp_switch.proofs.Frames.{still_with, rebuilt, stands, home_stays, cell_stays}
 use Rattle.rp_switch.proofs.Lifts.{true_of_seen, reached_length}
-use Rattle.rp_switch.proofs.Giving.{only_one, some_nodes}
+use Rattle.rp_switch.proofs.Giving.{only_one, rest_same}
 
 -- what a seat knows of its cell stays so where another changes
 cells_away : (t : Terms) (w : World) (phases : ℕ → Phase) (cells : ℕ → Cell) (q j : ℕ) (c : Cell) (seen : World) (st : Stage)
@@ -54,6 +54,10 @@ not_theirs : (id j : ℕ) (c : Cell) → IsMine id c → j ≢ id → c ≢ take
 not_theirs id j empty mine away e = cc
 not_theirs id j (full a) mine away e = cc
 not_theirs id j (taken i) mine away e = away (cc)
+
+-- a seat without its cell, with these looks
+abbrev resting : List Look → Knowledge → Knowledge
+resting ls v = record v { stage = Idle; looks = ls }
 
 module _ {E : Type 0} where
   -- one cell changes, with its word and its slot, and one view; and a client's tries may
@@ -129,7 +133,7 @@ module _ {E : Type 0} where
               stage = (low, put_here k.cells q q (taken id) refl);
               rights = known.rights;
               spent = λ none_left. absurd (omega (arith, none_left, some_part));
-              whole = λ p. let h = known.whole p in record { terms = h.terms; seen = h.seen; rights = h.rights };
+              whole = λ p. let h = known.whole p in record { terms = h.terms; seen = h.seen; rights = h.rights; heard = h.heard };
             })
             (λ j x away there. (k.each_seat j x there).rights),
         ((λ _. (ap (λ (p : ℕ). reaching (t.nodes + q) p me.0) (sym place), refl)), (λ miss. absurd (miss hit))),
@@ -139,22 +143,22 @@ module _ {E : Type 0} where
         keeps,
         tt,
         stands t s id (t.nodes + q) me.0 w k at refl (λ j. refl) (λ y world is. is)
-            (record { stage = known.stage; rights = known.rights; spent = λ none_left. absurd (omega (arith, none_left, some_part)); whole = λ p. let h = known.whole p in record { terms = h.terms; seen = h.seen; rights = h.rights } }),
+            (record { stage = known.stage; rights = known.rights; spent = λ none_left. absurd (omega (arith, none_left, some_part)); whole = λ p. let h = known.whole p in record { terms = h.terms; seen = h.seen; rights = h.rights; heard = h.heard } }),
         ((λ hit. absurd (miss hit)), (λ _. (refl, refl))),
       ))
 
   -- the cell goes home with what lies in it
-  leave_at : (t : Terms) (id q u : ℕ) (c : Cell) (y : Slot E) (tl : List (ℕ × Slot E)) (s : State (Slot E) Knowledge) (v : Knowledge) (k : Kept t s)
+  leave_at : (t : Terms) (id q u : ℕ) (c : Cell) (y : Slot E) (tl : List (ℕ × Slot E)) (ls : List Look) (s : State (Slot E) Knowledge) (v : Knowledge) (k : Kept t s)
       → get_elem? s.views id ≡ maybe.some v → v.stage ≡ HasCell q → 0 < v.parts → u ≡ cell_word c
       → ((homes : List (maybe.Option (Slot E))) → get_elem? homes (t.nodes + q) ≡ maybe.some (maybe.some y) → InCell t homes k.world q c)
-      → Kept t record { words = set s.words (t.nodes + q) u; homes = put_back s.homes ((t.nodes + q, y) ∷ tl); views = set s.views id (at_rest v) }
-  leave_at t id q u c y tl s v k at stage some_part word lies =
+      → Kept t record { words = set s.words (t.nodes + q) u; homes = put_back s.homes ((t.nodes + q, y) ∷ tl); views = set s.views id (resting ls v) }
+  leave_at t id q u c y tl ls s v k at stage some_part word lies =
       let known = k.each_seat id v at in
       let mine : AtStage t k.world k.phases k.cells id v.seen (HasCell q) = subst (λ st. AtStage t k.world k.phases k.cells id v.seen st) stage known.stage in
       let low = mine.0 in
       let long = k.long in
       let homes : List (maybe.Option (Slot E)) = set s.homes (t.nodes + q) (maybe.some y) in
-      celled t id q u c s homes v (at_rest v) k at mine.0 (subst (IsMine id) (sym mine.1) refl) word refl (λ i. refl)
+      celled t id q u c s homes v (resting ls v) k at mine.0 (subst (IsMine id) (sym mine.1) refl) word refl (λ i. refl)
       (λ p world is. absurd (let i = stage in cc))
       (length-set s.homes (t.nodes + q) (maybe.some y) ∙ k.long) (λ o away. set_else s.homes (t.nodes + q) o (maybe.some y) away)
       (lies homes (set_here s.homes (t.nodes + q) (maybe.some y) (omega (arith, long, low))))
@@ -163,23 +167,32 @@ module _ {E : Type 0} where
         stage = tt;
         rights = known.rights;
         spent = λ none_left. absurd (omega (arith, none_left, some_part));
-        whole = λ p. let h = known.whole p in record { terms = h.terms; seen = h.seen; rights = h.rights };
+        whole = λ p. let h = known.whole p in record { terms = h.terms; seen = h.seen; rights = h.rights; heard = h.heard };
       })
       (λ j x away there. (k.each_seat j x there).rights)
+
+  reply_same : (a b : Answer) → ◌≡◌ {A = Slot E} (Reply a) (Reply b) → a ≡ b
+  reply_same a b e = ap answer_of e
+    where
+      answer_of : Slot E → Answer
+      answer_of Nothing = a
+      answer_of (Body x) = a
+      answer_of (Reply c) = c
 
   -- the swap that posts
   pub posts : (t : Terms) (slots id q : ℕ) (a : Answer) (me : Standing E) → me.0.stage ≡ HasCell q → me.1 ≡ (t.nodes + q, Reply a) ∷ rest me.1
       → IsTrueOf t me.0.seen (suc q) a → 0 < me.0.parts
-      → Allows (Kept t) slots id me (t.nodes + q) (λ _. 1) (plays.left_cell (step slots (t.nodes + q) 1 0 maybe.none) me)
+      → Allows (Kept t) slots id me (t.nodes + q) (λ _. 1) (plays.posted (step slots (t.nodes + q) 1 0 maybe.none) me)
   posts t slots id q a me stage has true_ some_part s k long at small =
-      let known = k.each_seat id me.0 at in (
-        at_rest me.0,
+      let known = k.each_seat id me.0 at in
+      let w = posting (t.nodes + q) a me.0 in (
+        w,
         gives,
         tt,
-        subst (λ cs. Kept t record { words = set s.words (t.nodes + q) 1; homes = put_back s.homes cs; views = set s.views id (at_rest me.0) }) (sym has)
-            (leave_at t id q 1 (full a) (Reply a) (rest me.1) s me.0 k at stage some_part refl
+        subst (λ cs. Kept t record { words = set s.words (t.nodes + q) 1; homes = put_back s.homes cs; views = set s.views id w }) (sym has)
+            (leave_at t id q 1 (full a) (Reply a) (rest me.1) w.looks s me.0 k at stage some_part refl
             (λ homes lies. (lies, true_of_seen t me.0.seen k.world (suc q) a (reached_length t.nodes k.world k.reached) (known.whole some_part).seen true_))),
-        (refl, refl),
+        λ b lies_there. (ap (λ (c : Answer). posting (t.nodes + q) c me.0) (reply_same a b (rest_same me.1 (t.nodes + q) (Reply a) (Reply b) has lies_there)), refl),
       )
 
   -- the swap that clears
@@ -190,7 +203,7 @@ module _ {E : Type 0} where
     gives,
     tt,
     subst (λ cs. Kept t record { words = set s.words (t.nodes + q) 0; homes = put_back s.homes cs; views = set s.views id (at_rest me.0) }) (sym has)
-        (leave_at t id q 0 empty Nothing (rest me.1) s me.0 k at stage some_part refl (λ homes lies. lies)),
+        (leave_at t id q 0 empty Nothing (rest me.1) me.0.looks s me.0 k at stage some_part refl (λ homes lies. lies)),
     (refl, refl),
   )
 
@@ -372,7 +385,7 @@ module _ {E : Type 0} where
               stage = (low, put_here k.cells q q (taken id) refl);
               rights = l.mine;
               spent = λ none_left. absurd (omega (arith, none_left, some_part));
-              whole = λ p. record { terms = full_.terms; seen = full_.seen; rights = as_many (told_at a (t.nodes + q)) 0 me.0.rights ∙ full_.rights };
+              whole = λ p. record { terms = full_.terms; seen = full_.seen; rights = as_many (told_at a (t.nodes + q)) 0 me.0.rights ∙ full_.rights; heard = full_.heard };
             })
             (λ j x away there. let theirs = k.each_seat j x there in
             λ i. theirs_told t k.world k.tries k.broken q id j me.0 x a s.views l away at there k.once i (right_at x.rights i) refl (theirs.rights i)),
@@ -393,6 +406,6 @@ module _ {E : Type 0} where
         keeps,
         tt,
         stands t s id (t.nodes + q) me.0 w k at refl (λ j. refl) (λ y world is. is)
-            (record { stage = known.stage; rights = known.rights; spent = λ none_left. absurd (omega (arith, none_left, some_part)); whole = λ p. let h = known.whole p in record { terms = h.terms; seen = h.seen; rights = h.rights } }),
+            (record { stage = known.stage; rights = known.rights; spent = λ none_left. absurd (omega (arith, none_left, some_part)); whole = λ p. let h = known.whole p in record { terms = h.terms; seen = h.seen; rights = h.rights; heard = h.heard } }),
         ((λ hit. absurd (miss hit)), (λ _. (refl, refl))),
       ))

@@ -1,5 +1,5 @@
 -- A round, whole or broken off, leaves the clients' tries.
-use Rattle.std.proofs.Common.{◌≡◌, ◌≢◌, ◌⊎◌, inl, inr, ⊎_elim, ℕ, zero, suc, Bool, true, false, List, [], ◌∷◌, ◌++◌, refl, ap, sym, ◌∙◌, subst, slice_get, Option, Some, None}
+use Rattle.std.proofs.Common.{◌≡◌, ⊎_elim, ℕ, Bool, true, false, List, [], ◌∷◌, refl, ap, ◌∙◌, subst, Option, Some, None}
 use Rattle.std.specs.Option.{option_map}
 use Rattle.rp_base.specs.declared.items.Item.{Item}
 use Rattle.rp_request.specs.Applied.{AppliedState}
@@ -13,11 +13,11 @@ use Rattle.rp_events.specs.NodeEvents.{step, past_of}
 use Rattle.rp_events.specs.Worlds.{World, Happening, Admit, Ask, Transfer, Collect, Flush, Tick, Deliver, Apply, Cut, Remove, Peek, Restart, Round, node_of, sent_by, happens, run, event_of, delivery, taken_in}
 use Rattle.rp_journals.specs.Asked.{all_at}
 use Rattle.rp_journals.specs.Entries.{at_node}
-use Rattle.rp_journals.proofs.Growing.{Happened, happened, with_same, one_node}
+use Rattle.rp_journals.proofs.Growing.{happened, with_same, one_node}
 use Rattle.rp_journals.proofs.Reading.{entry_of, step_journal}
 use Rattle.rp_race.specs.declared.rules.RaceRules.{RaceRules}
-use Rattle.rp_race.specs.Gives.{MayHappen, AllMayHappen, is_within_round, after_round}
-use Rattle.rp_switch.specs.Gifts.{with_admission, tries_by}
+use Rattle.rp_race.specs.Gives.{AllMayHappen, is_within_round, after_round}
+use Rattle.rp_switch.specs.Gifts.{with_admission}
 use Rattle.rp_switch.proofs.Given.{Quiet, quiet_same, quiet_trans}
 
 abbrev is_admit : Event AppliedState → Bool

@@ -1,25 +1,25 @@
 -- A node is taken.
-use Rattle.std.proofs.Common.{◌≡◌, ◌≢◌, ◌⊎◌, inl, inr, ⊎_elim, ℕ, zero, suc, ◌+◌, ◌-◌, ◌<◌, ◌≤◌, eqb, Bool, true, false, List, [], ◌∷◌, ◌++◌, length, set, sum_by, refl, ap, sym, ◌∙◌, arith, subst, slice_index, slice_set, slice_get, Option, Some, None}
+use Rattle.std.proofs.Common.{◌≡◌, ◌≢◌, ℕ, zero, suc, ◌+◌, ◌<◌, eqb, Bool, List, [], ◌∷◌, length, set, refl, ap, sym, ◌∙◌, arith, subst, slice_index, slice_set, slice_get, Some}
 use Rattle.std.proofs.lemmas.List.{length-set, get_or-set_same, get_or-set_other}
 use mathlib.Core.Option as maybe
 use mathlib.Core.Logic.{dite}
 use native.Mathlib.Decide.{ℕ_discrete}
 use prog.Atomic.{either}
 use lib.ListN.{get_elem?}
-use Rattle.atomic_table.specs.Table.{State, Me, Step, step, Act, keeps, takes, gives, Valid, Allows, stepped, carried_after, put_back, rest}
+use Rattle.atomic_table.specs.Table.{State, step, Act, keeps, takes, Valid, Allows, stepped, carried_after}
 use Rattle.atomic_table.proofs.Lists.{exchanged, set_else}
 use Rattle.rp_journals.proofs.Growing.{later_refl, some_node}
-use Rattle.rp_journals.proofs.Lists.{set_same, set_other}
+use Rattle.rp_journals.proofs.Lists.{set_other}
 use Rattle.rp_events.specs.Nodes.{Node}
 use Rattle.rp_events.specs.Worlds.{World, node_of}
 use Rattle.rp_events.specs.Lawful.{IsReached}
 use Rattle.rp_race.specs.Gives.{AllSeen, WasSeen}
 use Rattle.rp_node.specs.Steps.{Held}
 use Rattle.rp_switch.specs.declared.slots.Slot.{Slot}
-use Rattle.rp_switch.specs.declared.slots.Slot.TheVariants.{Nothing, Body, Reply}
+use Rattle.rp_switch.specs.declared.slots.Slot.TheVariants.{Body}
 use Rattle.rp_switch.specs.declared.terms.Terms.{Terms}
-use Rattle.rp_switch.specs.Views.{Right, Stage, Idle, HasNode, HasCell, Chooses, Look, Found, Knowledge, right_at, noting, taking}
-use Rattle.rp_switch.specs.Rules.{Phase, home, out, Cell, empty, full, taken, node_word, cell_word, clients_of, size_of, InPhase, InCell, IsNow, HasIt, AtStage, RightOf, IsWhole, Knows, weight, right_on, IsWith, Kept}
+use Rattle.rp_switch.specs.Views.{Stage, Idle, HasNode, HasCell, Chooses, Found, Knowledge, noting, taking}
+use Rattle.rp_switch.specs.Rules.{Phase, home, out, Cell, node_word, InPhase, IsNow, AtStage, Knows, IsWith, Kept}
 use Rattle.rp_switch.specs.Plays as plays
 use Rattle.rp_switch.specs.Plays.{Standing}
 use Rattle.rp_switch.proofs.Places.{put, put_here, put_else, at_put}
@@ -127,7 +127,7 @@ module _ {E : Type 0} where
         };
         rights = known.rights;
         spent = λ none_left. absurd (omega (arith, none_left, some_part));
-        whole = λ _. record { terms = whole.terms; seen = sees t.nodes v.seen k.world place x.node low k.reached has whole.seen; rights = whole.rights };
+        whole = λ _. record { terms = whole.terms; seen = sees t.nodes v.seen k.world place x.node low k.reached has whole.seen; rights = whole.rights; heard = whole.heard };
       })
       (λ j u away e. knows_away t k.world place j (out id) u (away_from j) (k.each_seat j u e))
       (λ q j. at_put (λ y (p : Phase). p ≡ out j → IsWith (set s.views id w) y j) k.phases place (out id) q
@@ -158,6 +158,6 @@ module _ {E : Type 0} where
         keeps,
         tt,
         stands t s id place me.0 w k at refl (λ j. refl) (λ y world is. is)
-            (record { stage = known.stage; rights = known.rights; spent = λ none_left. absurd (omega (arith, none_left, some_part)); whole = λ p. let h = known.whole p in record { terms = h.terms; seen = h.seen; rights = h.rights } }),
+            (record { stage = known.stage; rights = known.rights; spent = λ none_left. absurd (omega (arith, none_left, some_part)); whole = λ p. let h = known.whole p in record { terms = h.terms; seen = h.seen; rights = h.rights; heard = h.heard } }),
         ((λ hit. absurd (miss hit)), (λ _. ((k.nodes place low).0 ∙ is_taken (k.phases place) (λ e. miss ((k.nodes place low).0 ∙ e)), refl, refl))),
       ))

@@ -1,22 +1,21 @@
 -- What a gift makes of the world.
-use Rattle.std.proofs.Common.{◌≡◌, ◌≢◌, ◌⊎◌, inl, inr, ⊎_elim, ℕ, zero, suc, ◌+◌, ◌-◌, ◌<◌, ◌≤◌, Bool, true, false, not, List, [], ◌∷◌, ◌++◌, length, refl, ap, sym, ◌∙◌, arith, subst, slice_get, Option, Some, None}
+use Rattle.std.proofs.Common.{◌≡◌, ◌≢◌, ◌⊎◌, inl, inr, ⊎_elim, ℕ, suc, Bool, true, false, List, [], ◌∷◌, ◌++◌, refl, ap, sym, ◌∙◌, arith, subst, slice_get, Some}
 use mathlib.Core.Logic.{dite}
 use native.Mathlib.Decide.{ℕ_discrete}
-use Rattle.rp_clients.specs.Tries.{Try}
 use Rattle.rp_events.specs.Nodes.{Node}
 use Rattle.rp_events.specs.Worlds.{World, Happening, Round, node_of, run}
 use Rattle.rp_events.specs.Lawful.{AllLawful, IsReached, IsLater}
 use Rattle.rp_journals.specs.Asked.{all_at, AskedOnce}
 use Rattle.rp_journals.specs.Elsewhere.{IsAhead}
-use Rattle.rp_journals.proofs.Growing.{later_grows, later_trans, reached_later, one_node}
-use Rattle.rp_race.specs.Gives.{Tried, AllSeen, AllMayTry, IsPart, MayEnd, AdmitsWell, GoesWell, tried_after, admitted_after, after_round}
+use Rattle.rp_journals.proofs.Growing.{later_grows, reached_later, one_node}
+use Rattle.rp_race.specs.Gives.{Tried, AllSeen, AllMayTry, IsPart, MayEnd, tried_after, admitted_after, after_round}
 use Rattle.rp_race.specs.Played.{IsTriesOf}
 use Rattle.rp_race.specs.Race.{IsRace}
 use Rattle.rp_race.specs.Rounds.{between, stage_of}
 use Rattle.rp_switch.specs.declared.terms.Terms.{Terms}
-use Rattle.rp_switch.specs.Views.{Right, Lacks, Tries, Rounds, BrokenOff, Knowledge, right_at}
+use Rattle.rp_switch.specs.Views.{Rounds, Knowledge, right_at}
 use Rattle.rp_switch.specs.Gifts.{tries_given, is_broken_off, tries_known, CarriesClient, AreAdmissions, IsRound, IsBrokenRound, IsGift, admissions, whole, broken_off}
-use Rattle.rp_switch.proofs.Given.{Quiet, quiet_trans, quiet_given, others_stay, stands_between, admissions_extend, given_tries, untouched, may_indeed, Agree}
+use Rattle.rp_switch.proofs.Given.{quiet_trans, quiet_given, others_stay, stands_between, admissions_extend, given_tries, untouched, may_indeed, Agree}
 use Rattle.rp_switch.proofs.Quiet.{quiet_part, quiet_end}
 use Rattle.rp_switch.proofs.Places.{put, put_here, put_else}
 use Rattle.rp_race.proofs.Keeping as keeping

@@ -1,6 +1,5 @@
 -- What lies in the slots of a switch as it is closed (this project).
 use Rattle.std.specs.Prelude.{◌≡◌, ℕ, zero, suc, ◌<◌, ◌≤◌, Bool, true, false, List, [], ◌∷◌, ◌++◌, slice_index_or}
-use Rattle.rp_clients.specs.declared.answers.Answer.{Answer}
 use Rattle.rp_node.specs.Steps.{Held}
 use Rattle.rp_switch.specs.declared.slots.Slot.{Slot}
 use Rattle.rp_switch.specs.declared.slots.Slot.TheVariants.{Nothing, Body, Reply}

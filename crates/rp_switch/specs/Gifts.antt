@@ -1,10 +1,9 @@
 -- What a seat may give back of a node that it took (this project).
-use Rattle.std.specs.Prelude.{◌≡◌, ℕ, suc, ◌+◌, ◌-◌, Bool, true, false, not, ◌==◌, if◌then◌else◌, List, [], ◌∷◌, drop, fold, length, slice_get, Option, None, Some}
-use Rattle.rp_base.specs.declared.ids.CmdId.{CmdId}
+use Rattle.std.specs.Prelude.{◌≡◌, ℕ, suc, ◌+◌, ◌-◌, Bool, true, false, not, ◌==◌, if◌then◌else◌, List, [], ◌∷◌, drop, length, slice_get, Some}
 use Rattle.rp_events.specs.declared.answers.EventAnswer.{EventAnswer}
 use Rattle.rp_events.specs.declared.journals.JournalEntry.{JournalEntry}
 use Rattle.rp_events.specs.declared.journals.PastEvent.{PastEvent}
-use Rattle.rp_events.specs.declared.journals.PastEvent.TheVariants.{Admit, Ask, Transfer, Collect, Flush, Tick, Deliver, Apply, Cut, Remove, Peek, Restart, Round}
+use Rattle.rp_events.specs.declared.journals.PastEvent.TheVariants.{Admit}
 use Rattle.rp_events.specs.Nodes.{Node}
 use Rattle.rp_events.specs.Worlds as worlds
 use Rattle.rp_events.specs.Worlds.{World, Happening}

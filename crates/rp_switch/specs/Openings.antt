@@ -1,10 +1,9 @@
 -- A switch as it is made (this project).
-use Rattle.std.specs.Prelude.{◌≡◌, ℕ, ◌+◌, List, ◌++◌, length, map, replicate}
-use Rattle.rp_events.specs.Nodes.{Node}
+use Rattle.std.specs.Prelude.{◌≡◌, ℕ, List, ◌++◌, length, map, replicate}
 use Rattle.rp_events.specs.Worlds.{World, first_world}
 use Rattle.rp_node.specs.Steps.{Held}
 use Rattle.rp_switch.specs.declared.slots.Slot.{Slot}
-use Rattle.rp_switch.specs.declared.slots.Slot.TheVariants.{Nothing, Body, Reply}
+use Rattle.rp_switch.specs.declared.slots.Slot.TheVariants.{Nothing, Body}
 
 -- the nodes, and an empty cell for each client
 abbrev pub first_slots : {E : Type 0} → List (Held E) → (clients : ℕ) → List (Slot E)

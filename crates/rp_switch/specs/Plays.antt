@@ -1,5 +1,5 @@
 -- What each step on the words of a switch tells (this project).
-use Rattle.std.specs.Prelude.{◌≡◌, ◌≢◌, ℕ, suc, ◌+◌, ◌-◌, ◌≤◌, if◌then◌else◌, ◌==◌, ◌&&◌, List, [], ◌∷◌, ◌++◌, slice_get, slice_index_or, slice_set, Some}
+use Rattle.std.specs.Prelude.{◌≡◌, ◌≢◌, ℕ, suc, ◌-◌, if◌then◌else◌, ◌==◌, ◌&&◌, ◌∷◌, slice_get, slice_set, Some}
 use Rattle.atomic_table.specs.Table.{Me, Step, rest}
 use Rattle.rp_clients.specs.declared.answers.Answer.{Answer}
 use Rattle.rp_events.specs.Nodes.{Node}
@@ -9,7 +9,7 @@ use Rattle.rp_node.specs.Steps.{Held}
 use Rattle.rp_switch.specs.declared.slots.Slot.{Slot}
 use Rattle.rp_switch.specs.declared.slots.Slot.TheVariants.{Nothing, Body, Reply}
 use Rattle.rp_switch.specs.Rules.{IsTrueOf, IsNow}
-use Rattle.rp_switch.specs.Views.{Right, Lacks, Tries, Rounds, BrokenOff, Idle, Choice, OfClient, OfWorker, Look, Found, Knowledge, by_place, noting, taking, reaching, fetching, at_rest, choosing}
+use Rattle.rp_switch.specs.Views.{Right, Lacks, Tries, Rounds, BrokenOff, Idle, OfClient, OfWorker, Found, Knowledge, by_place, noting, taking, reaching, fetching, posting, at_rest, choosing}
 
 -- a seat between two steps: what it knows, and the slots that are out with it
 abbrev pub Standing : Type 0 → Type 0
@@ -61,7 +61,12 @@ fetched s m found m' =
     × (m'.0 ≡ fetching s.word (s.word - m.0.terms.nodes) a m.0) × (m'.1 ≡ (s.word, Reply a) ∷ m.1))
     × (found ≢ 1 → (m'.0 ≡ noting (Found s.word found) m.0) × (m'.1 ≡ m.1))
 
--- the cell goes home with what lies in it
+-- the cell goes home with the answer that lies in it
+abbrev pub posted : {E : Type 0} → Step (Slot E) → Standing E → ℕ → Standing E → Type 0
+posted s m found m' =
+    (a : Answer) → m.1 ≡ (s.word, Reply a) ∷ rest m.1 → (m'.0 ≡ posting s.word a m.0) × (m'.1 ≡ rest m.1)
+
+-- the cell goes home, empty
 abbrev pub left_cell : {E : Type 0} → Step (Slot E) → Standing E → ℕ → Standing E → Type 0
 left_cell s m found m' = (m'.0 ≡ at_rest m.0) × (m'.1 ≡ rest m.1)
 

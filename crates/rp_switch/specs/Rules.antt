@@ -1,6 +1,6 @@
 -- The rule of a switch: its words, what lies in its slots and all seats show one reached world, which is
 -- that of a race (this project).
-use Rattle.std.specs.Prelude.{◌≡◌, ℕ, suc, ◌+◌, ◌-◌, ◌<◌, ◌≤◌, Bool, true, false, List, [], ◌∷◌, ◌++◌, length, replicate, sum_by, slice_get, slice_index, Option, Some, None}
+use Rattle.std.specs.Prelude.{◌≡◌, ℕ, suc, ◌+◌, ◌-◌, ◌<◌, ◌≤◌, Bool, false, List, [], ◌++◌, length, replicate, sum_by, slice_get, slice_index, Some}
 use mathlib.Core.Option as maybe
 use lib.ListN.{get_elem?}
 use Rattle.atomic_table.specs.Table.{State}
@@ -98,12 +98,17 @@ RightOf t tries broken k (Tries ts) = (t.nodes ≤ k) × (tries (suc (k - t.node
 RightOf t tries broken k Rounds = (k < t.nodes) × (broken (suc k) ≡ false)
 RightOf t tries broken k BrokenOff = k < t.nodes
 
+-- what joined seats had seen is past
+abbrev pub AllHeard : (nodes : ℕ) → List World → World → Type 0
+AllHeard nodes joined w = (k : ℕ) (seen : World) → slice_get joined k ≡ Some seen → AllSeen nodes seen w
+
 -- a seat that is not spent knows what the switch is made for and of each right whether it carries it,
 -- and has seen each node
 pub record IsWhole (t : Terms) (w : World) (v : Knowledge) : Type 0 where
   pub terms : v.terms ≡ t
   pub seen : AllSeen t.nodes v.seen w
   pub rights : length v.rights ≡ size_of t
+  pub heard : AllHeard t.nodes v.joined w
 
 -- what a seat knows is so
 pub record Knows (t : Terms) (w : World) (tries : Tried) (broken : ℕ → Bool) (phases : ℕ → Phase)
@@ -164,4 +169,5 @@ first t = record {
   seen = first_world t.nodes;
   rights = replicate t.nodes Rounds ++ replicate (clients_of t) (Tries []);
   looks = [];
+  joined = [];
 }

@@ -1,22 +1,22 @@
 -- What a clause says of a switch and of its seats (this project).
-use Rattle.std.specs.Prelude.{◌≡◌, ◌≢◌, ℕ, suc, ◌+◌, ◌-◌, ◌%◌, ◌<◌, ◌≤◌, Bool, true, false, List, [], ◌∷◌, ◌++◌, length, map, slice_get, Some, Result, Ok, Err}
+use Rattle.std.specs.Prelude.{◌≡◌, ◌≢◌, ℕ, ◌+◌, ◌-◌, ◌%◌, ◌<◌, ◌≤◌, Bool, true, false, List, slice_get, Some, Result, Ok, Err}
 use Rattle.rp_bufcore.specs.declared.ends.BufferEnd.{Ghosts}
 use Rattle.rp_clients.specs.declared.answers.Answer.{Answer}
 use Rattle.rp_clients.specs.declared.answers.Empty.{Empty}
 use Rattle.rp_events.specs.Worlds.{World}
 use Rattle.rp_events.specs.Lawful.{IsReached}
 use Rattle.rp_events.specs.Nodes.{Node}
+use Rattle.rp_race.specs.Gives.{AllSeen}
 use Rattle.rp_race.specs.Played.{IsTriesOf}
 use Rattle.rp_race.specs.Race.{IsRace}
-use Rattle.rp_node.specs.Steps.{Held}
 use Rattle.rp_switch.specs.declared.switch.Switch.{Switch}
 use Rattle.rp_switch.specs.declared.switch.Seat.{Seat}
 use Rattle.rp_switch.specs.declared.switch.Taken.{Taken}
 use Rattle.rp_switch.specs.declared.faults.Busy.{Busy}
 use Rattle.rp_switch.specs.declared.faults.CellBusy.{CellBusy}
 use Rattle.rp_switch.specs.declared.terms.Terms.{Terms}
-use Rattle.rp_switch.specs.Rules.{IsNow, IsTrueOf, clients_of}
-use Rattle.rp_switch.specs.Views.{Stage, Idle, HasNode, HasCell, Chooses, Right, Lacks, Tries, Rounds, BrokenOff, Look, Found, Fetched, Knowledge, right_at, noting, taking, reaching, fetching, choosing, at_rest}
+use Rattle.rp_switch.specs.Rules.{AllHeard, IsNow, IsTrueOf, clients_of}
+use Rattle.rp_switch.specs.Views.{Right, Lacks, Tries, Rounds, BrokenOff, Found, Knowledge, right_at, noting, taking, reaching, fetching, posting, at_rest}
 use Rattle.rp_switch.specs.Gifts.{CarriesClient, tries_known}
 use Rattle.rp_switch.specs.Plays.{giving}
 
@@ -53,9 +53,10 @@ GivesBack v number after w =
 
 -- What a try to post tells: the exchange of the cell's word found the cell empty, and the answer lies there;
 -- or it found another word than that of an empty cell.
-abbrev pub Posts : Knowledge → (client : ℕ) → Result (Unit {0}) CellBusy → Knowledge → Type 0
-Posts v client (Ok done) w = w ≡ at_rest (reaching (v.terms.nodes + client - 1) (client - 1) v)
-Posts v client (Err busy) w = (found : ℕ) × (found ≢ 0) × (w ≡ noting (Found (v.terms.nodes + client - 1) found) v)
+abbrev pub Posts : Knowledge → (client : ℕ) → Answer → Result (Unit {0}) CellBusy → Knowledge → Type 0
+Posts v client answer (Ok done) w =
+    w ≡ posting (v.terms.nodes + client - 1) answer (reaching (v.terms.nodes + client - 1) (client - 1) v)
+Posts v client answer (Err busy) w = (found : ℕ) × (found ≢ 0) × (w ≡ noting (Found (v.terms.nodes + client - 1) found) v)
 
 -- What a try to fetch tells: the exchange found the cell full, and the answer that lay there is true; where
 -- it tells an end, the client's right has learnt it. Or it found another word than that of a full cell.
@@ -86,8 +87,11 @@ is_broken BrokenOff = true
 -- What the last seat knows of the nodes at the close: they are those of a reached world, which is that of
 -- a race, but for a last round of each node whose right says that one was broken off; and what it keeps of
 -- each client's tries is all that the journals have.
+-- All that it saw, and that each seat saw that was joined to it, is past there.
 pub record Closes (v : Knowledge) (nodes : List Node) : Type 0 where
   pub reached : IsReached v.terms.nodes nodes
   pub race : IsRace v.terms.rules (λ node. is_broken (right_at v.rights (node - 1))) nodes
+  pub past : AllSeen v.terms.nodes v.seen nodes
+  pub heard : AllHeard v.terms.nodes v.joined nodes
   pub carries : (client : ℕ) → 1 ≤ client → client ≤ clients_of v.terms → CarriesClient v client
   pub tries : (client : ℕ) → CarriesClient v client → IsTriesOf v.terms.rules nodes client (tries_known v client)

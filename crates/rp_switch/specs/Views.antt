@@ -1,5 +1,5 @@
 -- What a seat of a switch knows (this project).
-use Rattle.std.specs.Prelude.{ℕ, suc, ◌+◌, ◌-◌, Bool, true, false, if◌then◌else◌, ◌==◌, ◌%◌, ◌&&◌, nat_lt, List, [], ◌∷◌, ◌++◌, slice_index_or, slice_set}
+use Rattle.std.specs.Prelude.{ℕ, suc, ◌+◌, ◌-◌, Bool, false, if◌then◌else◌, ◌==◌, ◌%◌, ◌&&◌, nat_lt, List, [], ◌∷◌, ◌++◌, slice_index_or, slice_set}
 use Rattle.rp_base.specs.declared.ids.CmdId.{CmdId}
 use Rattle.rp_request.specs.declared.outcomes.Outcome.{Outcome}
 use Rattle.rp_clients.specs.Tries.{Try, learns}
@@ -32,14 +32,15 @@ pub data Stage : Type 0 where
   Chooses : Choice → Stage
 
 -- what one step told: what the word with this place was as an exchange came to it, or which answer lay
--- in a client's cell
+-- in a client's cell when it was fetched, or was posted there
 pub data Look : Type 0 where
   Found : (word found : ℕ) → Look
   Fetched : (place : ℕ) → Answer → Look
+  Posted : (word : ℕ) → Answer → Look
 
 -- what the switch is made for; the seat's parts of the right to close it; where it stands; each node as
 -- it was when the seat last took it; its rights, those of the nodes' rounds first, then those of the
--- clients; and what its steps told, in order
+-- clients; what its steps told, in order; and what the seats had seen that were joined to it
 pub record Knowledge : Type 0 where
   pub terms : Terms
   pub parts : ℕ
@@ -47,6 +48,7 @@ pub record Knowledge : Type 0 where
   pub seen : World
   pub rights : List Right
   pub looks : List Look
+  pub joined : List World
 
 -- how many parts the first seat has. Each seat has at least one, so one with all is the only one
 abbrev pub all_parts : ℕ
@@ -64,6 +66,7 @@ nothing_known = record {
   seen = [];
   rights = [];
   looks = [];
+  joined = [];
 }
 
 abbrev pub right_at : List Right → ℕ → Right
@@ -145,6 +148,10 @@ fetching word place a v = record v {
 abbrev pub at_rest : Knowledge → Knowledge
 at_rest v = record v { stage = Idle }
 
+-- the answer lies in the cell, which goes home
+abbrev pub posting : (word : ℕ) → Answer → Knowledge → Knowledge
+posting word a v = record v { stage = Idle; looks = v.looks ++ Posted word a ∷ [] }
+
 abbrev pub choosing : Choice → Knowledge → Knowledge
 choosing choice v = record v { stage = Chooses choice }
 
@@ -162,12 +169,14 @@ right v = record v {
   stage = Idle;
   rights = chosen (is_chosen v.terms.nodes v.stage) v.rights;
   looks = [];
+  joined = [];
 }
 
--- parts and rights of two seats in one, which has seen what the first has
+-- parts and rights of two seats in one, which has seen what the first has, and keeps what the other had
 abbrev pub both : Knowledge → Knowledge → Knowledge
 both v w = record v {
   parts = v.parts + w.parts;
   rights = together v.rights w.rights;
   looks = v.looks ++ w.looks;
+  joined = v.joined ++ w.seen ∷ w.joined;
 }

@@ -5,7 +5,7 @@ ghost use Rattle.rp_switch.specs.Seats.{terms_of, known_by, IsSeatOf, IsSame, Po
 ghost use Rattle.rp_switch.specs.Views.{Idle};
 
 use crate::faults::CellBusy;
-use crate::plays::{Fetch, Leave, Reach};
+use crate::plays::{Fetch, Leave, Post, Reach};
 use crate::slots::Slot;
 use crate::switch::{Seat, Switch};
 use rp_bufcore::BufferEnd;
@@ -30,7 +30,7 @@ impl<E: BufferEnd + Drop> Switch<E> {
         requires idle { (known_by seat.old).stage ≡ Idle }
         requires true_of { IsTrueOf (terms_of self.now) (known_by seat.old).seen client answer }
         ensures same { IsSame seat.old seat.new }
-        ensures told { Posts (known_by seat.old) client result (known_by seat.new) }
+        ensures told { Posts (known_by seat.old) client answer result (known_by seat.new) }
     {
         let shared = &self.table.shared;
         let cell = self.nodes + usize::from(client) - 1;
@@ -39,7 +39,7 @@ impl<E: BufferEnd + Drop> Switch<E> {
             return Err(CellBusy);
         }
         shared.exchange(&mut seat.seat, cell, Slot::Reply(answer));
-        shared.swap::<Leave>(&mut seat.seat, cell, FULL);
+        shared.swap::<Post>(&mut seat.seat, cell, FULL);
         Ok(())
     }
 

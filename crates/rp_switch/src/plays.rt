@@ -40,7 +40,16 @@ impl<E: BufferEnd + Drop> Play<Slot<E>, Known> for Fetch {
     ghost then = { fetched };
 }
 
-/// The swap of a cell's word after which the cell is full, or empty.
+/// The swap of a cell's word after which the cell is full.
+pub(crate) struct Post;
+
+impl<E: BufferEnd + Drop> Play<Slot<E>, Known> for Post {
+    ghost use Rattle.rp_switch.specs.Plays.{posted};
+
+    ghost then = { posted };
+}
+
+/// The swap of a cell's word after which the cell is empty.
 pub(crate) struct Leave;
 
 impl<E: BufferEnd + Drop> Play<Slot<E>, Known> for Leave {

@@ -1,5 +1,5 @@
-use Rattle.std.proofs.Common.{◌≡◌, ℕ, ◌+◌, ◌<◌, ◌≤◌}
-use Rattle.std.specs.Slots.{slots_items, slots_filled, slots_len}
+use Rattle.std.proofs.Common.{◌≡◌}
+use Rattle.std.specs.Slots.{slots_filled, slots_len}
 use Rattle.rp_switch.specs.Closings.{IsEmptiedTo}
 use Rattle.rp_switch.proofs.closes.drop_cells.Given as goal
 

@@ -1,7 +1,7 @@
-use Rattle.std.proofs.Common.{rules, ◌≡◌, ℕ, ◌+◌, ◌<◌, ◌≤◌, ◌++◌, List, slice_index_or, arith, subst, sym, ap, ◌∙◌, refl}
+use Rattle.std.proofs.Common.{ℕ, ◌+◌, ◌++◌, slice_index_or, arith, subst, sym, ap, ◌∙◌, refl}
 use Rattle.std.specs.Slots.{slots_items, slots_filled, slots_len}
 use Rattle.rp_switch.specs.declared.slots.Slot.TheVariants.{Nothing}
-use Rattle.rp_switch.specs.Closings.{body_in, bodies, IsEmptiedTo}
+use Rattle.rp_switch.specs.Closings.{body_in, IsEmptiedTo}
 use Rattle.rp_switch.proofs.Closing.{bodies_none, bodies_next, emptied_next}
 use Rattle.rp_switch.proofs.closes.take_nodes.Goals as goal
 

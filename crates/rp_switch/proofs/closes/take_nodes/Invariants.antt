@@ -1,4 +1,4 @@
-use Rattle.std.proofs.Common.{◌≡◌, ℕ, ◌+◌, ◌<◌, ◌≤◌, ◌++◌}
+use Rattle.std.proofs.Common.{◌≡◌, ◌+◌, ◌≤◌, ◌++◌}
 use Rattle.std.specs.Slots.{slots_items, slots_filled, slots_len}
 use Rattle.rp_switch.specs.Closings.{bodies, IsEmptiedTo}
 use Rattle.rp_switch.proofs.closes.take_nodes.Given as goal

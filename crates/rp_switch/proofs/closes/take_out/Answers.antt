@@ -1,5 +1,4 @@
-use Rattle.std.proofs.Common.{rules, ◌≡◌, ℕ, ◌+◌, ◌<◌, ◌≤◌, ◌++◌, sym, ap, ◌∙◌}
-use Rattle.std.specs.Slots.{slots_items, slots_filled, slots_len}
+use Rattle.std.specs.Slots.{slots_items}
 use Rattle.rp_switch.proofs.Closing.{body_there, nothing_there, reply_there}
 use Rattle.rp_switch.proofs.closes.take_out.Goals as goal
 

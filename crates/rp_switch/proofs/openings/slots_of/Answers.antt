@@ -1,4 +1,4 @@
-use Rattle.std.proofs.Common.{rules, ◌≡◌, ◌++◌, map, replicate, ap, sym, ◌∙◌}
+use Rattle.std.proofs.Common.{rules, ◌∙◌}
 use Rattle.rp_switch.proofs.Opening.{one_more, no_cell}
 use Rattle.rp_switch.proofs.openings.slots_of.Goals as goal
 

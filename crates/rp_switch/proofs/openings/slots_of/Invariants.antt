@@ -1,5 +1,4 @@
-use Rattle.std.proofs.Common.{◌≡◌, ◌++◌, map, replicate}
-use Rattle.rp_switch.specs.declared.slots.Slot.TheVariants.{Nothing, Body}
+use Rattle.std.proofs.Common.{◌≡◌}
 use Rattle.rp_switch.specs.Openings.{first_slots}
 use Rattle.rp_switch.proofs.openings.slots_of.Given as goal
 

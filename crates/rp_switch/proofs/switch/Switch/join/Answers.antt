@@ -1,5 +1,4 @@
-use Rattle.std.proofs.Common.{rules, ◌≡◌, ℕ, ◌+◌, ◌<◌, ◌≤◌, arith, subst, sym, ap, ◌∙◌}
-use Rattle.rp_switch.specs.Views.{Stage}
+use Rattle.std.proofs.Common.{arith, ap, ◌∙◌}
 use Rattle.rp_switch.specs.Calm.{slots_at}
 use Rattle.rp_switch.proofs.Parting.{joins}
 use Rattle.rp_switch.proofs.switch.Switch.join.Goals as goal

@@ -1,6 +1,5 @@
-use Rattle.std.proofs.Common.{rules, ◌≡◌, ℕ, ◌+◌, ◌<◌, ◌≤◌, arith, subst, sym, ap, ◌∙◌}
-use Rattle.rp_switch.specs.Views.{Stage, Knowledge}
-use Rattle.rp_switch.specs.Calm.{slots_at}
+use Rattle.std.proofs.Common.{◌≤◌, arith, subst, sym, ap, ◌∙◌}
+use Rattle.rp_switch.specs.Views.{Knowledge}
 use Rattle.rp_switch.proofs.Parting.{chooses_client, splits}
 use Rattle.rp_switch.proofs.switch.Switch.split.Goals as goal
 

@@ -1,8 +1,7 @@
-use Rattle.std.proofs.Common.{rules, ◌≡◌, ◌≢◌, ℕ, ◌+◌, ◌-◌, ◌*◌, ◌<◌, ◌≤◌, suc, arith, subst, sym, ap, ◌∙◌, refl}
-use Rattle.rp_switch.specs.Calm.{is_calm, slots_at}
+use Rattle.std.proofs.Common.{rules, ◌≡◌, ◌≢◌, ℕ, ◌+◌, ◌-◌, suc, arith, ap, ◌∙◌}
 use Rattle.rp_switch.specs.declared.terms.Terms.{Terms}
-use Rattle.rp_switch.specs.Views.{Stage, Idle, Look, Found, Knowledge, noting, reaching, at_rest}
-use Rattle.rp_switch.proofs.Calls.{fetches_at, fetch_top, fetched_is, clear_ready, fetch_done, lay_there}
+use Rattle.rp_switch.specs.Views.{Found, noting}
+use Rattle.rp_switch.proofs.Calls.{fetches_at, fetch_top, fetched_is, clear_ready}
 use Rattle.rp_switch.proofs.switch.Switch.try_fetch.Goals as goal
 
 pub compare_exchange-found-requires : goal.compare_exchange-found-requires

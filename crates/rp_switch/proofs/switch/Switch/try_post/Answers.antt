@@ -1,7 +1,7 @@
-use Rattle.std.proofs.Common.{rules, ◌≡◌, ◌≢◌, ℕ, ◌+◌, ◌-◌, ◌*◌, ◌<◌, ◌≤◌, suc, arith, subst, sym, ap, ◌∙◌, refl}
+use Rattle.std.proofs.Common.{rules, ◌≡◌, ◌≢◌, ℕ, ◌+◌, ◌-◌, ◌<◌, arith, subst, sym, ap, ◌∙◌}
 use Rattle.rp_switch.specs.Calm.{is_calm, slots_at}
 use Rattle.rp_switch.specs.declared.terms.Terms.{Terms}
-use Rattle.rp_switch.specs.Views.{Stage, Idle, Look, Found, Knowledge, noting, reaching, at_rest}
+use Rattle.rp_switch.specs.Views.{Found, Knowledge, noting, reaching, posting}
 use Rattle.rp_switch.proofs.Calls.{reaches_at, reach_top, reached_is, post_ready, post_done}
 use Rattle.rp_switch.proofs.switch.Switch.try_post.Goals as goal
 
@@ -54,6 +54,26 @@ swap-requires g c =
           c.requires.true_of c.args.seat.now.has_part,
     )
 
+pub invariant_of-seat-2 : goal.invariant_of-seat-2
+invariant_of-seat-2 g c =
+    let r = reached_is c.args.seat.now.seat.me c.compare_exchange-found.new.seat.me c.args.self.now.table.shared.table_id.slots (c.args.self.now.nodes + c.from.result - 1) c.compare_exchange-found.result
+    c.compare_exchange-found.ensures.2 (search rules) in
+    let is = post_done c.args.self.now.table.shared.table_id.slots (c.args.self.now.nodes + c.from.result - 1) c.args.answer c.args.seat.now.seat.me c.compare_exchange-found.new.seat.me c.exchange.new.seat.me c.swap.new.seat.me c.swap.result
+    c.args.seat.now.slots c.requires.idle r c.exchange.ensures.3 c.swap.ensures.2 in
+    record {
+      calm = ap (λ (v : Knowledge). is_calm v.stage) is.known;
+      slots = is.none ∙ sym (ap (λ (v : Knowledge). slots_at v.stage) is.known);
+      has_part = subst (λ (v : Knowledge). 0 < v.parts) (sym is.known) c.args.seat.now.has_part;
+    }
+
+pub returns-clause-same : goal.returns-clause-same
+returns-clause-same g c =
+    let r = reached_is c.args.seat.now.seat.me c.compare_exchange-found.new.seat.me c.args.self.now.table.shared.table_id.slots (c.args.self.now.nodes + c.from.result - 1) c.compare_exchange-found.result
+    c.compare_exchange-found.ensures.2 (search rules) in
+    let is = post_done c.args.self.now.table.shared.table_id.slots (c.args.self.now.nodes + c.from.result - 1) c.args.answer c.args.seat.now.seat.me c.compare_exchange-found.new.seat.me c.exchange.new.seat.me c.swap.new.seat.me c.swap.result
+    c.args.seat.now.slots c.requires.idle r c.exchange.ensures.3 c.swap.ensures.2 in
+    (c.swap.ensures.0 ∙ c.exchange.ensures.0 ∙ c.compare_exchange-found.ensures.0, ap (λ (v : Knowledge). v.terms) is.known)
+
 pub returns-clause-told : goal.returns-clause-told
 returns-clause-told g c =
     let nodes = c.args.self.now.nodes_are in
@@ -64,4 +84,4 @@ returns-clause-told g c =
     c.compare_exchange-found.ensures.2 (search rules) in
     let is = post_done c.args.self.now.table.shared.table_id.slots (c.args.self.now.nodes + c.from.result - 1) c.args.answer c.args.seat.now.seat.me c.compare_exchange-found.new.seat.me c.exchange.new.seat.me c.swap.new.seat.me c.swap.result
     c.args.seat.now.slots c.requires.idle r c.exchange.ensures.3 c.swap.ensures.2 in
-    is.known ∙ ap (λ (w : ℕ). at_rest (reaching w (c.args.client - 1) c.args.seat.now.seat.me.0)) word
+    is.known ∙ ap (λ (w : ℕ). posting w c.args.answer (reaching w (c.args.client - 1) c.args.seat.now.seat.me.0)) word

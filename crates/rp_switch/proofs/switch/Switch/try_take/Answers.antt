@@ -1,5 +1,4 @@
-use Rattle.std.proofs.Common.{rules, ◌≡◌, ℕ, ◌+◌, ◌-◌, ◌*◌, ◌<◌, ◌≤◌, suc, arith, subst, sym, ap, ◌∙◌, refl}
-use Rattle.rp_switch.specs.Views.{Stage, Idle, Knowledge}
+use Rattle.std.proofs.Common.{rules, ◌-◌, arith, ◌∙◌}
 use Rattle.rp_switch.proofs.Taking.{takes_node}
 use Rattle.rp_switch.proofs.Calls.{top_is}
 use Rattle.rp_switch.proofs.switch.Switch.try_take.Goals as goal
