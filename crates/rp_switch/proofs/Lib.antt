@@ -1,0 +1,15 @@
+mod Rights
+mod Places
+mod Frames
+mod Lifts
+mod Taking
+mod Given
+mod Quiet
+mod Went
+mod Giving
+mod Posting
+mod Parting
+mod Opening
+mod Calls
+mod Closing
+pub mod Backing
