@@ -1,0 +1,5 @@
+//! Reports read back, worked.
+#![tactic(auto)]
+
+#[cfg(test)]
+mod reports;
