@@ -1,0 +1,5 @@
+//! Audits of reports, worked.
+#![tactic(auto)]
+
+#[cfg(test)]
+mod audits;
