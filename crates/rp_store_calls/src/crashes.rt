@@ -14,9 +14,8 @@ const MORE: [u8; 11] = [0, 0, 0, 0, 0, 0, 0, 2, 8, 9, 0];
 fn torn_behind(alloc: Global, len: usize, place: usize, byte: u8) -> Result<bool, NoMemory> {
     let mut file = Vec::from_slice(alloc, &ONE)?;
     file.extend_from_slice(&MORE[..len.min(MORE.len())])?;
-    let last = file.len();
-    if ONE.len() + place < last {
-        file[ONE.len() + place] = byte;
+    if let Some(there) = file.get_mut(ONE.len().saturating_add(place)) {
+        *there = byte;
     }
     Ok(rank_of(alloc, holding(alloc, &file)?, &[7], &[8, 9]) == 1)
 }
