@@ -14,7 +14,8 @@ use Rattle.rp_latch.specs.declared.index.Latch.{Latch}
 use Rattle.rp_latch.specs.Holds.{answer, met_in, held_or, held_by, conflict, refused_by}
 use Rattle.rp_latch.specs.declared.holds.Held.{Held}
 use Rattle.rp_latch.specs.Indexes.{hold_of, IsOlder, latch_meets, latch_meets_one, some_meet, IsClear, IsOldest, first_latch, latch_at, second_latch, passes, Lists}
-use Rattle.rp_latch.proofs.Elements.{or_false, left_false, right_false, any_same, any_or, any_less, any_counted, count_push}
+use Rattle.rp_base.proofs.Counts.{any_same, any_less, any_counted, count_push, any_or}
+use Rattle.rp_latch.proofs.Elements.{or_false, left_false, right_false}
 use Rattle.rp_latch.proofs.Order.{At, at_number}
 
 -- an index after one hold more, and after one less

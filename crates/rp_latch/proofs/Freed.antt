@@ -15,7 +15,8 @@ use Rattle.rp_base.proofs.IdLaws.{same_is}
 use Rattle.rp_base.specs.Ids.{same_id}
 use Rattle.rp_latch.specs.Holds.{is_of_other}
 use Rattle.rp_latch.specs.Indexes.{hold_of, has_id, first_latch, second_latch, latch_at, is_latch, IsThere, tag_of, passes, Lists}
-use Rattle.rp_latch.proofs.Elements.{left_false, right_false, both_true, any_of_count}
+use Rattle.rp_base.proofs.Counts.{any_of_count}
+use Rattle.rp_latch.proofs.Elements.{left_false, right_false, both_true}
 use Rattle.rp_latch.proofs.Conflicts.{lists_any}
 
 -- where no hold is the attempt's, all are others'

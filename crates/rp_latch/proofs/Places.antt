@@ -10,7 +10,8 @@ use Rattle.rp_base.specs.declared.spans.Span.{Span}
 use Rattle.rp_base.proofs.SpanLaws.{span_same}
 use Rattle.rp_latch.specs.declared.index.Latch.{Latch}
 use Rattle.rp_latch.specs.Indexes.{EndsBefore, InOrder, latch_meets, some_meet, is_latch, lesser, IsOldest}
-use Rattle.rp_latch.proofs.Elements.{left_true, right_true, both_true, none_at, same_read, any_less, any_more, any_same, any_or, pairs_insert}
+use Rattle.rp_base.proofs.Counts.{none_at, any_less, any_more, any_same, any_or}
+use Rattle.rp_latch.proofs.Elements.{left_true, right_true, both_true, same_read, pairs_insert}
 
 -- starts do not fall
 module _ (ls : List Latch) (h : InOrder ls) where

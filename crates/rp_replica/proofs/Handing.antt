@@ -18,7 +18,7 @@ use Rattle.rp_events.specs.declared.moves.Move.TheVariants.{HandsOut, GivesUp, T
 use Rattle.rp_events.specs.Moves.{hands_out, gives_up, takes_back, repeats, moved, moved_all, write_of}
 use Rattle.rp_events.specs.Replicas.{Told, lease_of}
 use Rattle.rp_replica.specs.Handing.{handed_by, id_by, payload_by, payloads_by, told_by, write_under, write_again}
-use Rattle.rp_replica.proofs.Lookups.{other_without, same_turned, other_turned}
+use Rattle.rp_pending.proofs.Lookups.{other_without, same_turned, other_turned}
 use Rattle.rp_replica.proofs.Moving.{handed, back, refused}
 
 -- the proposal with the id is there and passes a test

@@ -37,7 +37,8 @@ use Rattle.rp_seats.specs.Views.{read, payload_or}
 use Rattle.rp_seats.specs.Standing.{HasPlace, TellsPending, TellsOf, PendingOk}
 use Rattle.rp_seats.specs.Steps.{AllHappenAt, AdmitsNone, StepsTo, tell, told_after, IsEnd, EndEach, GivesAbove, IsSteps}
 use Rattle.rp_seats.proofs.Turns.{move_kept}
-use Rattle.rp_seats.proofs.Proposals.{none_without, other_without, distinct_left, held_left, distinct_turned, held_turned, same_turned, other_turned}
+use Rattle.rp_pending.proofs.Lookups.{other_without, same_turned, other_turned}
+use Rattle.rp_seats.proofs.Proposals.{none_without, distinct_left, held_left, distinct_turned, held_turned}
 
 -- the place of a proposal
 waiting_place : (s : places.Stage) (max : ℕ) (a : Attempt) → is_proposed s ≡ false → HasPlace s max a → a.stage ≡ Waiting
@@ -91,10 +92,10 @@ module _ (f : Attempts) (node : ℕ) (ps : List Proposal) (latches : List Hold) 
 
   module _ (id : CmdId) (g : Proposal → Proposal) (same : (p : Proposal) → (g p).id ≡ p.id) (asks : (p : Proposal) → (g p).request ≡ p.request) (p : Proposal) (found : proposal_of id ps ≡ Some p) where
     changed_tells : (a : Attempt) → TellsPending node a (g p) (told id) → TellsOf node a (proposal_of id (with_changed id g ps)) (told id)
-    changed_tells a h = subst (λ o. TellsOf node a o (told id)) (sym (same_turned g same asks id ps ∙ ap (option_map g) found)) h
+    changed_tells a h = subst (λ o. TellsOf node a o (told id)) (sym (same_turned g same id ps ∙ ap (option_map g) found)) h
 
     other_tells : (q : CmdId) → (q ≡ id → ⊥) → TellsOf node (f q) (proposal_of q (with_changed id g ps)) (told q)
-    other_tells q ne = subst (λ o. TellsOf node (f q) o (told q)) (sym (other_turned g same asks id q ps ne)) (ok.tells q)
+    other_tells q ne = subst (λ o. TellsOf node (f q) o (told q)) (sym (other_turned g same id q ps ne)) (ok.tells q)
 
     -- a proposal changes, with its attempt or without it
     pub turn_pending : (a : Attempt) → TellsPending node a (g p) (told id) → PendingOk (with_attempt f id a) node (with_changed id g ps) latches told

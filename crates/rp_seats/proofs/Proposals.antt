@@ -1,31 +1,21 @@
 -- What a list of proposals answers once one of them changed or ended.
 use Rattle.std.proofs.Common.{◌≡◌, Bool, true, false, cond, not, List, [], ◌∷◌, map, None, Some, refl, sym, ap, subst, ◌∙◌}
 use Rattle.std.specs.List.{filter}
-use Rattle.std.specs.Option.{option_map}
 use Rattle.rp_base.specs.declared.ids.CmdId.{CmdId}
-use Rattle.rp_base.specs.Ids.{same_id}
-use Rattle.rp_base.proofs.IdLaws.{same_is, same_back, apart_not_same}
+use Rattle.rp_base.proofs.IdLaws.{same_back}
 use Rattle.rp_latch.specs.Holds.{is_of_other}
 use Rattle.rp_request.specs.Covers.{spans_of}
 use Rattle.rp_pending.specs.declared.proposals.Proposal.{Proposal}
 use Rattle.rp_pending.specs.Proposals.{has_id, proposal_of, without, with_changed}
 use Rattle.rp_seats.specs.Standing.{hold_of, HasNone, AreDistinct}
 
--- the one that ended is not found, and each other one is as before
+-- the one that ended is not found
 pub none_without : (id : CmdId) (ps : List Proposal) → proposal_of id (without id ps) ≡ None
 none_without id [] = refl
 none_without id (p ∷ ps) = go (has_id id p) refl (none_without id ps) where
   go : (b : Bool) → has_id id p ≡ b → proposal_of id (without id ps) ≡ None → proposal_of id (cond (not b) (p ∷ without id ps) (without id ps)) ≡ None
   go true e ih = ih
   go false e ih = ap (λ b. cond b (Some p) (proposal_of id (without id ps))) e ∙ ih
-
-pub other_without : (id q : CmdId) (ps : List Proposal) → (q ≡ id → ⊥) → proposal_of q (without id ps) ≡ proposal_of q ps
-other_without id q [] ne = refl
-other_without id q (p ∷ ps) ne = go (has_id id p) refl (other_without id q ps ne) where
-  go : (b : Bool) → has_id id p ≡ b → proposal_of q (without id ps) ≡ proposal_of q ps
-      → proposal_of q (cond (not b) (p ∷ without id ps) (without id ps)) ≡ cond (has_id q p) (Some p) (proposal_of q ps)
-  go true e ih = ih ∙ sym (ap (λ b. cond b (Some p) (proposal_of q ps)) (apart_not_same q p.id (λ s. ne (s ∙ sym (same_is id p.id e)))))
-  go false e ih = ap (λ o. cond (has_id q p) (Some p) o) ih
 
 pub none_left : (id other : CmdId) (ps : List Proposal) → HasNone other ps → HasNone other (without id ps)
 none_left id other [] h = tt
@@ -72,23 +62,3 @@ module _ (g : Proposal → Proposal) (same : (p : Proposal) → (g p).id ≡ p.i
   pub held_turned : (ps : List Proposal) → map hold_of ps ≡ map hold_of (with_changed id g ps)
   held_turned [] = refl
   held_turned (p ∷ ps) = ap (λ h. h ∷ map hold_of ps) (hold_turned (has_id id p) p) ∙ ap (λ hs. hold_of (cond (has_id id p) (g p) p) ∷ hs) (held_turned ps)
-
-  -- it is found as it changed, and each other one is as before
-  pub same_turned : (ps : List Proposal) → proposal_of id (with_changed id g ps) ≡ option_map g (proposal_of id ps)
-  same_turned [] = refl
-  same_turned (p ∷ ps) = go (has_id id p) refl (same_turned ps) where
-    go : (b : Bool) → has_id id p ≡ b → proposal_of id (with_changed id g ps) ≡ option_map g (proposal_of id ps)
-        → cond (has_id id (cond b (g p) p)) (Some (cond b (g p) p)) (proposal_of id (with_changed id g ps)) ≡ option_map g (cond b (Some p) (proposal_of id ps))
-    go true e ih = ap (λ b. cond b (Some (g p)) (proposal_of id (with_changed id g ps))) (ap (same_id id) (same p) ∙ e)
-    go false e ih = ap (λ b. cond b (Some p) (proposal_of id (with_changed id g ps))) e ∙ ih
-
-  pub other_turned : (q : CmdId) (ps : List Proposal) → (q ≡ id → ⊥) → proposal_of q (with_changed id g ps) ≡ proposal_of q ps
-  other_turned q [] ne = refl
-  other_turned q (p ∷ ps) ne = go (has_id id p) refl (other_turned q ps ne) where
-    go : (b : Bool) → has_id id p ≡ b → proposal_of q (with_changed id g ps) ≡ proposal_of q ps
-        → cond (has_id q (cond b (g p) p)) (Some (cond b (g p) p)) (proposal_of q (with_changed id g ps)) ≡ cond (has_id q p) (Some p) (proposal_of q ps)
-    go false e ih = ap (λ o. cond (has_id q p) (Some p) o) ih
-    go true e ih =
-        let not_it : has_id q p ≡ false = apart_not_same q p.id (λ s. ne (s ∙ sym (same_is id p.id e))) in
-        ap (λ b. cond b (Some (g p)) (proposal_of q (with_changed id g ps))) (ap (same_id q) (same p) ∙ not_it)
-        ∙ ih ∙ sym (ap (λ b. cond b (Some p) (proposal_of q ps)) not_it)

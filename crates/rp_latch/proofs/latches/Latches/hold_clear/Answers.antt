@@ -6,7 +6,7 @@ use Rattle.rp_latch.specs.declared.ages.Numbered.{Numbered}
 use Rattle.rp_base.specs.Spans.{any_meet}
 use Rattle.rp_latch.specs.Holds.{answer}
 use Rattle.rp_latch.specs.Indexes.{IsOlder, AreApart, first_latch, second_latch, tag_of, Lists}
-use Rattle.rp_latch.proofs.Elements.{none_at}
+use Rattle.rp_base.proofs.Counts.{none_at}
 use Rattle.rp_latch.proofs.Conflicts.{none_held, none_meets, lists_more, first_clear, second_clear}
 use Rattle.rp_latch.proofs.latches.Latches.hold_clear.Goals as goal
 
