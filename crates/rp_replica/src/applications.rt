@@ -10,6 +10,7 @@ ghost use Rattle.rp_events.specs.Allows.{MayApply};
 ghost use Rattle.rp_replica.specs.Plans.{ApplicationFits, IsKnown, IsPlan, places_of, recorded, turned};
 ghost use Rattle.rp_replica.specs.Turns.{payload_told, payload_turn, told, told_of, turn, turn_by};
 
+use crate::boxed::Boxed;
 use crate::plans::{Application, ReplicaPlan, Turn};
 use crate::replicas::Replica;
 use rp_apply::check;
@@ -23,12 +24,12 @@ use rp_split::{RightStart, trigger};
 use std::alloc::Global;
 
 /// The payload that an entry of the log carries.
-fn payload_of(alloc: Global, entry: &Entry) -> Result<Payload, NoMemory>
+fn payload_of(alloc: Global, entry: &Entry) -> Result<Boxed<Payload>, NoMemory>
     requires { (p : Payload) × (payload_of (Some entry.now) ≡ Some p) }
     ensures { IfOk result (λ p. payload_of (Some entry.now) ≡ Some p) }
 {
     match decode(alloc, entry.payload.as_slice()) {
-        Ok(payload) => Ok(payload),
+        Ok(payload) => Boxed::new(alloc, payload),
         Err(DecodeFault::NoMemory) => Err(NoMemory),
         Err(DecodeFault::Bad { .. }) => unreachable!(),
     }
@@ -116,7 +117,7 @@ impl Replica {
     }
 
     /// What the right range of a request starts with: only a split has one.
-    fn right_of(&self, request: &Request) -> Result<Option<RightStart>, NoMemory>
+    fn right_of(&self, request: &Request) -> Result<Option<Boxed<RightStart>>, NoMemory>
         requires { MaySplit self.now.replica.applied.state.desc request.now }
         ensures { IfOk result
             (λ o. o ≡ right_by_request self.now.replica.applied.state request.now) }
@@ -126,12 +127,17 @@ impl Replica {
         };
         let alloc = self.source.alloc;
         let state = &self.source.state;
-        let right = trigger(alloc, state.table(), state.desc(), state.lease(), key)?;
+        let start = trigger(alloc, state.table(), state.desc(), state.lease(), key)?;
+        let right = Boxed::new(alloc, start)?;
         Ok(Some(right))
     }
 
     /// What the right range starts with, where the command is a split that is taken.
-    fn right(&self, command: &Command, verdict: &Verdict) -> Result<Option<RightStart>, NoMemory>
+    fn right(
+        &self,
+        command: &Command,
+        verdict: &Verdict,
+    ) -> Result<Option<Boxed<RightStart>>, NoMemory>
         requires { verdict.now ≡ verdicts.Took
             → MaySplit self.now.replica.applied.state.desc command.now.request }
         ensures { IfOk result
@@ -147,7 +153,7 @@ impl Replica {
     }
 
     /// What the application of a payload will do, from one verdict on it.
-    fn application(&self, payload: Payload) -> Result<Application, NoMemory>
+    fn application(&self, payload: Boxed<Payload>) -> Result<Application, NoMemory>
         requires { Fits self.now.replica.applied.state payload }
         ensures payload { IfOk result (λ a. a.payload ≡ payload) }
         ensures turn { IfOk result (λ a. a.turn ≡ payload_turn self.now.replica payload) }
@@ -156,7 +162,7 @@ impl Replica {
             (λ a. a.right ≡ right_of self.now.replica.applied.state payload) }
         ensures known { IfOk result (λ a. IsKnown self.now.replica.pending a.turn) }
     {
-        let Payload::Write(command) = &payload else {
+        let Payload::Write(command) = payload.get() else {
             return Ok(Application {
                 payload,
                 turn: Turn::Stays,
@@ -164,7 +170,7 @@ impl Replica {
                 right: None,
             });
         };
-        let verdict = check(&self.source.state, &payload);
+        let verdict = check(&self.source.state, payload.get());
         let (turn, outcomes) = self.turn_and_end(command, &verdict)?;
         let right = self.right(command, &verdict)?;
         Ok(Application {
@@ -218,7 +224,7 @@ impl Replica {
         ensures { self.new.replica
             ≡ turned (recorded self.old.replica application.now) application.now.turn }
     {
-        self.source.state.commit_one(&application.payload);
+        self.source.state.commit_one(application.payload.get());
         self.turn_so(application.turn);
     }
 }

@@ -11,6 +11,7 @@ ghost use Rattle.rp_replica.specs.Rooms.{IsRoomWithin};
 
 use crate::payloads::{push_asks, push_moves, told};
 use crate::plans::{HandOver, ReplicaPlan};
+use crate::rafts::plan;
 use crate::replicas::Replica;
 use crate::waits::assign_inbox;
 use rp_base::{CmdId, LeaseAsk, LeaseIndex, NoMemory, Seq, Tick};
@@ -120,7 +121,7 @@ impl Replica {
             last,
         } = draft;
         let propose = RaftEvent::Propose { payloads: bytes };
-        let raft = self.raft.plan(propose, &self.source)?;
+        let raft = plan(&mut self.raft, propose, &self.source)?;
         Ok(ReplicaPlan::HandsOver {
             hand: HandOver {
                 raft,
