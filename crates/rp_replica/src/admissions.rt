@@ -58,6 +58,7 @@ impl Replica {
     }
 
     /// What the guards let through: the lease, the bounds, the latches, and then the evaluation.
+    #[inline(never)]
     fn guarded(&self, request: &Request) -> Result<Result<Evaluated, Refusal>, NoMemory>
         ensures { IfOk result (λ g. g ≡ guarded self.now.replica request.now) }
     {
@@ -81,6 +82,7 @@ impl Replica {
     }
 
     /// An attempt asks to be admitted.
+    #[inline(never)]
     pub(crate) fn plan_admission(
         &self,
         id: CmdId,
@@ -103,6 +105,7 @@ impl Replica {
     }
 
     /// The attempt takes its latches and waits. It takes no memory.
+    #[inline(never)]
     pub(crate) fn admit(&mut self, proposal: Boxed<Proposal>)
         requires fits { AdmitFits self.old.replica proposal }
         requires latches { 1 ≤ self.old.room.latches }

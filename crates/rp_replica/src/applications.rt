@@ -24,6 +24,7 @@ use rp_split::{RightStart, trigger};
 use std::alloc::Global;
 
 /// The payload that an entry of the log carries.
+#[inline(never)]
 fn payload_of(alloc: Global, entry: &Entry) -> Result<Boxed<Payload>, NoMemory>
     requires { (p : Payload) × (payload_of (Some entry.now) ≡ Some p) }
     ensures { IfOk result (λ p. payload_of (Some entry.now) ≡ Some p) }
@@ -96,6 +97,7 @@ impl Replica {
     }
 
     /// What a command makes of the proposal that it came of, and what its attempt is told.
+    #[inline(never)]
     fn turn_and_end(
         &self,
         command: &Command,
@@ -117,6 +119,7 @@ impl Replica {
     }
 
     /// What the right range of a request starts with: only a split has one.
+    #[cold]
     fn right_of(&self, request: &Request) -> Result<Option<Boxed<RightStart>>, NoMemory>
         requires { MaySplit self.now.replica.applied.state.desc request.now }
         ensures { IfOk result
@@ -182,6 +185,7 @@ impl Replica {
     }
 
     /// The next committed entry is checked and applied.
+    #[inline(never)]
     pub(crate) fn plan_application(&self) -> Result<ReplicaPlan, NoMemory>
         requires { MayApply self.now.replica }
         ensures { IfOk result
@@ -217,6 +221,7 @@ impl Replica {
     }
 
     /// The payload is applied, its record is kept, and its proposal turns. It takes no memory.
+    #[inline(never)]
     pub(crate) fn apply(&mut self, application: &Application)
         requires fits { ApplicationFits self.old.replica application.now }
         requires applied { IsWithin (needed application.now.payload) self.old.room.applied }

@@ -66,6 +66,7 @@ struct FlushDraft {
 
 impl Replica {
     /// What a flush will do, but for Raft.
+    #[inline(never)]
     fn draft_flush(&self) -> Result<FlushDraft, NoMemory>
         requires { MayFlush self.now.replica }
         ensures moves { IfOk result
@@ -103,6 +104,7 @@ impl Replica {
     }
 
     /// The inbox goes to Raft: lease asks first, then commands, each with a lease index.
+    #[inline(never)]
     pub(crate) fn plan_flush(&mut self, ticks: Tick, round: u64) -> Result<ReplicaPlan, NoMemory>
         requires { MayFlush self.old.replica }
         ensures replica { self.new.replica ≡ self.old.replica }

@@ -12,6 +12,7 @@ use rp_raftstep::{Payloads, RaftEvent, RaftOut};
 use rp_snapshot::Snapshot;
 
 /// Plans an event.
+#[inline(never)]
 pub(crate) fn plan(
     raft: &mut Raft<Snapshot>,
     event: RaftEvent<Snapshot>,
@@ -29,6 +30,7 @@ pub(crate) fn plan(
 }
 
 /// The plan of that event and of a Propose of these payloads, as one event.
+#[cold]
 pub(crate) fn extend(
     raft: &mut Raft<Snapshot>,
     plan: Boxed<RaftPlan<Snapshot>>,
@@ -50,6 +52,7 @@ pub(crate) fn extend(
 }
 
 /// Does what was planned. It takes no memory.
+#[inline(never)]
 pub(crate) fn commit(
     raft: &mut Raft<Snapshot>,
     plan: Boxed<RaftPlan<Snapshot>>,

@@ -48,6 +48,7 @@ fn push_again(moves: &mut Vec<Move>, ids: &[CmdId]) -> Result<(), NoMemory>
 }
 
 /// The moves of a refresh.
+#[inline(never)]
 fn moves_of(alloc: Global, refresh: &Refresh) -> Result<Seq<Move>, NoMemory>
     ensures { IfOk result (λ m. m ≡ refresh_moves refresh.now) }
 {
@@ -81,6 +82,7 @@ impl Replica {
     }
 
     /// A refresh of all behind a planned event. What a snapshot overtakes is not there any more.
+    #[cold]
     fn refresh_all(
         &self,
         raft: &Boxed<RaftPlan<Snapshot>>,
@@ -196,6 +198,7 @@ impl Replica {
     }
 
     /// Time goes on to this tick.
+    #[inline(never)]
     pub(crate) fn plan_tick(&mut self, ticks: Tick, round: u64) -> Result<ReplicaPlan, NoMemory>
         requires { MayRefresh self.old.replica (tick self.old.replica.raft) }
         ensures replica { self.new.replica ≡ self.old.replica }
@@ -212,6 +215,7 @@ impl Replica {
     }
 
     /// A message of another node's replica comes.
+    #[inline(never)]
     pub(crate) fn plan_delivery(
         &mut self,
         from: NodeId,

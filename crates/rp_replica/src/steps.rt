@@ -24,6 +24,7 @@ use rp_snapshot::Snapshot;
 
 impl Replica {
     /// The applied value of a key, and the applied index.
+    #[cold]
     fn plan_peek(&self, key: Key) -> ReplicaPlan
         ensures { IsPlan self.now.replica None result (peeked self.now.replica key) }
     {
@@ -37,6 +38,7 @@ impl Replica {
     }
 
     /// The log is cut up to the applied index.
+    #[cold]
     fn plan_cut(&mut self) -> Result<ReplicaPlan, NoMemory>
         requires { MayCut self.old.replica }
         ensures replica { self.new.replica ≡ self.old.replica }
@@ -89,6 +91,7 @@ impl Replica {
     }
 
     /// Makes the room of a plan for Raft.
+    #[inline(never)]
     fn make_hand_over_room(&mut self, hand: &HandOver) -> Result<(), NoMemory>
         requires { HandOverFits self.old.replica hand.now }
         ensures replica { self.new.replica ≡ self.old.replica }
@@ -159,6 +162,7 @@ impl Replica {
 
     /// The event of Raft is done, a snapshot is taken in, and the moves are made. It takes no
     /// memory.
+    #[inline(never)]
     fn hand_over(&mut self, hand: HandOver) -> Effects<Snapshot>
         requires fits { HandOverFits self.old.replica hand }
         requires room { HandOverRoom self.old.room hand }
@@ -185,6 +189,7 @@ impl Replica {
     }
 
     /// The log is cut. It takes no memory.
+    #[cold]
     fn cut(&mut self, raft: Boxed<RaftPlan<Snapshot>>) -> Effects<Snapshot>
         requires made { IsMadeIn self.old.replica.raft raft }
         requires room { entries_of raft ≤ self.old.room.log }

@@ -42,6 +42,7 @@ impl Model for Snapshot {
 }
 
 /// A snapshot of this applied state. The copy of the table has that table's allocator.
+#[cold]
 pub fn make(
     alloc: Global,
     desc: Desc,
@@ -70,6 +71,7 @@ pub fn make(
 
 impl Snapshot {
     /// A copy.
+    #[cold]
     pub fn copy(&self) -> Result<Snapshot, NoMemory>
         ensures { IfOk result (λ s. s ≡ self.now) }
     {
@@ -84,6 +86,7 @@ impl Snapshot {
     }
 
     /// The parts, as an applied state takes them in. It takes no memory, and nothing is copied.
+    #[cold]
     pub fn into_parts(self) -> (Desc, Lease, LeaseIndex, Table)
         ensures { self ≡ record {
           desc = result.0;
