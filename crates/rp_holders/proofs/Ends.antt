@@ -1,9 +1,7 @@
 -- Each outcome that a node of a reached world keeps is an end that names a node.
-use Rattle.std.proofs.Common.{◌≡◌, ℕ, zero, suc, ◌+◌, ◌<◌, ◌≤◌, ⊎_elim, Option, None, Some, List, [], ◌∷◌, ◌++◌, length, refl, sym, ap, subst, ◌∙◌, arith}
+use Rattle.std.proofs.Common.{◌≡◌, ℕ, ◌+◌, ◌<◌, ◌≤◌, ⊎_elim, Option, None, Some, List, [], ◌∷◌, refl, sym, ap, subst, arith}
 use Rattle.std.specs.Prelude.{slice_get}
 use Rattle.std.specs.List.{AllByRecursion}
-use Rattle.std.proofs.lemmas.Bool.{cases_eq, cases_lt}
-use Rattle.std.proofs.lemmas.List.{length-set, get_or_past}
 use Rattle.rp_base.proofs.Elements.{all_append, each_at}
 use Rattle.rp_base.specs.declared.ids.CmdId.{CmdId}
 use Rattle.rp_base.specs.declared.items.Item.{Item}
@@ -26,14 +24,15 @@ use Rattle.rp_events.specs.Nodes as nodes
 use Rattle.rp_events.specs.Nodes.{Node, Status, Absent, Live, seat, with_seat, opened, opened_by, after_turn, range_numbers}
 use Rattle.rp_events.specs.NodeEvents.{status_after, after_replica, by_status, live_turn, all_turns, delivered, acted, with_request, step}
 use Rattle.rp_events.specs.Worlds.{World, Scene, Schedule, first_world, node_of, taken_in, happens, run}
-use Rattle.rp_seats.proofs.Nodes.{seat_same, seat_other}
 use Rattle.rp_journals.proofs.Growing.{Happened, happened, reached_later}
+use Rattle.rp_journals.proofs.Inboxes.{IsAscending, ascending}
 use Rattle.rp_journals.proofs.Reading.{first_at, node_after}
 use Rattle.rp_journals.proofs.Writing.{later_scene, first_reached}
+use Rattle.rp_turns.proofs.All.{other_seat}
 use Rattle.rp_router.specs.Hints.{NamesNode}
 use Rattle.rp_clients.specs.Desks.{IsEnd}
 use Rattle.rp_holders.proofs.Leases.{held_by_node}
-use Rattle.rp_holders.proofs.Refusals.{AllEnd, event_ends, tick_leased, admission_names}
+use Rattle.rp_holders.proofs.Refusals.{AllEnd, event_ends, admission_names}
 
 module _ (many : ℕ) where
   -- the lease of a live seat is held by a node
@@ -70,33 +69,28 @@ module _ (many : ℕ) where
   message_ends n from range m h (Live r) low = replica_ends n range r low (Deliver from m) [] h
   message_ends n from range m h (nodes.Removed applied) low = h
 
-  -- an event that leaves each lease as it is, at each seat
-  module _ (e : ReplicaEvent AppliedState) (stays : (r : Replica) (ticks round : ℕ) → (lease_of r).holder ≤ many → Leased (status_after e (event r e ticks round []).replica))
-      (none : (r : Replica) (ticks round : ℕ) → (event r e ticks round []).right ≡ None) where
-    seated_leased : (n : Node) (at : ℕ) (status : Status) → AllLeased n → Leased status → AllLeased (with_seat n at status)
-    seated_leased n at status h low range = ⊎_elim
-        (λ (own : at ≡ range). ⊎_elim
-        (λ (within : range < length n.seats). subst (λ i. Leased (seat (with_seat n i status) range)) (sym own) (subst Leased (sym (seat_same n range status within)) low))
-        (λ (past : length n.seats ≤ range). subst Leased (sym (get_or_past (with_seat n at status).seats range Absent (let same = length-set n.seats at status in omega (arith, past, same)))) tt)
-        (cases_lt range (length n.seats)))
-        (λ (ne : at ≡ range → ⊥). subst Leased (sym (seat_other n at range status ne)) (h range)) (cases_eq at range)
-
-    turn_leased : (n : Node) (at : ℕ) (status : Status) → Leased status → AllLeased n → AllLeased (live_turn e n at status)
-    turn_leased n at Absent low h = h
-    turn_leased n at (Live r) low h =
-        let d : Done = event r e n.ticks n.rounds [] in
-        subst (λ o. AllLeased (opened (after_turn n at (status_after e d.replica) d) o)) (sym (none r n.ticks n.rounds))
-        (seated_leased n at (status_after e d.replica) h (stays r n.ticks n.rounds low))
-    turn_leased n at (nodes.Removed applied) low h = h
-
+  -- an event at each seat
+  module _ (e : ReplicaEvent AppliedState) (none : (r : Replica) (ticks round : ℕ) → (event r e ticks round []).right ≡ None) where
     turn_ends : (n : Node) (at : ℕ) (status : Status) → Leased status → AllEnd many n.outcomes → AllEnd many (live_turn e n at status).outcomes
     turn_ends n at Absent low h = h
     turn_ends n at (Live r) low h = replica_ends n at r low e [] h
     turn_ends n at (nodes.Removed applied) low h = h
 
-    all_end : (ranges : List ℕ) (n : Node) → AllLeased n → AllEnd many n.outcomes → AllEnd many (all_turns e n ranges).outcomes
-    all_end [] n low h = h
-    all_end (at ∷ more) n low h = all_end more (live_turn e n at (seat n at)) (turn_leased n at (seat n at) (low at) low) (turn_ends n at (seat n at) (low at) h)
+    others_leased : (n : Node) (at : ℕ) (status : Status) (ranges : List ℕ) → AllByRecursion (λ k. at < k) ranges → AllByRecursion (λ k. Leased (seat n k)) ranges → AllByRecursion (λ k. Leased (seat (live_turn e n at status) k)) ranges
+    others_leased n at status [] above low = tt
+    others_leased n at status (k ∷ ranges) above low = (
+      subst Leased (sym (other_seat e none n at k (λ same. let less = above.0 in omega (arith, less, same)) status)) low.0,
+      others_leased n at status ranges above.1 low.1,
+    )
+
+    all_end : (ranges : List ℕ) → IsAscending ranges → (n : Node) → AllByRecursion (λ k. Leased (seat n k)) ranges → AllEnd many n.outcomes → AllEnd many (all_turns e n ranges).outcomes
+    all_end [] up n low h = h
+    all_end (at ∷ more) up n low h =
+        all_end more up.1 (live_turn e n at (seat n at)) (others_leased n at (seat n at) more up.0 low.1) (turn_ends n at (seat n at) low.0 h)
+
+  each_leased : (n : Node) → AllLeased n → (ranges : List ℕ) → AllByRecursion (λ k. Leased (seat n k)) ranges
+  each_leased n low [] = tt
+  each_leased n low (k ∷ ranges) = (low k, each_leased n low ranges)
 
   acted_ends : (n : Node) (ev : Event AppliedState) (taken : List Item) → AllLeased n → AllEnd many n.outcomes → AllEnd many (acted n ev taken).node.outcomes
   acted_ends n (events.Admit at id request) taken low h = status_ends (with_request n request) at (Admit id request) [] h (seat n at) (low at)
@@ -104,13 +98,13 @@ module _ (many : ℕ) where
   acted_ends n (events.Transfer at to) taken low h = status_ends n at (Transfer to) [] h (seat n at) (low at)
   acted_ends n (events.Collect at) taken low h = status_ends n at Collect taken h (seat n at) (low at)
   acted_ends n (events.Flush at) taken low h = status_ends n at Flush [] h (seat n at) (low at)
-  acted_ends n events.Tick taken low h = all_end Tick (λ r ticks round h. tick_leased many r h ticks round) (λ r ticks round. refl) range_numbers (record n { ticks = n.ticks + 1 }) low h
+  acted_ends n events.Tick taken low h = all_end Tick (λ r ticks round. refl) range_numbers ascending (record n { ticks = n.ticks + 1 }) (each_leased n low range_numbers) h
   acted_ends n (events.Deliver from at number m) taken low h = message_ends n from at m h (seat n at) (low at)
   acted_ends n (events.Apply at) taken low h = status_ends n at Apply [] h (seat n at) (low at)
   acted_ends n (events.Cut at) taken low h = status_ends n at Cut [] h (seat n at) (low at)
   acted_ends n (events.Remove at) taken low h = status_ends n at Remove [] h (seat n at) (low at)
   acted_ends n (events.Peek at key) taken low h = status_ends n at (Peek key) [] h (seat n at) (low at)
-  acted_ends n events.Restart taken low h = all_end Restart (λ r ticks round h. h) (λ r ticks round. refl) range_numbers n low h
+  acted_ends n events.Restart taken low h = all_end Restart (λ r ticks round. refl) range_numbers ascending n (each_leased n low range_numbers) h
   acted_ends n events.Round taken low h = h
 
 abbrev AllEnded : ℕ → World → Type 0

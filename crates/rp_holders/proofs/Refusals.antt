@@ -1,11 +1,11 @@
 -- Whom an event of a replica names that ends attempts, or refuses to admit one.
 use Rattle.std.proofs.Common.{◌≡◌, ℕ, ◌+◌, ◌≤◌, Bool, true, false, cond, Option, None, Some, Result, Ok, Err, List, [], ◌∷◌, ◌++◌, map, refl, sym, subst, ◌∙◌}
-use Rattle.std.specs.Prelude.{◌==◌, ◌&&◌, nat_lt, filter_map}
+use Rattle.std.specs.Prelude.{◌==◌, nat_lt, filter_map}
 use Rattle.std.specs.List.{AllByRecursion, cons_option}
 use Rattle.std.specs.FinMap.{get}
 use Rattle.std.specs.Option.{option_map, option_map_or, option_eq}
 use Rattle.std.proofs.lemmas.Bool.{cond_both}
-use Rattle.rp_base.proofs.Elements.{all_append, all_map}
+use Rattle.rp_base.proofs.Elements.{all_append}
 use Rattle.rp_base.specs.Keys.{end_of}
 use Rattle.rp_base.specs.Splits.{split_of}
 use Rattle.rp_base.specs.Tables.{Table, greatest, value_at, holds_text, count_in}
@@ -18,7 +18,6 @@ use Rattle.rp_base.specs.declared.ranges.SplitFault.{SplitFault}
 use Rattle.rp_base.specs.declared.ranges.SplitFault.TheVariants as faults
 use Rattle.rp_latch.specs.Holds.{answer}
 use Rattle.rp_latch.specs.declared.holds.Held.{Held}
-use Rattle.rp_raftstep.specs.declared.messages.Message.{Message}
 use Rattle.rp_raftstep.specs.Step.{Draft, tick, received}
 use Rattle.rp_request.specs.Applied.{AppliedState, command_verdict}
 use Rattle.rp_request.specs.Batches.{batch_of}
@@ -48,12 +47,11 @@ use Rattle.rp_events.specs.Ends.{end_of as ended_of, overtaken_by, removed_with,
 use Rattle.rp_events.specs.Flushes.{assigning, emptied, flush_moves}
 use Rattle.rp_events.specs.LeaseAsks.{is_held, answers_ask, ask_for, expiry_of, lease_ticks}
 use Rattle.rp_events.specs.declared.answers.Ended.{Ended}
-use Rattle.rp_events.specs.declared.answers.EventAnswer.{EventAnswer}
 use Rattle.rp_events.specs.declared.answers.EventAnswer.TheVariants as answers
 use Rattle.rp_events.specs.declared.moves.Move as moves
 use Rattle.rp_events.specs.declared.moves.Move.TheVariants.{HandsOut, GivesUp, TakesBack, Repeats}
 use Rattle.rp_events.specs.Moves.{hands_out, gives_up, takes_back, repeats, moved, moved_all, hands_to_raft}
-use Rattle.rp_events.specs.Refreshes.{refreshing, refreshed_by, refresh_moves, with_taken}
+use Rattle.rp_events.specs.Refreshes.{refreshing, refreshed_by, with_taken}
 use Rattle.rp_events.specs.Replicas.{Replica, Done, Told, untold, leaves, lease_of, holds_lease, has_new_leader}
 use Rattle.rp_events.specs.ReplicaEvents.{event}
 use Rattle.rp_events.specs.declared.replica_events.ReplicaEvent.{ReplicaEvent}
@@ -186,11 +184,6 @@ module _ (nodes : ℕ) (r : Replica) (low : (lease_of r).holder ≤ nodes) where
   event_ends at_replica.Remove ticks round taken = removed_each nodes r.pending
   event_ends (at_replica.Peek key) ticks round taken = tt
   event_ends at_replica.Restart ticks round taken = lost_each nodes (lease_of r) low r.pending
-
--- a tick leaves the lease
-pub tick_leased : (nodes : ℕ) (r : Replica) → (lease_of r).holder ≤ nodes → (ticks round : ℕ) → (lease_of (event r at_replica.Tick ticks round []).replica).holder ≤ nodes
-tick_leased nodes r low ticks round =
-    (moves_fine nodes ticks round (untold r) (refresh_moves (refreshing r ticks (has_new_leader r.raft.head (tick {S = AppliedState} r.raft).state.head))) (low, tt)).0
 
 -- no evaluation is refused by a lease
 abbrev NamesIn : ℕ → {X : Type 0} → Result X Refusal → Type 0
