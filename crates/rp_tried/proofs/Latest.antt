@@ -138,18 +138,21 @@ module _ (rules : RaceRules) (w : World) (client : ℕ) where
         let those : refusals t.id.seq older ≡ refusals seq older = ap (λ s. refusals s older) same in
         let one : ◌≡◌ {A = ℕ} (cond (is_of seq t && is_refused t.end) 1 0) (cond (is_refused t.end) 1 0) = ap {A = Bool} {B = ℕ} (λ b. cond (b && is_refused t.end) 1 0) e in
         let k' = k in
-        inr (t, record {
-          older = older;
-          was = h.0;
-          client_is = own_next rules w client older h.1 t.id h.0.may.next;
-          seq_is = same;
-          found = ap (λ b. cond b (Some t) (find (is_of seq) older)) e;
-          most = (
-            λ s. omega arith,
-            all_weaker (IsBefore t.id) (λ (x : Try). x.id.seq ≡ seq → x.id.attempt ≤ t.id.attempt) (λ x b s. let less = b.less (s ∙ sym same) in omega (arith, less)) older (all_before older h.1 t.id h.0.may.next),
-          );
-          refused = omega (arith, k', before, those, one);
-        })
+        inr (
+          t,
+          record {
+            older = older;
+            was = h.0;
+            client_is = own_next rules w client older h.1 t.id h.0.may.next;
+            seq_is = same;
+            found = ap (λ b. cond b (Some t) (find (is_of seq) older)) e;
+            most = (
+              λ s. omega arith,
+              all_weaker (IsBefore t.id) (λ (x : Try). x.id.seq ≡ seq → x.id.attempt ≤ t.id.attempt) (λ x b s. let less = b.less (s ∙ sym same) in omega (arith, less)) older (all_before older h.1 t.id h.0.may.next),
+            );
+            refused = omega (arith, k', before, those, one);
+          },
+        )
     go false e (inl lacks) = inl (record {
       found = ap (λ b. cond b (Some t) (find (is_of seq) older)) e ∙ lacks.found;
       none = (λ s. true_false (is_of seq t) (eq-eqb t.id.seq seq s) e, lacks.none);
@@ -158,15 +161,18 @@ module _ (rules : RaceRules) (w : World) (client : ℕ) where
         let other : ◌≡◌ {A = ℕ} (cond (is_of seq t && is_refused t.end) 1 0) 0 = ap {A = Bool} {B = ℕ} (λ b. cond (b && is_refused t.end) 1 0) e in
         let k' = k in
         let those = x.1.refused in
-        inr (x.0, record {
-          older = x.1.older;
-          was = x.1.was;
-          client_is = x.1.client_is;
-          seq_is = x.1.seq_is;
-          found = ap (λ b. cond b (Some t) (find (is_of seq) older)) e ∙ x.1.found;
-          most = (λ s. absurd (true_false (is_of seq t) (eq-eqb t.id.seq seq s) e), x.1.most);
-          refused = omega (arith, k', other, those);
-        })
+        inr (
+          x.0,
+          record {
+            older = x.1.older;
+            was = x.1.was;
+            client_is = x.1.client_is;
+            seq_is = x.1.seq_is;
+            found = ap (λ b. cond b (Some t) (find (is_of seq) older)) e ∙ x.1.found;
+            most = (λ s. absurd (true_false (is_of seq t) (eq-eqb t.id.seq seq s) e), x.1.most);
+            refused = omega (arith, k', other, those);
+          },
+        )
 
   -- a command below the next one has ended: the client knows the end of its latest try, and goes on no more
   pub record HasEnded (seq : ℕ) (tries : List Try) : Type 0 where
