@@ -3,7 +3,7 @@
 ghost use Rattle.std.specs.Prelude.{◌≡◌, ◌<◌, ◌≤◌, ℕ, false, length, max, take};
 ghost use Rattle.rp_raftstep.specs.RaftState.{is_majority, with_node};
 ghost use Rattle.rp_raftstep.specs.Step.{advanced, committable, is_committable, matched_by};
-ghost use Rattle.rp_raft.specs.Plans.{CanHold, ahead, at_least};
+ghost use Rattle.rp_raft.specs.Plans.{CanHold, ahead, at_least, with_commit};
 
 use crate::ahead::{last_in, term_in};
 use crate::heads::{is_majority, place};
@@ -25,7 +25,7 @@ fn is_on_majority(head: &Head, matched: &[u64], index: u64) -> bool
     ensures { result ≡ is_majority head.now (at_least index matched.now) }
 {
     let count = matched.iter().filter(|known| index <= **known).count();
-    is_majority(*head, count)
+    is_majority(head, count)
 }
 
 /// The greatest index that a majority has.
@@ -73,17 +73,15 @@ fn committed(head: &Head, log: &Log, added: &[Entry]) -> u64
     head.commit
 }
 
-/// At the end of an event a leader moves its commit index on.
-pub(crate) fn advanced(head: Head, log: &Log, added: &[Entry]) -> Head
-    requires nodes { head.nodes ≤ 5 }
+/// The commit index at the end of an event: a leader's moves on.
+pub(crate) fn commit_after(head: &Head, log: &Log, added: &[Entry]) -> u64
+    requires nodes { head.now.nodes ≤ 5 }
     requires hold { CanHold log.now.log added.now }
-    ensures same { result ≡ record head { commit = result.commit } }
-    ensures state { ahead result log.now.log added.now
-        ≡ advanced (ahead head log.now.log added.now) }
+    ensures { ahead (with_commit head.now result) log.now.log added.now
+        ≡ advanced (ahead head.now log.now.log added.now) }
 {
     if head.role != Role::Leader {
-        return head;
+        return head.commit;
     }
-    let commit = committed(&head, log, added);
-    Head { commit, ..head }
+    committed(head, log, added)
 }
