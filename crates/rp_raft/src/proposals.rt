@@ -68,11 +68,7 @@ fn edit_behind(edit: &mut LogEdit, more: Entries) -> Result<(), NoMemory>
 
 impl<S: Drop> Raft<S> {
     /// A leader appends the payloads, and all are sent to.
-    fn append_behind(
-        &self,
-        draft: &mut RaftDraft<S>,
-        payloads: Payloads,
-    ) -> Result<(), NoMemory>
+    fn append_behind(&self, draft: &mut RaftDraft<S>, payloads: Payloads) -> Result<(), NoMemory>
         requires fits { DraftFits self.now.raft.log draft.old }
         requires room { CanAppend (leads_to draft.old.head self.now.raft.log draft.old.edit)
             payloads }
@@ -90,11 +86,7 @@ impl<S: Drop> Raft<S> {
     /// One that knows the leader forwards the payloads to it. Else they are lost.
     #[cold]
     #[inline(never)]
-    fn forward_behind(
-        &self,
-        draft: &mut RaftDraft<S>,
-        payloads: Payloads,
-    ) -> Result<(), NoMemory>
+    fn forward_behind(&self, draft: &mut RaftDraft<S>, payloads: Payloads) -> Result<(), NoMemory>
         requires fits { DraftFits self.now.raft.log draft.old }
         requires follows { is_leader draft.old.head.role ≡ false }
         ensures { OnOk result (Drafts self.now.raft.log draft.new

@@ -217,14 +217,13 @@ impl<S: Drop> Raft<S> {
         ensures { record { state = self.new.raft; out = result } ≡ done_by self.old.raft plan }
     {
         let RaftPlan {
-            draft:
-                RaftDraft {
-                    head,
-                    edit,
-                    messages,
-                    taken,
-                    ..
-                },
+            draft: RaftDraft {
+                head,
+                edit,
+                messages,
+                taken,
+                ..
+            },
             commit,
             ..
         } = plan;
