@@ -1,14 +1,22 @@
 -- Every reached world is firm.
-use Rattle.std.proofs.Common.{◌≡◌, ℕ, zero, suc, ◌<◌, ◌≤◌, ⊎_elim, List, [], ◌∷◌, ◌++◌, map, refl, ap, subst, ◌∙◌, arith}
+use Rattle.std.proofs.Common.{◌≡◌, ℕ, zero, suc, ◌<◌, ◌≤◌, ⊎_elim, Some, List, [], ◌∷◌, ◌++◌, map, refl, ap, subst, ◌∙◌, arith}
 use Rattle.std.specs.Prelude.{Contains}
 use Rattle.std.specs.Option.{option_map_or}
 use Rattle.std.proofs.lemmas.Bool.{ltb-true, leb-true}
 use Rattle.std.proofs.lemmas.List.Elements.{Contains-append_cases}
 use Rattle.std.proofs.lemmas.Grind.{flat_map-append}
+use Rattle.rp_base.specs.declared.items.Item.{Item}
+use Rattle.rp_codec.specs.Spelling.{spelling}
+use Rattle.rp_codec.proofs.SpellingLaws.{read_as_spelled}
 use Rattle.rp_request.specs.Applied.{AppliedState}
+use Rattle.rp_request.specs.Fits.{FitsAsk, FitsPayload}
+use Rattle.rp_request.specs.declared.commands.Payload.{Payload}
+use Rattle.rp_request.specs.declared.commands.Payload.TheVariants as payloads
 use Rattle.rp_raftsafe.specs.Safety.{OneList}
 use Rattle.rp_raftsafe.specs.Proposed.{event_payloads, payloads_of}
-use Rattle.rp_events.specs.Worlds.{World, Scene, Schedule, first_world, taken_in, happens, run}
+use Rattle.rp_events.specs.declared.node_events.Event.{Event}
+use Rattle.rp_events.specs.Nodes.{Node}
+use Rattle.rp_events.specs.Worlds.{World, Scene, Schedule, first_world, node_of, taken_in, happens, run}
 use Rattle.rp_events.specs.Lawful.{Lawful, AllLawful, IsReached}
 use Rattle.rp_seats.specs.Scenes.{node_doings, as_event, scene_doings, raft_events}
 use Rattle.rp_bound.specs.Bounds.{StandsNext, first_seen}
@@ -22,8 +30,20 @@ use Rattle.rp_journals.proofs.Writing.{later_scene, first_reached}
 use Rattle.rp_journals.proofs.Elsewhere.{event_some, lawful_node}
 use Rattle.rp_low.specs.Weights.{weight_of}
 use Rattle.rp_low.proofs.Weighed.{weighed_first, weighed_scene, begins_weigh_none}
-use Rattle.rp_allowed.specs.Firm.{IsFirm}
-use Rattle.rp_allowed.proofs.Spelled.{node_handed}
+use Rattle.rp_allowed.specs.Firm.{IsSpelled, IsFirm}
+use Rattle.rp_seats.specs.Standing.{AreShaped}
+use Rattle.rp_turns.specs.Fitting.{AreFit}
+use Rattle.rp_turns.proofs.Handed.{node_handed}
+
+spelled : (p : Payload) → FitsPayload p → IsSpelled (spelling p)
+spelled p f = record { payload = p; is = read_as_spelled p f }
+
+-- what an event hands to Raft spells a payload
+handed : (w : World) → AreShaped w → (fit : AreFit w) → (node : ℕ) (n : Node) → (has : node_of w node ≡ Some n) → (range : ℕ) (bytes : List ℕ) → (ev : Event AppliedState) (taken : List Item)
+    → Contains (payloads_of (map (as_event range w node) (node_doings range n ev taken))) bytes → IsSpelled bytes
+handed w shaped fit node n has =
+    node_handed IsSpelled FitsAsk (λ c f. spelled (payloads.Write c) f) (λ ask f _. spelled (payloads.Lease ask) f) w shaped fit node n has
+    (λ at r is. (fit.replicas node at n r has is).asks)
 
 module _ (lists : OneList AppliedState) where
   firm_scene : (nodes : ℕ) (w : World) → IsReached nodes w → (x : Scene) → Lawful w x → IsFirm lists w → IsFirm lists (happens w x)
@@ -40,7 +60,7 @@ module _ (lists : OneList AppliedState) where
         spelled = λ range bytes c. ⊎_elim
             (λ (was : Contains (payloads_of (h.seen range)) bytes). h.spelled range bytes was)
             (λ (then : Contains (payloads_of (raft_events range w x)) bytes).
-            node_handed w h.stands.bound.shaped (stands_fit lists w h.ranges h.seen h.stands) x.node f.0 f.1 range bytes e.0 (taken_in x.what)
+            handed w h.stands.bound.shaped (stands_fit lists w h.ranges h.seen h.stands) x.node f.0 f.1 range bytes e.0 (taken_in x.what)
             (subst (λ ds. Contains (payloads_of (map (as_event range w x.node) ds)) bytes) (doings range) then))
             (Contains-append_cases (payloads_of (h.seen range)) (payloads_of (raft_events range w x)) bytes (subst (λ l. Contains l bytes) (flat_map-append event_payloads (h.seen range) (raft_events range w x)) c));
       }

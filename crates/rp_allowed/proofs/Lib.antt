@@ -1,4 +1,3 @@
-pub mod Spelled
 pub mod Firm
 pub mod Allowed
 pub mod Stepping

@@ -6,7 +6,6 @@ mod calls;
 mod disk;
 mod histories;
 mod memory;
-mod schedules;
 mod sound;
 mod system;
 

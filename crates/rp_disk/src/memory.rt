@@ -10,9 +10,8 @@ ghost use Rattle.rp_disk.specs.Told.{told_after};
 use crate::calls::DiskCall;
 use crate::disk::Disk;
 use crate::histories::{History, front_from};
-use crate::schedules::Schedule;
 use rp_base::{Calls, NoMemory};
-use rp_outside::Failed;
+use rp_outside::{Failed, Schedule};
 use std::alloc::Global;
 use std::marker::Model;
 

@@ -82,7 +82,8 @@ module _ (many : ℕ) (some : 1 ≤ many) (lists : OneList AppliedState) (w : Wo
       by_bytes e (inl none) = subst (λ z. HomePayload many (read z)) (sym none) (subst (HomePayload many) (sym (ap payload_or nothing_read)) tt)
       by_bytes e (inr has) = handed range e.payload has
 
-  states_home : (range : ℕ) → m.opened range ≡ true → HomeLease many (m.range range).start → (i : ℕ) → HomeLease many (state_at (m.range range) i)
+  -- each state of a range
+  pub states_home : (range : ℕ) → m.opened range ≡ true → HomeLease many (m.range range).start → (i : ℕ) → HomeLease many (state_at (m.range range) i)
   states_home range there h zero = h
   states_home range there h (suc i) =
       lease_after_home many (state_at (m.range range) i) (entry (m.range range).log i) (entry_home many (m.range range).log (log_home range there) i) (states_home range there h i)

@@ -10,7 +10,6 @@ pub mod Nexts
 pub mod Lines
 pub mod Playing
 pub mod Addressed
-pub mod Homes
 pub mod HomeHands
 pub mod HomeStates
 pub mod Receivers

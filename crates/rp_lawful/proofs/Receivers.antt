@@ -40,18 +40,18 @@ use Rattle.rp_journals.proofs.Elsewhere.{event_some, lawful_node, happens_is}
 use Rattle.std.proofs.lemmas.Bool.{cases_eq}
 use Rattle.rp_lawful.proofs.Buffers.{get_same}
 use Rattle.rp_lawful.proofs.Addressed.{addressed, live_in}
-use Rattle.rp_lawful.proofs.Homes.{HomeStatus, AllHome, MaySeat, MayAct, acted_home}
+use Rattle.rp_turns.proofs.Homes.{HomeStatus, AllHome, MaySeat, MayAct, may_admit, acted_home}
 use Rattle.rp_lawful.proofs.HomeHands.{ReadsHome, node_handed}
 use Rattle.rp_lawful.proofs.HomeStates.{holder_home}
 
 -- what stands beside a world, with asks for its nodes alone in its replicas and in what was handed to Raft
-record HasHomes (lists : OneList AppliedState) (w : World) : Type 0 where
-  ranges : Ranges
-  seen : ℕ → List raft.Event
-  stands : Stands lists w ranges seen
-  some : 1 ≤ length w
-  homes : (node : ℕ) (n : Node) → node_of w node ≡ Some n → AllHome (length w) n
-  handed : (range : ℕ) (bytes : List ℕ) → Contains (payloads_of (seen range)) bytes → ReadsHome (length w) bytes
+pub record HasHomes (lists : OneList AppliedState) (w : World) : Type 0 where
+  pub ranges : Ranges
+  pub seen : ℕ → List raft.Event
+  pub stands : Stands lists w ranges seen
+  pub some : 1 ≤ length w
+  pub homes : (node : ℕ) (n : Node) → node_of w node ≡ Some n → AllHome (length w) n
+  pub handed : (range : ℕ) (bytes : List ℕ) → Contains (payloads_of (seen range)) bytes → ReadsHome (length w) bytes
 
 some_event : (a b : Event AppliedState) → ◌≡◌ {A = Option (Event AppliedState)} (Some a) (Some b) → a ≡ b
 some_event a b e = cc
@@ -73,7 +73,7 @@ module _ (lists : OneList AppliedState) (w : World) (h : HasHomes lists w) where
 
   -- what a lawful event asks
   may_act : (node : ℕ) (n : Node) → node_of w node ≡ Some n → (what : Happening) → is_allowed w node what ≡ true → (ev : Event AppliedState) → event_of w what ≡ Some ev → MayAct (length w) n ev
-  may_act node n has (worlds.Admit range id request) al ev came = subst (MayAct (length w) n) (some_event _ ev came) tt
+  may_act node n has (worlds.Admit range id request) al ev came = subst (MayAct (length w) n) (some_event _ ev came) (may_admit (length w) id request (seat n range))
   may_act node n has (worlds.Ask range) al ev came = subst (MayAct (length w) n) (some_event _ ev came) (by_seat (seat n range) refl) where
     by_seat : (status : Status) → seat n range ≡ status → MaySeat (length w) Ask status
     by_seat Absent is = tt
@@ -164,9 +164,12 @@ module _ (lists : OneList AppliedState) where
     each node zero = record { inbox = tt; asks = tt }
     each node (suc place) = subst (HomeStatus (length (first_world nodes))) (sym (get_same 7 Absent place)) tt
 
+-- it stands beside each reached world
+pub reached_homes : (nodes : ℕ) (w : World) → IsReached nodes w → length (first_world nodes) ≡ nodes → HasHomes (one_list_holds AppliedState) w
+reached_homes nodes w r first =
+    subst (HasHomes (one_list_holds AppliedState)) r.reached (homes_run (one_list_holds AppliedState) r.schedule (first_world nodes) r.lawful (first_homes (one_list_holds AppliedState) nodes (ltb-true 0 nodes r.some) (leb-true nodes 5 r.few) first))
+
 -- each message of a reached world is for one of its nodes
 pub receiver : (nodes : ℕ) (w : World) → IsReached nodes w → length (first_world nodes) ≡ nodes → length w ≡ nodes → (sender number : ℕ) (parcel : Parcel AppliedState) → parcel_of (sent_by w sender) number ≡ Some parcel → IsNode nodes parcel.to
 receiver nodes w r first size sender number parcel is =
-    let h : HasHomes (one_list_holds AppliedState) w =
-    subst (HasHomes (one_list_holds AppliedState)) r.reached (homes_run (one_list_holds AppliedState) r.schedule (first_world nodes) r.lawful (first_homes (one_list_holds AppliedState) nodes (ltb-true 0 nodes r.some) (leb-true nodes 5 r.few) first)) in
-    subst (λ many. IsNode many parcel.to) size (sent_to_node (one_list_holds AppliedState) w h sender number parcel is)
+    subst (λ many. IsNode many parcel.to) size (sent_to_node (one_list_holds AppliedState) w (reached_homes nodes w r first) sender number parcel is)

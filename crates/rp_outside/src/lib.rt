@@ -9,5 +9,6 @@ mod sources;
 mod tapes;
 
 pub use devices::{Failed, Sink, Source, put_all};
+pub use schedules::Schedule;
 pub use sinks::{MemorySink, SoundSink, StdSink};
 pub use sources::{MemorySource, SoundSource, StdSource};

@@ -8,7 +8,7 @@ use std::marker::Model;
 
 /// Which calls of a device fail, counted from 1, and how many calls and faults it had.
 #[derive(Drop)]
-pub(crate) struct Schedule {
+pub struct Schedule {
     fails: Calls,
     calls: u64,
     faults: u64,
@@ -23,7 +23,8 @@ impl Model for Schedule {
 }
 
 impl Schedule {
-    pub(crate) fn new(fails: Calls) -> Schedule
+    /// None was counted yet.
+    pub fn new(fails: Calls) -> Schedule
         ensures { result ≡ record { fails = fails; calls = 0; faults = 0 } }
     {
         Schedule {
@@ -33,28 +34,44 @@ impl Schedule {
         }
     }
 
-    pub(crate) fn faults(&self) -> u64
+    /// How many faults were counted.
+    pub fn faults(&self) -> u64
         ensures { result ≡ self.now.faults }
     {
         self.faults
     }
 
     /// Whether the next call fails.
-    pub(crate) fn fails_next(&self) -> bool
+    pub fn fails_next(&self) -> bool
         ensures { result ≡ fails_next self.now }
     {
         has_next(self.fails.as_slice(), self.calls)
     }
 
+    /// Counts a call, and answers whether it fails.
+    pub fn next_fails(&mut self) -> bool
+        ensures fails { result ≡ fails_next self.old }
+        ensures counted { self.new ≡ after_call self.old result }
+        ensures faults { self.old.faults ≤ self.new.faults }
+    {
+        let fails = self.fails_next();
+        if fails {
+            self.count_fault();
+        } else {
+            self.count_call();
+        }
+        fails
+    }
+
     /// Counts a call without a fault.
-    pub(crate) fn count_call(&mut self)
+    pub fn count_call(&mut self)
         ensures { self.new ≡ after_call self.old false }
     {
         self.calls = self.calls.saturating_add(1);
     }
 
     /// Counts a call with a fault.
-    pub(crate) fn count_fault(&mut self)
+    pub fn count_fault(&mut self)
         ensures troubles { self.new ≡ after_call self.old true }
         ensures risen { self.old.faults ≤ self.new.faults }
     {

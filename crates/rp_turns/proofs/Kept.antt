@@ -15,6 +15,7 @@ use Rattle.rp_flush.specs.Assigns.{asks_of}
 use Rattle.rp_raftstep.specs.declared.messages.Message.{Message}
 use Rattle.rp_request.specs.Applied.{AppliedState}
 use Rattle.rp_request.specs.Fits.{FitsAsk}
+use Rattle.rp_request.specs.declared.commands.Payload.TheVariants as payloads
 use Rattle.rp_request.specs.declared.evaluations.Evaluated.{Evaluated}
 use Rattle.rp_request.specs.declared.outcomes.Outcome.{Outcome}
 use Rattle.rp_request.specs.declared.outcomes.Refusal.{Refusal}
@@ -56,7 +57,7 @@ use Rattle.rp_turns.specs.Fitting.{FitEach, HasKeysOne, IsFit, AreFit}
 use Rattle.rp_turns.specs.Keeping.{IsWideOne, IsWideItem, IsWide, IsWideStatus, AreWide, AreBelow, IsItemBelow, IsBelow}
 use Rattle.rp_turns.proofs.All as all
 use Rattle.rp_turns.proofs.All.{times, AreOnce, each_once, numbers_once}
-use Rattle.rp_turns.proofs.Handed.{ReadsFit, proposed_fits}
+use Rattle.rp_turns.proofs.Handed.{ReadsFit, reads_fit, node_handed}
 use Rattle.rp_turns.proofs.Replicas.{MayHappen, event_turn}
 use Rattle.rp_turns.proofs.Scenes as scenes
 use Rattle.rp_turns.proofs.Seated.{has_opened, seated}
@@ -237,45 +238,9 @@ module _ (lists : OneList AppliedState) (w : World) (m : Ranges) (seen : ℕ →
   good_acted events.Round k taken = good
 
   -- what is handed to Raft
-  module _ (range : ℕ) (bytes : List ℕ) where
-    abbrev Hands : List Doing → Type 0
-    Hands ds = Contains (payloads_of (map (as_event range w node) ds)) bytes
-
-    seat_handed : (at number : ℕ) (e : ReplicaEvent AppliedState) (taken : List Item) (status : Status) → seat n at ≡ status → Hands (seat_doings range n at number e taken status) → ReadsFit bytes
-    seat_handed at number e taken Absent is c = absurd (omega (arith, c.1))
-    seat_handed at number e taken (Live r) is c =
-        proposed_fits r (fit.replicas node at n r has is) e n.ticks n.rounds taken bytes (handed_seen range w node at number r e (event r e n.ticks n.rounds taken) bytes c)
-    seat_handed at number e taken (nodes.Removed applied) is c = absurd (omega (arith, c.1))
-
-    all_handed : (e : ReplicaEvent AppliedState) (none : (r : Replica) (ticks round : ℕ) → (event r e ticks round []).right ≡ None) (ticks : ℕ) (status : Status) → seat n range ≡ status
-        → Hands (all_doings range e (record n { ticks = ticks }) range_numbers) → ReadsFit bytes
-    all_handed e none ticks Absent is c = absurd (all.bare_handed e none range w node bytes range_numbers (record n { ticks = ticks }) (subst (all.IsBare e none) (sym is) tt) c)
-    all_handed e none ticks (Live r) is c =
-        let within = live_within n range r is in
-        let eight = (b.shaped.each node n has).eight in
-        proposed_fits r (fit.replicas node range n r has is) e ticks n.rounds [] bytes
-        (all.once_handed e none range w node bytes range_numbers (each_once range (omega (arith, within, eight))) (record n { ticks = ticks }) r is c)
-    all_handed e none ticks (nodes.Removed applied) is c = absurd (all.bare_handed e none range w node bytes range_numbers (record n { ticks = ticks }) (subst (all.IsBare e none) (sym is) tt) c)
-
-    message_handed : (at from number : ℕ) (msg : Message AppliedState) (status : Status) → seat n at ≡ status → Hands (message_doings range n at from number msg status) → ReadsFit bytes
-    message_handed at from number msg Absent is c = cond_both (eqb at range) (Gets from number msg [] ∷ []) [] (λ (ds : List Doing). Hands ds → ReadsFit bytes) (λ _ k. absurd (omega (arith, k.1))) (λ _ k. absurd (omega (arith, k.1))) c
-    message_handed at from number msg (Live r) is c = seat_handed at number (at_replica.Deliver from msg) [] (Live r) is c
-    message_handed at from number msg (nodes.Removed applied) is c = absurd (omega (arith, c.1))
-
-    node_handed : (ev : Event AppliedState) (taken : List Item) → Hands (node_doings range n ev taken) → ReadsFit bytes
-    node_handed (events.Admit at id request) taken c = seat_handed at 0 (at_replica.Admit id request) [] (seat n at) refl c
-    node_handed (events.Ask at) taken c = seat_handed at 0 at_replica.Ask [] (seat n at) refl c
-    node_handed (events.Transfer at to) taken c = seat_handed at 0 (at_replica.Transfer to) [] (seat n at) refl c
-    node_handed (events.Collect at) taken c = seat_handed at 0 at_replica.Collect taken (seat n at) refl c
-    node_handed (events.Flush at) taken c = seat_handed at 0 at_replica.Flush [] (seat n at) refl c
-    node_handed events.Tick taken c = all_handed at_replica.Tick (λ r ticks round. refl) (n.ticks + 1) (seat n range) refl c
-    node_handed (events.Deliver from at number msg) taken c = message_handed at from number msg (seat n at) refl c
-    node_handed (events.Apply at) taken c = seat_handed at 0 at_replica.Apply [] (seat n at) refl c
-    node_handed (events.Cut at) taken c = seat_handed at 0 at_replica.Cut [] (seat n at) refl c
-    node_handed (events.Remove at) taken c = seat_handed at 0 at_replica.Remove [] (seat n at) refl c
-    node_handed (events.Peek at key) taken c = seat_handed at 0 (at_replica.Peek key) [] (seat n at) refl c
-    node_handed events.Restart taken c = all_handed at_replica.Restart (λ r ticks round. refl) n.ticks (seat n range) refl c
-    node_handed events.Round taken c = absurd (omega (arith, c.1))
+  fits_handed : (range : ℕ) (bytes : List ℕ) (ev : Event AppliedState) (taken : List Item) → Contains (payloads_of (map (as_event range w node) (node_doings range n ev taken))) bytes → ReadsFit bytes
+  fits_handed = node_handed ReadsFit FitsAsk (λ c f. reads_fit (payloads.Write c) f) (λ ask f _. reads_fit (payloads.Lease ask) f)
+      w b.shaped fit node n has (λ at r is. (fit.replicas node at n r has is).asks)
 
   -- the number of the node
   in_world : (i : ℕ) → node_of w i ≡ Some n → (1 ≤ i) × (i ≤ 5)
@@ -309,7 +274,7 @@ module _ (lists : OneList AppliedState) (w : World) (m : Ranges) (seen : ℕ →
     handed = λ range bytes c. ⊎_elim
         (λ (was : Contains (payloads_of (seen range)) bytes). wide.handed range bytes was)
         (λ (then : Contains (payloads_of (raft_events range w x)) bytes).
-        node_handed range bytes ev (taken_in what) (subst (λ ds. Contains (payloads_of (map (as_event range w node) ds)) bytes) (scenes.doings_are lists w m seen b fit x lawful.lawful n has ev ev_is range) then))
+        fits_handed range bytes ev (taken_in what) (subst (λ ds. Contains (payloads_of (map (as_event range w node) ds)) bytes) (scenes.doings_are lists w m seen b fit x lawful.lawful n has ev ev_is range) then))
         (Contains-append_cases (payloads_of (seen range)) (payloads_of (raft_events range w x)) bytes (subst (λ l. Contains l bytes) (flat_map-append event_payloads (seen range) (raft_events range w x)) c));
   }
     where

@@ -11,6 +11,8 @@ pub mod Far
 pub mod Whole
 pub mod Rows
 pub mod States
+pub mod Seatings
+pub mod Homes
 pub mod Wide
 pub mod Handed
 pub mod Kept

@@ -20,6 +20,7 @@ use Rattle.rp_request.specs.declared.commands.Payload.TheVariants as payloads
 use Rattle.rp_request.specs.declared.evaluations.Evaluated.{Evaluated}
 use Rattle.rp_request.specs.declared.outcomes.Refusal.{Refusal}
 use Rattle.rp_request.specs.declared.outcomes.Refusal.TheVariants.{NotLeaseHolder}
+use Rattle.rp_request.specs.declared.requests.Request.{Request}
 use Rattle.rp_request.specs.declared.verdicts.Verdict.{Verdict}
 use Rattle.rp_request.specs.declared.verdicts.Verdict.TheVariants as verdicts
 use Rattle.rp_pending.specs.declared.proposals.Proposal.{Proposal}
@@ -44,12 +45,16 @@ use Rattle.rp_events.specs.ReplicaEvents.{event}
 use Rattle.rp_events.specs.Nodes as nodes
 use Rattle.rp_events.specs.Nodes.{Node, Status, Absent, Live, seat, with_seat, opened, opened_by, after_turn, range_numbers, right_base, right_base_term}
 use Rattle.rp_events.specs.NodeEvents.{status_after, after_replica, by_status, live_turn, all_turns, delivered, seat_by_message, acted, with_request}
-use Rattle.rp_script.specs.Bounds.{IsNode}
-use Rattle.rp_seats.proofs.Nodes.{seat_same, seat_other}
+use Rattle.rp_turns.proofs.Seatings as seatings
+use Rattle.rp_turns.proofs.Seatings.{MayTurn, acted_keeps}
+
+-- it is the number of one of so many nodes
+abbrev pub IsOneOf : ℕ → ℕ → Type 0
+IsOneOf many node = (1 ≤ node) × (node ≤ many)
 
 -- a lease ask is for one of so many nodes
 abbrev pub IsHome : ℕ → LeaseAsk → Type 0
-IsHome many ask = IsNode many ask.holder
+IsHome many ask = IsOneOf many ask.holder
 
 abbrev pub IsHomeItem : ℕ → Item → Type 0
 IsHomeItem many (items.Write id) = Unit {0}
@@ -64,27 +69,25 @@ HomeStatus many Absent = Unit {0}
 HomeStatus many (Live r) = KeepsHome many r
 HomeStatus many (nodes.Removed applied) = Unit {0}
 
--- what an event asks of who makes it
+-- what an event asks of who makes it: an ask is for the node itself, a transfer for a node that is there
 abbrev pub MayKeep : ℕ → Replica → ReplicaEvent AppliedState → Type 0
-MayKeep many r Ask = IsNode many r.raft.head.node
-MayKeep many r (Transfer to) = IsNode many to
-MayKeep many r _ = Unit {0}
+MayKeep many = MayTurn (λ r id request. Unit {0}) (λ r. IsOneOf many r.raft.head.node) (IsOneOf many)
 
--- what the event asks of a live seat
 abbrev pub MaySeat : ℕ → ReplicaEvent AppliedState → Status → Type 0
-MaySeat many e Absent = Unit {0}
-MaySeat many e (Live r) = MayKeep many r e
-MaySeat many e (nodes.Removed applied) = Unit {0}
+MaySeat many = seatings.MaySeat (λ r id request. Unit {0}) (λ r. IsOneOf many r.raft.head.node) (IsOneOf many)
+
+abbrev pub MayAct : ℕ → Node → Event AppliedState → Type 0
+MayAct many = seatings.MayAct (λ r id request. Unit {0}) (λ r. IsOneOf many r.raft.head.node) (IsOneOf many)
+
+-- an admission asks nothing
+pub may_admit : (many : ℕ) (id : CmdId) (request : Request) (status : Status) → MaySeat many (Admit id request) status
+may_admit many id request Absent = tt
+may_admit many id request (Live r) = tt
+may_admit many id request (nodes.Removed applied) = tt
 
 -- the seats of a node
 abbrev pub AllHome : ℕ → Node → Type 0
 AllHome many n = (range : ℕ) → HomeStatus many (seat n range)
-
--- what an event of a node asks
-abbrev pub MayAct : ℕ → Node → Event AppliedState → Type 0
-MayAct many n (events.Ask at) = MaySeat many Ask (seat n at)
-MayAct many n (events.Transfer at to) = IsNode many to
-MayAct many n _ = Unit {0}
 
 ask_same : (x ask : LeaseAsk) → same_ask x ask ≡ true → x.holder ≡ ask.holder
 ask_same x ask e = eqb-true x.holder ask.holder (first (x.holder == ask.holder) _ _ e) where
@@ -122,10 +125,11 @@ module _ (many : ℕ) where
   moves_inbox r ticks round t [] h = h
   moves_inbox r ticks round t (m ∷ ms) h = moves_inbox r ticks round (moved ticks round t m) ms (move_inbox r ticks round t m h)
 
-  answered : (asks : List LeaseAsk) (ask : LeaseAsk) → AllByRecursion (IsHome many) asks → list_any (λ x. same_ask x ask) asks ≡ true → (IsHome many) ask
+  -- a lease ask that joins was answered here
+  answered : (asks : List LeaseAsk) (ask : LeaseAsk) → AllByRecursion (IsHome many) asks → list_any (λ x. same_ask x ask) asks ≡ true → IsHome many ask
   answered [] ask h e = absurd cc
   answered (x ∷ asks) ask h e = go (answered asks ask h.1) (same_ask x ask) refl e where
-    go : (list_any (λ y. same_ask y ask) asks ≡ true → (IsHome many) ask) → (t : Bool) → same_ask x ask ≡ t → (t || list_any (λ y. same_ask y ask) asks) ≡ true → (IsHome many) ask
+    go : (list_any (λ y. same_ask y ask) asks ≡ true → IsHome many ask) → (t : Bool) → same_ask x ask ≡ t → (t || list_any (λ y. same_ask y ask) asks) ≡ true → IsHome many ask
     go ih true is k = (subst (λ z. 1 ≤ z) (ask_same x ask is) h.0.0, subst (λ z. z ≤ many) (ask_same x ask is) h.0.1)
     go ih false is k = ih k
 
@@ -133,33 +137,33 @@ module _ (many : ℕ) where
   asks_left ask [] h = tt
   asks_left ask (x ∷ asks) h = cond_both (same_ask x ask) asks (x ∷ without_first ask asks) (AllByRecursion (IsHome many)) (λ _. h.1) (λ _. (h.0, asks_left ask asks h.1))
 
-  item_home : (r : Replica) (item : Item) → (KeepsHome many) r → (KeepsHome many) (joined r item)
+  item_home : (r : Replica) (item : Item) → KeepsHome many r → KeepsHome many (joined r item)
   item_home r (items.Write id) h = record { inbox = all_append (IsHomeItem many) r.inbox (items.Write id ∷ []) h.inbox (tt, tt); asks = h.asks }
   item_home r (items.Lease ask) h =
       cond_both (list_any (λ x. same_ask x ask) r.asks) (record r { inbox = r.inbox ++ items.Lease ask ∷ []; asks = without_first ask r.asks }) r (KeepsHome many)
       (λ is. record { inbox = all_append (IsHomeItem many) r.inbox (items.Lease ask ∷ []) h.inbox (answered r.asks ask h.asks is, tt); asks = asks_left ask r.asks h.asks })
       (λ _. h)
 
-  items_home : (r : Replica) (taken : List Item) → (KeepsHome many) r → (KeepsHome many) (joined_all r taken)
+  items_home : (r : Replica) (taken : List Item) → KeepsHome many r → KeepsHome many (joined_all r taken)
   items_home r [] h = h
   items_home r (item ∷ more) h = items_home (joined r item) more (item_home r item h)
 
-  settled_home : (r : Replica) (c : Command) (v : Verdict) → (KeepsHome many) r → (KeepsHome many) (settled r c v).replica
+  settled_home : (r : Replica) (c : Command) (v : Verdict) → KeepsHome many r → KeepsHome many (settled r c v).replica
   settled_home r c verdicts.Took h = record { inbox = h.inbox; asks = h.asks }
   settled_home r c (verdicts.OldLease now) h = record { inbox = h.inbox; asks = h.asks }
   settled_home r c (verdicts.OldIndex lai) h = record { inbox = waits_inbox r r c.id h.inbox; asks = h.asks }
   settled_home r c verdicts.LeaseMoved h = h
   settled_home r c verdicts.Nothing h = h
 
-  proposer_home : (r : Replica) (p : Payload) → (KeepsHome many) r → (KeepsHome many) (proposer_told r p).replica
+  proposer_home : (r : Replica) (p : Payload) → KeepsHome many r → KeepsHome many (proposer_told r p).replica
   proposer_home r payloads.Nothing h = h
   proposer_home r (payloads.Write c) h = cond_both (is_own r c) (settled r c (command_verdict r.applied.state c)) (untold r) (λ z. (KeepsHome many) z.replica) (λ _. settled_home r c (command_verdict r.applied.state c) h) (λ _. h)
   proposer_home r (payloads.Lease ask) h = h
 
   -- an event of a replica
-  event_home : (r : Replica) (e : ReplicaEvent AppliedState) → MayKeep many r e → (ticks round : ℕ) (taken : List Item) → (KeepsHome many) r → (HomeStatus many) (status_after e (event r e ticks round taken).replica)
+  pub event_home : (r : Replica) (e : ReplicaEvent AppliedState) → MayKeep many r e → (ticks round : ℕ) (taken : List Item) → KeepsHome many r → HomeStatus many (status_after e (event r e ticks round taken).replica)
   event_home r (Admit id request) may ticks round taken h = go (guarded r request) where
-    go : (g : Result Evaluated Refusal) → (KeepsHome many) (admitted_by r id request g).replica
+    go : (g : Result Evaluated Refusal) → KeepsHome many (admitted_by r id request g).replica
     go (Err why) = h
     go (Ok v) = record { inbox = h.inbox; asks = h.asks }
   event_home r Ask may ticks round taken h =
@@ -194,7 +198,7 @@ module _ (many : ℕ) where
           (λ (d : Done). AllByRecursion (IsHomeItem many) d.replica.inbox × (d.replica.asks ≡ r.asks))
           (λ _. moves_inbox r ticks round t (refresh_moves f) (of_taken draft.taken)) (λ _. of_taken draft.taken)
   event_home r Apply may ticks round taken h = go (payload_of (next_entry r)) where
-    go : (o : Option Payload) → (KeepsHome many) (applied_where r o).replica
+    go : (o : Option Payload) → KeepsHome many (applied_where r o).replica
     go None = h
     go (Some p) = let k = proposer_home r p h in record { inbox = k.inbox; asks = k.asks }
   event_home r Cut may ticks round taken h = record { inbox = h.inbox; asks = h.asks }
@@ -202,67 +206,15 @@ module _ (many : ℕ) where
   event_home r (Peek key) may ticks round taken h = h
   event_home r Restart may ticks round taken h = record { inbox = tt; asks = tt }
 
-  seated_home : (n : Node) (at : ℕ) (status : Status) → AllHome many n → (HomeStatus many) status → AllHome many (with_seat n at status)
-  seated_home n at status h w range = ⊎_elim
-      (λ (own : at ≡ range). ⊎_elim
-      (λ (within : range < length n.seats). subst (λ i. (HomeStatus many) (seat (with_seat n i status) range)) (sym own) (subst (HomeStatus many) (sym (seat_same n range status within)) w))
-      (λ (past : length n.seats ≤ range). subst (HomeStatus many) (sym (get_or_past (with_seat n at status).seats range Absent (let same = length-set n.seats at status in omega (arith, past, same)))) tt)
-      (cases_lt range (length n.seats)))
-      (λ (ne : at ≡ range → ⊥). subst (HomeStatus many) (sym (seat_other n at range status ne)) (h range)) (cases_eq at range)
-
-  opened_home : (n : Node) (o : Option AppliedState) → AllHome many n → AllHome many (opened n o)
-  opened_home n None h = h
-  opened_home n (Some t) h = go (seat n t.desc.id) where
-    go : (status : Status) → AllHome many (opened_by n t status)
-    go Absent = seated_home n t.desc.id (Live (started n.node n.nodes t.lease.holder right_base right_base_term t)) h (record { inbox = tt; asks = tt })
-    go (Live r) = h
-    go (nodes.Removed applied) = h
-
-  replica_home : (n : Node) (at : ℕ) (e : ReplicaEvent AppliedState) (d : Done) → AllHome many n → (HomeStatus many) (status_after e d.replica) → AllHome many (after_replica n at e d)
-  replica_home n at e d h w = opened_home (after_turn n at (status_after e d.replica) d) d.right (seated_home n at (status_after e d.replica) h w)
-
-  status_home : (n : Node) (at : ℕ) (e : ReplicaEvent AppliedState) (taken : List Item) → AllHome many n → (status : Status) → seat n at ≡ status → MaySeat many e status → AllHome many (by_status n at e taken status).node
-  status_home n at e taken h Absent is may = h
-  status_home n at e taken h (Live r) is may = replica_home n at e (event r e n.ticks n.rounds taken) h (event_home r e may n.ticks n.rounds taken (subst (HomeStatus many) is (h at)))
-  status_home n at e taken h (nodes.Removed applied) is may = h
-
-  turn_home : (n : Node) (at : ℕ) (e : ReplicaEvent AppliedState) → ((r : Replica) → MayKeep many r e) → AllHome many n → (status : Status) → seat n at ≡ status → AllHome many (live_turn e n at status)
-  turn_home n at e may h Absent is = h
-  turn_home n at e may h (Live r) is = replica_home n at e (event r e n.ticks n.rounds []) h (event_home r e (may r) n.ticks n.rounds [] (subst (HomeStatus many) is (h at)))
-  turn_home n at e may h (nodes.Removed applied) is = h
-
-  all_home : (e : ReplicaEvent AppliedState) → ((r : Replica) → MayKeep many r e) → (ranges : List ℕ) (n : Node) → AllHome many n → AllHome many (all_turns e n ranges)
-  all_home e may [] n h = h
-  all_home e may (at ∷ more) n h = all_home e may more (live_turn e n at (seat n at)) (turn_home n at e may h (seat n at) refl)
-
-  message_home : (n : Node) (from at : ℕ) (m : Message AppliedState) → AllHome many n → (status : Status) → seat n at ≡ status → AllHome many (delivered n from at m status)
-  message_home n from at m h Absent is = seated_home n at (seat_by_message n from m) h (made m) where
-    made : (m : Message AppliedState) → (HomeStatus many) (seat_by_message n from m)
-    made (messages.Vote term i t) = tt
-    made (messages.VoteReply term granted) = tt
-    made (messages.Append term prev pt es commit) = tt
-    made (messages.AppendReply term ok i) = tt
-    made (messages.Forward payload) = tt
-    made (messages.Snap term i it snapshot) = record { inbox = tt; asks = tt }
-  message_home n from at m h (Live r) is = replica_home n at (Deliver from m) (event r (Deliver from m) n.ticks n.rounds []) h (event_home r (Deliver from m) tt n.ticks n.rounds [] (subst (HomeStatus many) is (h at)))
-  message_home n from at m h (nodes.Removed applied) is = h
-
-  every : (e : ReplicaEvent AppliedState) → ((r : Replica) → MayKeep many r e) → (status : Status) → MaySeat many e status
-  every e may Absent = tt
-  every e may (Live r) = may r
-  every e may (nodes.Removed applied) = tt
+  made_home : (n : Node) (from : ℕ) (m : Message AppliedState) → HomeStatus many (seat_by_message n from m)
+  made_home n from (messages.Vote term i t) = tt
+  made_home n from (messages.VoteReply term granted) = tt
+  made_home n from (messages.Append term prev pt es commit) = tt
+  made_home n from (messages.AppendReply term ok i) = tt
+  made_home n from (messages.Forward payload) = tt
+  made_home n from (messages.Snap term i it snapshot) = record { inbox = tt; asks = tt }
 
   pub acted_home : (n : Node) (ev : Event AppliedState) (taken : List Item) → MayAct many n ev → AllHome many n → AllHome many (acted n ev taken).node
-  acted_home n (events.Admit at id request) taken may h = status_home (with_request n request) at (Admit id request) [] h (seat n at) refl (every (Admit id request) (λ r. tt) (seat n at))
-  acted_home n (events.Ask at) taken may h = status_home n at Ask [] h (seat n at) refl may
-  acted_home n (events.Transfer at to) taken may h = status_home n at (Transfer to) [] h (seat n at) refl (every (Transfer to) (λ r. may) (seat n at))
-  acted_home n (events.Collect at) taken may h = status_home n at Collect taken h (seat n at) refl (every Collect (λ r. tt) (seat n at))
-  acted_home n (events.Flush at) taken may h = status_home n at Flush [] h (seat n at) refl (every Flush (λ r. tt) (seat n at))
-  acted_home n events.Tick taken may h = all_home Tick (λ r. tt) range_numbers (record n { ticks = n.ticks + 1 }) h
-  acted_home n (events.Deliver from at number m) taken may h = message_home n from at m h (seat n at) refl
-  acted_home n (events.Apply at) taken may h = status_home n at Apply [] h (seat n at) refl (every Apply (λ r. tt) (seat n at))
-  acted_home n (events.Cut at) taken may h = status_home n at Cut [] h (seat n at) refl (every Cut (λ r. tt) (seat n at))
-  acted_home n (events.Remove at) taken may h = status_home n at Remove [] h (seat n at) refl (every Remove (λ r. tt) (seat n at))
-  acted_home n (events.Peek at key) taken may h = status_home n at (Peek key) [] h (seat n at) refl (every (Peek key) (λ r. tt) (seat n at))
-  acted_home n events.Restart taken may h = all_home Restart (λ r. tt) range_numbers n h
-  acted_home n events.Round taken may h = h
+  acted_home =
+      acted_keeps (λ r id request. Unit {0}) (λ r. IsOneOf many r.raft.head.node) (IsOneOf many)
+      (HomeStatus many) tt (λ n t. record { inbox = tt; asks = tt }) made_home event_home

@@ -1,0 +1,4 @@
+pub mod Coming
+pub mod Latest
+pub mod Ended
+pub mod Seen
