@@ -57,7 +57,7 @@ abbrev pub fetched : {E : Type 0} → Step (Slot E) → Standing E → ℕ → S
 fetched s m found m' =
     (found ≡ 1 → (a : Answer) × (at : World) × IsNow m.0 at
     × IsTrueOf m.0.terms at (suc (s.word - m.0.terms.nodes)) a
-    × (m'.0 ≡ fetching s.word (s.word - m.0.terms.nodes) a m.0) × (m'.1 ≡ (s.word, Reply a) ∷ m.1))
+    × (m'.0 ≡ fetching s.word (s.word - m.0.terms.nodes) a at m.0) × (m'.1 ≡ (s.word, Reply a) ∷ m.1))
     × (found ≢ 1 → (m'.0 ≡ noting (Found s.word found) m.0) × (m'.1 ≡ m.1))
 
 -- the cell goes home with the answer that lies in it

@@ -114,7 +114,7 @@ RightOf t tries broken k (Tries ts) = (t.nodes ≤ k) × (tries (suc (k - t.node
 RightOf t tries broken k Rounds = (k < t.nodes) × (broken (suc k) ≡ false)
 RightOf t tries broken k BrokenOff = k < t.nodes
 
--- what joined seats had seen is past
+-- what was heard of other worlds is past
 abbrev pub AllHeard : (nodes : ℕ) → List World → World → Type 0
 AllHeard nodes joined w = (k : ℕ) (seen : World) → slice_get joined k ≡ Some seen → AllSeen nodes seen w
 

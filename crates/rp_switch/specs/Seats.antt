@@ -59,12 +59,12 @@ Posts v client answer (Ok done) w =
     w ≡ posting (v.terms.nodes + client - 1) answer (reaching (v.terms.nodes + client - 1) (client - 1) v)
 Posts v client answer (Err busy) w = (found : ℕ) × (found ≢ 0) × (w ≡ noting (Found (v.terms.nodes + client - 1) found) v)
 
--- What a try to fetch tells: the exchange found the cell full, and the answer that lay there is true; where
--- it tells an end, the client's right has learnt it. Or it found another word than that of a full cell.
+-- What a try to fetch tells: the exchange found the cell full, and the answer that lay there is true of a world of
+-- which all is so that the seat knows; where it tells an end, the client's right has learnt it. Or it found another word than that of a full cell.
 abbrev pub Fetches : Knowledge → (client : ℕ) → Result Answer Empty → Knowledge → Type 0
 Fetches v client (Ok a) w =
     (at : World) × IsNow v at × IsTrueOf v.terms at client a
-    × (w ≡ at_rest (fetching (v.terms.nodes + client - 1) (client - 1) a v))
+    × (w ≡ at_rest (fetching (v.terms.nodes + client - 1) (client - 1) a at v))
 Fetches v client (Err empty) w = (found : ℕ) × (found ≢ 1) × (w ≡ noting (Found (v.terms.nodes + client - 1) found) v)
 
 -- the seat carries the right to the rounds of each node that the worker serves
@@ -88,7 +88,8 @@ is_broken BrokenOff = true
 -- What the last seat knows of the nodes at the close: they are those of a reached world, which is that of
 -- a race, but for a last round of each node whose right says that one was broken off; and what it keeps of
 -- each client's tries is all that the journals have.
--- All that it saw, and that each seat saw that was joined to it, is past there. Each client made its tries as it may.
+-- All that it saw and heard of, and that each seat did that was joined to it, is past there. Each client made
+-- its tries as it may.
 pub record Closes (v : Knowledge) (nodes : List Node) : Type 0 where
   pub reached : IsReached v.terms.nodes nodes
   pub race : IsRace v.terms.rules (λ node. is_broken (right_at v.rights (node - 1))) nodes

@@ -39,8 +39,9 @@ pub data Look : Type 0 where
   Posted : (word : ℕ) → Answer → Look
 
 -- what the switch is made for; the seat's parts of the right to close it; where it stands; each node as
--- it was when the seat last took it; its rights, those of the nodes' rounds first, then those of the
--- clients; what its steps told, in order; and what the seats had seen that were joined to it
+-- it was when the seat last took it or gave it back; its rights, those of the nodes' rounds first, then those
+-- of the clients; what its steps told, in order; and, besides, the worlds in which the answers were true that
+-- it fetched, and what the seats had seen and heard that were joined to it
 pub record Knowledge : Type 0 where
   pub terms : Terms
   pub parts : ℕ
@@ -137,12 +138,13 @@ taking place at n v = record v {
 abbrev pub reaching : (word place : ℕ) → Knowledge → Knowledge
 reaching word place v = record v { stage = HasCell place; looks = v.looks ++ Found word 0 ∷ [] }
 
--- it is taken with this answer
-abbrev pub fetching : (word place : ℕ) → Answer → Knowledge → Knowledge
-fetching word place a v = record v {
+-- it is taken with this answer, which is true of this world
+abbrev pub fetching : (word place : ℕ) → Answer → World → Knowledge → Knowledge
+fetching word place a at v = record v {
   stage = HasCell place;
   rights = rights_told a word v.rights;
   looks = v.looks ++ Fetched place a ∷ [];
+  joined = v.joined ++ at ∷ [];
 }
 
 abbrev pub at_rest : Knowledge → Knowledge
