@@ -1,19 +1,17 @@
 -- What a caller may give back of a node that it has taken, and what it then has.
-use Rattle.std.proofs.Common.{◌≡◌, ◌≢◌, ℕ, zero, suc, ◌+◌, ◌-◌, ◌<◌, ◌≤◌, eqb, cond, Bool, true, false, ◌&&◌, if◌then◌else◌, ◌==◌, ◌%◌, List, [], ◌∷◌, ◌++◌, replicate, refl, ap, sym, ◌∙◌, arith, subst, slice_get, slice_set, Some, Ok}
+use Rattle.std.proofs.Common.{◌≡◌, ◌≢◌, ℕ, zero, suc, ◌+◌, ◌-◌, ◌<◌, ◌≤◌, eqb, cond, Bool, true, false, ◌&&◌, if◌then◌else◌, ◌==◌, ◌%◌, List, [], ◌++◌, length, replicate, refl, ap, sym, ◌∙◌, arith, subst, slice_get, slice_set, Some, Ok}
 use Rattle.std.specs.Prelude.{nat_lt}
 use Rattle.std.proofs.lemmas.Bool.{eqb-true, eq-eqb, ne_eqb, lt-ltb, le-ltb}
-use Rattle.rp_base.specs.declared.ids.CmdId.{CmdId}
-use Rattle.rp_request.specs.declared.outcomes.Outcome.{Outcome}
 use Rattle.rp_clients.specs.Tries.{Try, learns}
 use Rattle.rp_clients.specs.declared.answers.Answer.{Answer}
 use Rattle.rp_clients.specs.declared.answers.Answer.TheVariants as answers
 use Rattle.rp_events.specs.Nodes.{Node}
 use Rattle.rp_events.specs.Worlds.{World}
 use Rattle.rp_journals.proofs.Lists.{set_other}
-use Rattle.rp_race.specs.Gives.{OnlyAdmitted, AllMayTry, tried_after, admitted_after, after_round}
+use Rattle.rp_race.specs.Gives.{OnlyAdmitted, tried_after, admitted_after, after_round}
 use Rattle.rp_switch.specs.declared.switch.Taken.{Taken}
 use Rattle.rp_switch.specs.declared.terms.Terms.{Terms}
-use Rattle.rp_switch.specs.Views.{Right, Lacks, Tries, Rounds, BrokenOff, Choice, OfClient, OfWorker, Chooses, Knowledge, right_at, is_chosen, chosen, others, either_right, right_told, choosing, fetching, at_rest, left, right, both}
+use Rattle.rp_switch.specs.Views.{Right, Lacks, Tries, Rounds, BrokenOff, Choice, OfClient, OfWorker, Chooses, Knowledge, right_at, is_chosen, either_right, right_told, choosing, fetching, at_rest, left, right, both}
 use Rattle.rp_switch.specs.Rules.{IsNow, clients_of, first}
 use Rattle.rp_switch.specs.Gifts.{tries_given, is_broken_off, tries_in, tries_known, IsTries, CarriesClient, AreAdmissions, IsRound, IsBrokenRound, IsGift, admissions, MayGive}
 use Rattle.rp_switch.specs.Plays.{right_given, giving}
@@ -212,7 +210,7 @@ pub clients_kept : (worker workers : ℕ) (v : Knowledge) (k : ℕ) → v.terms.
     → right_at (left (choosing (OfWorker worker workers) v)).rights k ≡ right_at v.rights k
 clients_kept worker workers v k past =
     right_kept (OfWorker worker workers) v k
-    ∙ ap (λ (b : Bool). cond (b && k % workers == worker) Lacks (right_at v.rights k)) (le-ltb v.terms.nodes k past)
+    ∙ ap (λ (b : Bool). cond (b && k % workers == worker) Lacks (right_at v.rights k)) (le-ltb k v.terms.nodes past)
 
 -- Behind a join: each right is the one's or the other's.
 pub right_joined : (v w : Knowledge) (k : ℕ) → right_at (both v w).rights k ≡ either_right (right_at v.rights k) (right_at w.rights k)

@@ -13,7 +13,6 @@ use Rattle.rp_journals.proofs.Asking.{asked_once}
 use Rattle.rp_journals.proofs.Growing.{some_node}
 use Rattle.rp_events.specs.Nodes.{Node}
 use Rattle.rp_events.specs.Worlds.{World}
-use Rattle.rp_events.specs.Lawful.{IsReached}
 use Rattle.rp_race.specs.Gives.{Tried, OnlyAdmitted}
 use Rattle.rp_node.specs.Steps.{Held}
 use Rattle.rp_switch.specs.declared.slots.Slot.{Slot}
@@ -21,7 +20,7 @@ use Rattle.rp_switch.specs.declared.slots.Slot.TheVariants.{Nothing, Body, Reply
 use Rattle.rp_switch.specs.declared.terms.Terms.{Terms}
 use Rattle.rp_switch.specs.Views.{Right, Lacks, Tries, Rounds, BrokenOff, HasNode, Knowledge, right_at, by_place}
 use Rattle.rp_switch.specs.Rules.{Phase, home, out, node_word, InPhase, HasIt, AtStage, OnlyAdmittedSince, RightOf, weight, right_on, IsWith, Kept}
-use Rattle.rp_switch.specs.Gifts.{tries_given, is_broken_off, tries_in, tries_known, IsTries, CarriesClient, IsGift, Gives}
+use Rattle.rp_switch.specs.Gifts.{tries_given, is_broken_off, IsTries, CarriesClient, IsGift, Gives}
 use Rattle.rp_switch.specs.Plays as plays
 use Rattle.rp_switch.specs.Plays.{Standing, right_given, giving}
 use Rattle.rp_switch.proofs.Places.{put, at_put}

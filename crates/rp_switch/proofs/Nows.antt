@@ -19,7 +19,7 @@ use Rattle.rp_switch.specs.declared.slots.Slot.{Slot}
 use Rattle.rp_switch.specs.declared.terms.Terms.{Terms}
 use Rattle.rp_switch.specs.Views.{Right, Lacks, Tries, Rounds, BrokenOff, Knowledge, right_at}
 use Rattle.rp_switch.specs.Gifts.{tries_in, tries_known, IsTries}
-use Rattle.rp_switch.specs.Rules.{OnlyAdmittedSince, IsNow, RightOf, Knows, IsWhole, Kept}
+use Rattle.rp_switch.specs.Rules.{OnlyAdmittedSince, IsNow, RightOf, IsWhole, Kept}
 use Rattle.rp_switch.proofs.Given.{Agree}
 
 -- what a seat knows of a client's tries is so

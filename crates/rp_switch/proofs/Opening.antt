@@ -9,8 +9,8 @@ use Rattle.atomic_table.specs.Table.{opening}
 use Rattle.rp_events.specs.Nodes.{Node}
 use Rattle.rp_events.specs.Worlds.{World, first_world}
 use Rattle.rp_events.specs.Lawful.{IsReached}
-use Rattle.rp_journals.proofs.Growing.{later_refl, some_node}
-use Rattle.rp_race.specs.Gives.{AllSeen, OnlyAdmitted}
+use Rattle.rp_journals.proofs.Growing.{some_node}
+use Rattle.rp_race.specs.Gives.{OnlyAdmitted}
 use Rattle.rp_node.specs.Steps.{Held}
 use Rattle.rp_switch.specs.Openings.{first_slots, bare, AreFirst}
 use Rattle.rp_switch.specs.declared.slots.Slot.{Slot}

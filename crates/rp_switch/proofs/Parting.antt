@@ -11,7 +11,7 @@ use Rattle.rp_events.specs.Worlds.{World}
 use Rattle.rp_race.specs.Gives.{AllSeen}
 use Rattle.rp_switch.specs.declared.slots.Slot.{Slot}
 use Rattle.rp_switch.specs.declared.terms.Terms.{Terms}
-use Rattle.rp_switch.specs.Views.{Right, Lacks, Choice, OfClient, OfWorker, Idle, Chooses, Knowledge, nothing_known, right_at, is_chosen, choosing, knows_better, left, right, both}
+use Rattle.rp_switch.specs.Views.{Lacks, Choice, OfClient, OfWorker, Idle, Chooses, Knowledge, nothing_known, right_at, is_chosen, choosing, knows_better, left, right, both}
 use Rattle.rp_switch.specs.Rules.{Phase, home, out, node_word, AllHeard, RightOf, Knows, weight, right_on, Kept}
 use Rattle.rp_switch.specs.Plays as plays
 use Rattle.rp_switch.specs.Plays.{Standing}

@@ -224,7 +224,7 @@ told_at_lacks a word k = by_test (eqb k word)
     by_test true = told_lacks a
     by_test false = refl
 
-at_told : (a : Answer) (word : ℕ) (rs : List Right) (k : ℕ) → right_at (rights_told a word rs) k ≡ told_at a word k (right_at rs k)
+pub at_told : (a : Answer) (word : ℕ) (rs : List Right) (k : ℕ) → right_at (rights_told a word rs) k ≡ told_at a word k (right_at rs k)
 at_told a word rs k = at_place (told_at a word) (told_at_lacks a word) rs 0 k ∙ ap (λ i. told_at a word i (right_at rs k)) (omega arith)
 
 learns_weighs : (id : CmdId) (outcome : Outcome) (r : Right) → weight (right_learns id outcome r) ≡ weight r

@@ -1,5 +1,5 @@
 -- What two seats saw together.
-use Rattle.std.proofs.Common.{◌≡◌, ℕ, zero, suc, ◌+◌, ◌≤◌, eqb, cond, Bool, true, false, not, ◌&&◌, List, [], ◌∷◌, length, refl, ap, sym, ◌∙◌, arith, subst, slice_get, Some}
+use Rattle.std.proofs.Common.{◌≡◌, ℕ, zero, suc, ◌+◌, ◌≤◌, eqb, cond, Bool, true, false, not, ◌&&◌, [], ◌∷◌, length, refl, ap, sym, ◌∙◌, arith, subst, slice_get, Some}
 use Rattle.std.proofs.lemmas.Bool.{eqb-true, eq-eqb}
 use Rattle.rp_journals.proofs.Growing.{some_node}
 use Rattle.rp_events.specs.Nodes.{Node}
@@ -7,7 +7,7 @@ use Rattle.rp_events.specs.Worlds.{World, node_of}
 use Rattle.rp_race.specs.Gives.{AllSeen, WasSeen, OnlyAdmitted}
 use Rattle.rp_race.proofs.Going.{only_itself}
 use Rattle.rp_switch.specs.declared.terms.Terms.{Terms}
-use Rattle.rp_switch.specs.Views.{Right, Lacks, Tries, Rounds, BrokenOff, Stage, Idle, HasNode, HasCell, Chooses, Knowledge, right_at, has_node, is_rounds, seen_by, knows_better, either_right, together, both}
+use Rattle.rp_switch.specs.Views.{Right, Lacks, Tries, Rounds, BrokenOff, Stage, Idle, HasNode, HasCell, Chooses, Knowledge, right_at, has_node, is_rounds, seen_by, knows_better, either_right, together}
 use Rattle.rp_switch.specs.Rules.{Phase, Cell, AtStage, OnlyAdmittedSince, weight, right_on}
 use Rattle.rp_switch.proofs.Rights.{together_at}
 
@@ -21,7 +21,10 @@ pub at_seen : (p : ℕ → Bool) (k : ℕ) (ns ms : World) → length ns ≡ len
 unfolding seen_by
 at_seen p k [] [] e j = by_test (p (k + j))
   where
-    by_test : (b : Bool) → slice_get [] j ≡ cond b (slice_get [] j) (slice_get [] j)
+    nothing : World
+    nothing = []
+
+    by_test : (b : Bool) → slice_get nothing j ≡ cond b (slice_get nothing j) (slice_get nothing j)
     by_test true = refl
     by_test false = refl
 at_seen p k [] (m ∷ ms) e j = absurd (omega (arith, e))

@@ -1,5 +1,5 @@
 -- A node is taken.
-use Rattle.std.proofs.Common.{◌≡◌, ◌≢◌, ℕ, zero, suc, ◌+◌, ◌<◌, eqb, Bool, List, [], ◌∷◌, length, set, refl, ap, sym, ◌∙◌, arith, subst, slice_index, slice_set, slice_get, Some}
+use Rattle.std.proofs.Common.{◌≡◌, ◌≢◌, ℕ, zero, suc, ◌+◌, ◌<◌, eqb, Bool, List, set, refl, ap, sym, ◌∙◌, arith, subst, slice_index, slice_set, slice_get, Some}
 use Rattle.std.proofs.lemmas.List.{length-set, get_or-set_same, get_or-set_other}
 use mathlib.Core.Option as maybe
 use mathlib.Core.Logic.{dite}
