@@ -1,7 +1,8 @@
 -- The latest attempt of each command, and its outcome (this project).
-use Rattle.std.specs.Prelude.{◌≡◌, ◌×◌, ℕ, ◌<◌, Bool, ◌&&◌, ◌==◌, nat_lt, if◌then◌else◌, List, Option, None, Some}
+use Rattle.std.specs.Prelude.{◌≡◌, ℕ, ◌<◌, Bool, true, ◌&&◌, ◌==◌, nat_lt, if◌then◌else◌, List, Option, None, Some}
 use Rattle.std.specs.Map.{lookup}
-use Rattle.std.specs.Option.{option_map_or}
+use Rattle.std.specs.Option.{option_map, option_map_or}
+use Rattle.rp_base.specs.Ids.{same_id}
 use Rattle.rp_base.specs.declared.ids.CmdId.{CmdId}
 use Rattle.rp_request.specs.declared.outcomes.Outcome.{Outcome}
 use Rattle.rp_request.specs.declared.outcomes.Outcome.TheVariants as outcomes
@@ -16,6 +17,8 @@ use Rattle.rp_race.specs.Ends.{latest_attempt}
 use Rattle.rp_racelines.specs.declared.attempts.Command.{Command}
 use Rattle.rp_racelines.specs.declared.attempts.Latest.{Latest}
 use Rattle.rp_racelines.specs.declared.attempts.Latest.TheVariants.{Attempt}
+use Rattle.rp_racelines.specs.declared.attempts.Told.{Told}
+use Rattle.rp_racelines.specs.declared.attempts.Told.TheVariants.{End}
 
 -- the command with this number of this client
 abbrev pub is_command : (client seq : ℕ) → Command → Bool
@@ -40,16 +43,24 @@ IsLatest w client seq (Some (Attempt attempt outcome)) = IsLast w client seq att
 abbrev pub AreLatest : World → List (Command × Latest) → Type 0
 AreLatest w known = (client seq : ℕ) → IsLatest w client seq (lookup (is_command client seq) known)
 
--- the later one of an attempt and what was known before
-abbrev pub later_of : (attempt : ℕ) → Outcome → Option Latest → Latest
-later_of attempt outcome None = Attempt attempt outcome
-later_of attempt outcome (Some (Attempt known end)) =
-    if nat_lt known attempt then Attempt attempt outcome else Attempt known end
+-- an attempt is later than what is known of its command
+abbrev pub is_later : (attempt : ℕ) → Option Latest → Bool
+is_later attempt None = true
+is_later attempt (Some (Attempt known outcome)) = nat_lt known attempt
 
 -- an attempt is noted in what is known of a command
 abbrev pub noted : CmdId → Outcome → (client seq : ℕ) → Option Latest → Option Latest
 noted id outcome client seq known =
-    if id.client == client && id.seq == seq then Some (later_of id.attempt outcome known) else known
+    if (id.client == client && id.seq == seq) && is_later id.attempt known
+    then Some (Attempt id.attempt outcome)
+    else known
+
+-- what is told of an attempt
+abbrev pub outcome_in : Told → Outcome
+outcome_in (End outcome) = outcome
+
+abbrev pub told_in : List (CmdId × Told) → CmdId → Option Outcome
+told_in ends id = option_map outcome_in (lookup (same_id id) ends)
 
 -- how an attempt ended: by its admission's answer, or as its node tells
 abbrev pub ended_by : EventAnswer → Option Outcome → Outcome

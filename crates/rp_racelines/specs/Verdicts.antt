@@ -1,5 +1,5 @@
 -- How a race ends (this project).
-use Rattle.std.specs.Prelude.{◌≡◌, ℕ, ◌<◌, ◌≤◌, sum_by, length}
+use Rattle.std.specs.Prelude.{◌≡◌, ℕ, ◌<◌, ◌≤◌, false, Some, sum_by, length}
 use Rattle.rp_events.specs.Nodes.{Node, is_full}
 use Rattle.rp_events.specs.Worlds.{World, node_of}
 use Rattle.rp_race.specs.declared.rules.RaceRules.{RaceRules}

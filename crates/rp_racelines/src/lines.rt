@@ -20,11 +20,12 @@ fn client_in(line: &ScriptLine) -> u16
 
 /// The greatest number of a client that sends a request.
 fn clients_in(lines: &[NumberedLine]) -> u16
-    ensures { result ≡ clients_in lines.now }
+    ensures greatest { result ≡ clients_in lines.now }
+    ensures few { result < 2 ^ 16 }
 {
     let mut greatest = 0;
     for line in lines {
-        greatest = client_in(&line.line).max(greatest);
+        greatest = greatest.max(client_in(&line.line));
     }
     greatest
 }
@@ -43,33 +44,58 @@ fn nothing_sent(alloc: Global, clients: u16) -> Result<Vec<ClientRequests>, NoMe
 }
 
 /// A further request of a client.
-fn push_request(sent: &mut ClientRequests, request: Request) -> Result<(), NoMemory>
+fn push_request(
+    alloc: Global,
+    sent: &mut ClientRequests,
+    request: Request,
+) -> Result<(), NoMemory>
     ensures { OnOk result (sent.new ≡ with_request request sent.old) }
 {
-    sent.requests.push(request)
+    let mut requests = std::mem::replace(&mut sent.requests, Seq::new(alloc)).into_vec();
+    requests.extend_from_slice(std::slice::from_ref(&request))?;
+    sent.requests = Seq::from_vec(requests);
+    Ok(())
 }
 
 /// Puts the request of a line behind those of its client.
-fn take_line(sent: &mut [ClientRequests], line: &ScriptLine) -> Result<(), NoMemory>
+fn take_line(
+    alloc: Global,
+    sent: &mut [ClientRequests],
+    line: &ScriptLine,
+) -> Result<(), NoMemory>
     requires { client_in line.now ≤ length sent.old }
     ensures { OnOk result (sent.new ≡ sent_after line.now sent.old) }
 {
     match *line {
         ScriptLine::Send {
             client, request, ..
-        } if client > 0 => push_request(&mut sent[usize::from(client) - 1], request),
+        } if client > 0 => push_request(alloc, &mut sent[usize::from(client) - 1], request),
         _ => Ok(()),
     }
 }
 
+/// Puts the requests of the lines behind those of their clients.
+fn take_lines(
+    alloc: Global,
+    sent: &mut [ClientRequests],
+    lines: &[NumberedLine],
+) -> Result<(), NoMemory>
+    requires { sent.old ≡ replicate (clients_in lines.now) (record { requests = [] }) }
+    ensures { OnOk result (sent.new ≡ requests_in lines.now) }
+{
+    for line in lines {
+        take_line(alloc, sent, &line.line)?;
+    }
+    Ok(())
+}
+
 /// What each client sends.
 fn requests_in(alloc: Global, lines: &[NumberedLine]) -> Result<Seq<ClientRequests>, NoMemory>
-    ensures { IfOk result (λ sent. sent ≡ requests_in lines.now) }
+    ensures sent { IfOk result (λ sent. sent ≡ requests_in lines.now) }
+    ensures few { IfOk result (λ sent. length sent < 2 ^ 16) }
 {
     let mut sent = nothing_sent(alloc, clients_in(lines))?;
-    for line in lines {
-        take_line(&mut sent, &line.line)?;
-    }
+    take_lines(alloc, &mut sent, lines)?;
     Ok(Seq::from_vec(sent))
 }
 

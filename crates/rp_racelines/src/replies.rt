@@ -1,6 +1,5 @@
 //! The reply lines of a race.
 ghost use Rattle.std.specs.Prelude.{◌≡◌, ◌+◌, ◌<◌, ◌≤◌, ◌++◌, ◌∷◌, ◌^◌, [], length, map, Option, IfOk, OnOk};
-ghost use Rattle.std.specs.Option.{option_copied};
 ghost use Rattle.std.specs.Map.{lookup};
 ghost use Rattle.rp_raftstep.specs.RaftState.{nodes_to};
 ghost use Rattle.rp_request.specs.declared.outcomes.Outcome.{Outcome};
@@ -22,12 +21,12 @@ use std::alloc::Global;
 pub(crate) const MOST_TRIES: u16 = 4096;
 
 /// How a command is left by its latest attempt.
-fn end_by(number: u16, outcome: Outcome) -> End
-    ensures { result ≡ end_by number (Some outcome) }
+fn end_by(number: u16, outcome: &Outcome) -> End
+    ensures { result ≡ end_by number (Some outcome.now) }
 {
-    match outcome {
-        Outcome::Refused(refusal) if number == MOST_TRIES => End::Tries(refusal),
-        _ => End::Outcome(outcome),
+    match *outcome {
+        Outcome::Refused(last) if number == MOST_TRIES => End::Tries(last),
+        _ => End::Outcome(*outcome),
     }
 }
 
@@ -35,16 +34,27 @@ fn end_by(number: u16, outcome: Outcome) -> End
 fn line_of(client: u16, seq: u32, latest: Option<Latest>) -> ReplyLine
     ensures { result ≡ line_of client seq latest }
 {
-    let (attempt, end) = match latest {
-        None => (0, End::Unsent),
-        Some(Latest::Attempt { number, outcome }) => (number, end_by(number, outcome)),
-    };
-    ReplyLine {
-        client,
-        seq,
-        attempt,
-        end,
+    match latest {
+        None => ReplyLine {
+            client,
+            seq,
+            attempt: 0,
+            end: End::Unsent,
+        },
+        Some(Latest::Attempt { number, outcome }) => ReplyLine {
+            client,
+            seq,
+            attempt: number,
+            end: end_by(number, &outcome),
+        },
     }
+}
+
+/// What is known of a command's latest attempt.
+fn known_of(attempts: &Attempts, client: u16, seq: u32) -> Option<Latest>
+    ensures { result ≡ lookup (is_command client seq) attempts.now.entries }
+{
+    attempts.get(&Command { client, seq }).copied()
 }
 
 /// Puts the reply line of a command behind the others.
@@ -54,11 +64,10 @@ fn push_line(
     client: u16,
     seq: u32,
 ) -> Result<(), NoMemory>
-    ensures { OnOk result ((w : World) → AreLatest w attempts.now.entries
-        → lines.new.items ≡ lines.old.items ++ reply_line w client seq ∷ []) }
+    ensures { OnOk result (lines.new.items ≡ lines.old.items
+        ++ line_of client seq (lookup (is_command client seq) attempts.now.entries) ∷ []) }
 {
-    let latest = attempts.get(&Command { client, seq }).copied();
-    let line = line_of(client, seq, latest);
+    let line = line_of(client, seq, known_of(attempts, client, seq));
     lines.extend_from_slice(std::slice::from_ref(&line))?;
     Ok(())
 }
