@@ -1,3 +1,5 @@
 pub mod Sending
 pub mod Noting
 pub mod Telling
+pub mod Scripted
+pub mod Longest
