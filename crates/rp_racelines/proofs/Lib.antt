@@ -3,3 +3,4 @@ pub mod Noting
 pub mod Telling
 pub mod Scripted
 pub mod Longest
+pub mod Judged

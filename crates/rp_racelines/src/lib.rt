@@ -3,13 +3,13 @@
 #![tactic(auto)]
 
 mod attempts;
-mod judge;
 pub mod laws;
 mod lines;
-mod replies;
+mod race_ends;
+mod reply_lines;
 mod verdicts;
 
-pub use judge::{is_whole, judge};
 pub use lines::rules_of;
-pub use replies::replies;
+pub use race_ends::{is_whole, judge};
+pub use reply_lines::replies;
 pub use verdicts::Verdict;

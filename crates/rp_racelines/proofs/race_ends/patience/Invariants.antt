@@ -1,7 +1,7 @@
 use Rattle.std.proofs.Common.{◌≡◌, ◌+◌, length, drop}
 use Rattle.std.specs.Prelude.{sum_by}
 use Rattle.rp_racelines.specs.Verdicts.{command_count}
-use Rattle.rp_racelines.proofs.judge.patience.Given as goal
+use Rattle.rp_racelines.proofs.race_ends.patience.Given as goal
 
 -- the commands so far and those that are left are all
 abbrev pub invariant-loop-sent : goal.invariant-loop-sent

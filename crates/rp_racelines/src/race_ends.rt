@@ -1,5 +1,5 @@
 //! How a race ended, by its nodes at the close.
-ghost use Rattle.std.specs.Prelude.{◌≡◌, ◌↔◌, ℕ, ◌*◌, ◌+◌, ◌<◌, ◌≤◌, ◌^◌, IsTrue, nat_le, All, length, map, count_by};
+ghost use Rattle.std.specs.Prelude.{◌≡◌, ◌↔◌, ℕ, ◌*◌, ◌+◌, ◌<◌, ◌≤◌, ◌^◌, IsTrue, nat_le, length, map, count_by};
 ghost use Rattle.std.specs.List.{list_all, list_any};
 ghost use Rattle.rp_clients.specs.Tries.{tries_again};
 ghost use Rattle.rp_events.specs.Buffered.{is_live};
@@ -10,7 +10,7 @@ ghost use Rattle.rp_racelines.specs.Judging.{is_open_line, has_rounds, whole_aft
 ghost use Rattle.rp_racelines.specs.Replies.{race_replies};
 ghost use Rattle.rp_racelines.specs.Verdicts.{command_count, AreWhole, EndsBy};
 
-use crate::replies::MOST_TRIES;
+use crate::reply_lines::MOST_TRIES;
 use crate::verdicts::Verdict;
 use rp_base::RangeId;
 use rp_bufcore::BufferEnd;
@@ -109,7 +109,7 @@ fn some_full<B: BufferEnd + Drop>(nodes: &[Node<B>]) -> bool
 
 /// Whether each node with a live replica has had so many rounds.
 fn have_rounds<B: BufferEnd + Drop>(nodes: &[Node<B>], rounds: u64) -> bool
-    requires { All (λ h. length h.node.seats ≡ 8) nodes.now }
+    requires { IsReached (length nodes.now) (map (λ h. h.node) nodes.now) }
     ensures { result ≡ list_all (has_rounds rounds) (map (λ h. h.node) nodes.now) }
 {
     for node in nodes {

@@ -3,7 +3,7 @@ use Rattle.rp_raftstep.specs.RaftState.{nodes_to}
 use Rattle.rp_events.specs.Worlds.{World}
 use Rattle.rp_racelines.specs.Latest.{AreLatest}
 use Rattle.rp_racelines.specs.Replies.{reply_line}
-use Rattle.rp_racelines.proofs.replies.push_client.Given as goal
+use Rattle.rp_racelines.proofs.reply_lines.push_client.Given as goal
 
 -- the lines of the commands so far
 abbrev pub invariant-loop-before : goal.invariant-loop-before

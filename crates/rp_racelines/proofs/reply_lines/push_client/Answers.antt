@@ -2,7 +2,7 @@ use Rattle.std.proofs.Common.{◌∙◌, ◌+◌}
 use Rattle.std.specs.Map.{lookup}
 use Rattle.rp_racelines.specs.Latest.{is_command}
 use Rattle.rp_racelines.proofs.Telling.{lines_more, pushes}
-use Rattle.rp_racelines.proofs.replies.push_client.Goals as goal
+use Rattle.rp_racelines.proofs.reply_lines.push_client.Goals as goal
 
 pub loop-before-preserved : goal.loop-before-preserved
 loop-before-preserved c w h = lines_more w c.args.client c.loop-before.before c.args.lines.now.items _ _
