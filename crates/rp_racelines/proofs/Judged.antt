@@ -1,24 +1,22 @@
 -- How a race is judged.
-use Rattle.std.proofs.Common.{◌≡◌, ◌↔◌, ℕ, zero, suc, ◌+◌, ◌-◌, ◌*◌, ◌<◌, ◌≤◌, Bool, true, false, cond, not, ◌&&◌, ◌||◌, ◌⊎◌, ⊎_elim, Option, None, Some, List, [], ◌∷◌, ◌++◌, length, map, get_or, take, drop, refl, sym, ap, subst, ◌∙◌, arith, IsTrue}
+use Rattle.std.proofs.Common.{◌≡◌, ◌↔◌, ℕ, zero, suc, ◌+◌, ◌<◌, ◌≤◌, Bool, true, false, cond, not, ◌&&◌, ◌||◌, Option, None, Some, List, [], ◌∷◌, ◌++◌, length, map, get_or, take, refl, sym, ap, ◌∙◌, arith, IsTrue}
 use Rattle.std.specs.Prelude.{count_by, fold, nat_le, nat_lt, sum_by, slice_get, slice_index_or, ◌==◌}
 use Rattle.std.specs.List.{list_all, list_any}
 use Rattle.std.specs.Option.{option_map_or}
-use Rattle.std.proofs.lemmas.Bool.{cases_lt, eqb-true, le-leb, le-ltb, leb-true, lt-leb}
-use Rattle.std.proofs.lemmas.List.{drop_more, length-append, length-map, map-append, take_all, take_more}
-use Rattle.std.proofs.lemmas.List.Sums.{fold-append}
+use Rattle.std.proofs.lemmas.Bool.{eqb-true, le-leb, le-ltb, leb-true, lt-leb}
+use Rattle.std.proofs.lemmas.List.{length-append, length-map, map-append, take_more}
+use Rattle.std.proofs.lemmas.List.Sums.{sum_by-cons}
 use Rattle.rp_raftstep.specs.RaftState.{nodes_to}
 use Rattle.rp_base.proofs.Counts.{count_cons}
-use Rattle.rp_request.specs.declared.notes.ReplyLine.{ReplyLine}
 use Rattle.rp_request.specs.declared.outcomes.End.TheVariants as ends
 use Rattle.rp_request.specs.declared.outcomes.Outcome.{Outcome}
 use Rattle.rp_request.specs.declared.outcomes.Outcome.TheVariants as outcomes
-use Rattle.rp_request.specs.declared.outcomes.Refusal.{Refusal}
 use Rattle.rp_events.specs.declared.journals.JournalEntry.{JournalEntry}
 use Rattle.rp_events.specs.declared.journals.PastEvent.{PastEvent}
 use Rattle.rp_events.specs.declared.journals.PastEvent.TheVariants as past
 use Rattle.rp_events.specs.Buffered.{is_live}
 use Rattle.rp_events.specs.Lawful.{IsReached}
-use Rattle.rp_events.specs.Nodes.{Node, Status, Absent, Live, Removed, first_node, is_full, seat}
+use Rattle.rp_events.specs.Nodes.{Node, Status, Absent, is_full}
 use Rattle.rp_events.specs.Worlds.{World, first_world, node_of, outcome_of}
 use Rattle.rp_journals.proofs.Growing.{later_grows, one_node}
 use Rattle.rp_journals.proofs.Reading.{first_at}
@@ -34,7 +32,7 @@ use Rattle.rp_race.proofs.Pended.{was_pending}
 use Rattle.rp_racelines.specs.declared.verdicts.Verdict.TheVariants as verdicts
 use Rattle.rp_racelines.specs.Judging.{ends_whole, has_rounds, is_open_end, is_open_line, whole_after}
 use Rattle.rp_racelines.specs.Replies.{line_by, race_replies, reply_line}
-use Rattle.rp_racelines.specs.Verdicts.{command_count, AreWhole, EndsBy, HasEnded, IsUnfinished, NoneFull, WasPendingFor}
+use Rattle.rp_racelines.specs.Verdicts.{command_count, AreWhole, EndsBy, NoneFull}
 use Rattle.rp_racelines.proofs.Sending.{length_to}
 
 -- a command is open by its line
@@ -75,7 +73,8 @@ commands_counted client (s ∷ sent) =
     let l = length-append mine (commands_from (client + 1) sent) in
     let m : length mine ≡ length s.requests = length-map (nodes_to (length s.requests)) (λ seq. let c : Command = record { client = client; seq = seq } in c) ∙ length_to (length s.requests) in
     let more = commands_counted (client + 1) sent in
-    omega (arith, l, m, more)
+    let both : length mine + length (commands_from (client + 1) sent) ≡ length s.requests + sum_by (λ (s : ClientRequests). length s.requests) sent = omega (arith, m, more) in
+    l ∙ both ∙ sym (sum_by-cons (λ (s : ClientRequests). length s.requests) s sent)
 
 pub lines_counted : (rules : RaceRules) (w : World) → length (race_replies rules w) ≡ command_count rules
 lines_counted rules w = length-map (commands_of rules) (λ (c : Command). reply_line w c.client c.seq) ∙ commands_counted 1 rules.requests
@@ -84,7 +83,7 @@ lines_counted rules w = length-map (commands_of rules) (λ (c : Command). reply_
 pub eight_seats : (nodes : ℕ) (w : World) → IsReached nodes w → (node : ℕ) (n : Node) → node_of w node ≡ Some n → length n.seats ≡ 8
 eight_seats nodes w r node n has =
     let grows = later_grows (first_world nodes) w (record { schedule = r.schedule; lawful = r.lawful; reached = r.reached }) in
-    let first = node_there w (first_world nodes) (sym grows.size) node n has in
+    let first = node_there w (first_world nodes) grows.size node n has in
     let later = grows.each node first.0 first.1 in
     let same : later.now ≡ n = one_node w node later.now n later.has has in
     ap (λ (k : Node). length k.seats) (sym same) ∙ later.grows.seats ∙ ap (λ (k : Node). length k.seats) (first_at nodes node first.0 first.1)
@@ -209,11 +208,11 @@ pub out_tested : (rounds : ℕ) (w : World) (a b : Bool) → a ≡ list_all (has
 out_tested rounds w a b all some = (to a b all some, λ h. back a b (all ∙ out_all rounds w h) (some ∙ out_some rounds w h)) where
   to : (a b : Bool) → a ≡ list_all (has_rounds rounds) w → b ≡ list_any (λ n. nat_le rounds n.waited) w → IsTrue (a && b) → IsWaitedOut rounds w
   to true true all some h = waited_out rounds w (sym all) (sym some)
-  to true false all some h = absurd h
-  to false b all some h = absurd h
+  to true false all some h = absurd (let e : false ≡ true = h in cc)
+  to false b all some h = absurd (let e : false ≡ true = h in cc)
 
   back : (a b : Bool) → a ≡ true → b ≡ true → IsTrue (a && b)
-  back true true p q = tt
+  back true true p q = refl
   back true false p q = absurd cc
   back false b p q = absurd cc
 
@@ -233,9 +232,9 @@ goes_on_full rules w h = (λ ended. full_stays rules w h ended.room, λ k unfini
 pub has_ended : (rules : RaceRules) (w : World) (count : ℕ) → list_any is_full w ≡ false → count ≡ unended rules w → count ≡ 0 → EndsBy rules w verdicts.Ok
 has_ended rules w count room counted none = record { room = none_full w room; ended = sym counted ∙ none }
 
-pub is_unfinished : (rules : RaceRules) (w : World) (count : ℕ) → IsReached (length w) w → list_any is_full w ≡ false → count ≡ unended rules w → (count ≡ 0 → ⊥) → IsWaitedOut (patience rules) w
+pub is_unfinished : (nodes : ℕ) (rules : RaceRules) (w : World) (count : ℕ) → IsReached nodes w → list_any is_full w ≡ false → count ≡ unended rules w → (count ≡ 0 → ⊥) → IsWaitedOut (patience rules) w
     → EndsBy rules w (verdicts.Unfinished count)
-is_unfinished rules w count reached room counted some out =
+is_unfinished nodes rules w count reached room counted some out =
     let waited = out.waited in
     record {
       room = none_full w room;
@@ -246,7 +245,7 @@ is_unfinished rules w count reached room counted some out =
         node = out.node;
         through = out.n.waited;
         least = waited;
-        pending = was_pending (length w) w reached out.node out.n out.has (omega (arith, waited));
+        pending = was_pending nodes w reached out.node out.n out.has (omega (arith, waited));
       };
     }
 
@@ -287,11 +286,34 @@ whole_is es h = by (stage_of es) refl (whole_fold between es ∙ h) where
   by between is t = refl
   by s is t = absurd (let e = sym (ap is_between is) ∙ t in cc)
 
-broken_is : (es : List JournalEntry) → ends_whole es ≡ false → stage_of es ≡ between → ⊥
-broken_is es h is = let e : true ≡ false = sym (ap is_between is) ∙ whole_fold between es ∙ h in cc
-
-pub all_whole : (w : World) → list_all (λ n. ends_whole n.journal) w ≡ true → AreWhole w
+all_whole : (w : World) → list_all (λ n. ends_whole n.journal) w ≡ true → AreWhole w
 all_whole w h node n has = whole_is n.journal (all_at (λ n. ends_whole n.journal) w h node n has)
 
-pub not_whole : (w : World) (node : ℕ) (n : Node) → node_of w node ≡ Some n → ends_whole n.journal ≡ false → AreWhole w → ⊥
-not_whole w node n has h all = broken_is n.journal h (all node n has)
+pub whole_tested : (w : World) (a : Bool) → a ≡ list_all (λ n. ends_whole n.journal) w → IsTrue a ↔ AreWhole w
+whole_tested w a is = (λ h. all_whole w (sym is ∙ h), λ h. is ∙ back h) where
+  by : (test : Node → Bool) (v : World) → ((place : ℕ) (n : Node) → slice_get v place ≡ Some n → test n ≡ true) → list_all test v ≡ true
+  by test [] each = refl
+  by test (m ∷ v) each = ap (λ b. b && list_all test v) (each 0 m refl) ∙ by test v (λ place n has. each (suc place) n has)
+
+  one : (n : Node) → stage_of n.journal ≡ between → ends_whole n.journal ≡ true
+  one n h = sym (whole_fold between n.journal) ∙ ap is_between h
+
+  back : AreWhole w → list_all (λ n. ends_whole n.journal) w ≡ true
+  back h = by (λ n. ends_whole n.journal) w (λ place n has. one n (h (suc place) n has))
+
+-- the same by the second test alone, and by the first
+pub is_out : (rounds : ℕ) (w : World) (a b : Bool) → a ≡ true → a ≡ list_all (has_rounds rounds) w → b ≡ list_any (λ n. nat_le rounds n.waited) w → IsTrue b ↔ IsWaitedOut rounds w
+is_out rounds w true b is all some = out_tested rounds w true b all some
+is_out rounds w false b is all some = absurd cc
+
+pub not_out : (rounds : ℕ) (w : World) (a : Bool) → a ≡ false → a ≡ list_all (has_rounds rounds) w → IsTrue a ↔ IsWaitedOut rounds w
+not_out rounds w false is all = (λ h. absurd (let e : false ≡ true = h in cc), λ h. absurd (let e : false ≡ true = all ∙ out_all rounds w h in cc))
+not_out rounds w true is all = absurd cc
+
+pub rounds_fail : (rounds : ℕ) (n : Node) → has_live n ≡ true → n.rounds < rounds → has_rounds rounds n ≡ false
+rounds_fail rounds n live less = ap (λ b. not b || nat_le rounds n.rounds) live ∙ lt-leb rounds n.rounds less
+
+-- a test of nodes as their ends are left out
+pub any_mapped : {B : Type 0} (test : Node → Bool) (xs : List (Held B)) → list_any (λ (h : Held B). test h.node) xs ≡ list_any test (map (λ (h : Held B). h.node) xs)
+any_mapped test [] = refl
+any_mapped test (x ∷ xs) = ap (λ b. test x.node || b) (any_mapped test xs)

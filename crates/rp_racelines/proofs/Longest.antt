@@ -1,25 +1,23 @@
 -- No attempt of a node was pending through more of its rounds than the node waited.
-use Rattle.std.proofs.Common.{◌≡◌, ℕ, zero, suc, ◌+◌, ◌-◌, ◌<◌, ◌≤◌, min, max, ◌⊎◌, ⊎_elim, Option, None, Some, List, [], ◌∷◌, ◌++◌, length, take, refl, sym, ap, subst, ◌∙◌, arith}
+use Rattle.std.proofs.Common.{◌≡◌, ℕ, zero, suc, ◌+◌, ◌-◌, ◌≤◌, min, max, Option, None, Some, List, [], ◌∷◌, ◌++◌, length, take, refl, sym, ap, ◌∙◌, arith}
 use Rattle.std.specs.Prelude.{slice_get, slice_index_or, filter_map, fold}
 use Rattle.std.specs.List.{cons_option, reduce}
 use Rattle.std.specs.Option.{option_map_or}
 use Rattle.std.proofs.lemmas.List.{length_push}
 use Rattle.rp_base.specs.declared.items.Item.{Item}
 use Rattle.rp_request.specs.Applied.{AppliedState}
-use Rattle.rp_pending.specs.Refreshes.{first_round}
 use Rattle.rp_pending.specs.declared.proposals.Proposal.{Proposal}
 use Rattle.rp_events.specs.declared.journals.JournalEntry.{JournalEntry}
-use Rattle.rp_events.specs.declared.journals.PastEvent.{PastEvent}
 use Rattle.rp_events.specs.declared.journals.PastEvent.TheVariants as past
 use Rattle.rp_events.specs.declared.node_events.Event.{Event}
 use Rattle.rp_events.specs.declared.node_events.Event.TheVariants as events
 use Rattle.rp_events.specs.Lawful.{IsReached}
-use Rattle.rp_events.specs.Nodes.{Node, Status, Absent, Live, Removed, seat, first_round_in, longest_wait}
+use Rattle.rp_events.specs.Nodes.{Node, Status, Absent, Live, seat, first_round_in, longest_wait}
 use Rattle.rp_events.specs.NodeEvents.{step, past_of}
 use Rattle.rp_events.specs.Replicas.{Replica}
 use Rattle.rp_events.specs.Worlds.{World, Happening, node_of, event_of, taken_in, happens, happens_at, after_step}
 use Rattle.rp_journals.specs.Entries.{WasWritten, at_node}
-use Rattle.rp_journals.proofs.Growing.{one_node, step_grows, with_same}
+use Rattle.rp_journals.proofs.Growing.{step_grows, with_same}
 use Rattle.rp_journals.proofs.Lists.{take_begins, take_whole}
 use Rattle.rp_journals.proofs.Reading.{entry_of, step_journal}
 use Rattle.rp_journals.proofs.Writing.{written}

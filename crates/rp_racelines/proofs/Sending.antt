@@ -1,7 +1,6 @@
 -- What each client sends, line by line.
-use Rattle.std.proofs.Common.{◌≡◌, ℕ, zero, suc, ◌+◌, ◌-◌, ◌<◌, ◌≤◌, Bool, true, false, cond, ◌⊎◌, ⊎_elim, max, Option, None, Some, List, [], ◌∷◌, ◌++◌, length, map, replicate, get_or, set, take, refl, sym, ap, subst, ◌∙◌, arith, append-nil}
+use Rattle.std.proofs.Common.{◌≡◌, ℕ, zero, suc, ◌+◌, ◌-◌, ◌<◌, ◌≤◌, Bool, true, false, cond, ⊎_elim, max, Option, None, Some, List, [], ◌∷◌, ◌++◌, length, map, replicate, get_or, set, take, refl, sym, ap, ◌∙◌, arith, append-nil}
 use Rattle.std.specs.Prelude.{filter_map, fold, option_to_list, ◌==◌}
-use Rattle.std.proofs.Math.Path.{fun_ext}
 use Rattle.std.proofs.lemmas.Bool.{cases_eq, cases_lt, eq-eqb, eqb-true}
 use Rattle.std.proofs.lemmas.List.{ext_get_or, length-map, length_push, map-append, take_more, length-replicate, length-set, get_or-replicate, get_or_append_left, get_or-append_right, get_or-set_same, get_or-set_other}
 use Rattle.std.proofs.lemmas.List.Elements.{filter_map-append}
@@ -12,7 +11,7 @@ use Rattle.rp_script.specs.declared.lines.ScriptLine.{ScriptLine}
 use Rattle.rp_script.specs.declared.lines.ScriptLine.TheVariants as lines
 use Rattle.rp_race.specs.declared.rules.ClientRequests.{ClientRequests}
 use Rattle.rp_race.specs.declared.rules.Handover.{Handover}
-use Rattle.rp_racelines.specs.Rules.{client_in, clients_in, handover_in, request_in, requests_in, sent_after, sent_at, sent_by, with_request}
+use Rattle.rp_racelines.specs.Rules.{client_in, clients_in, handover_in, request_in, sent_after, sent_by, with_request}
 
 -- the first lines, with one more
 one_more : (ls : List NumberedLine) (i : ℕ) (l : NumberedLine) → i < length ls → l ≡ get_or ls i l → take (i + 1) ls ≡ take i ls ++ l ∷ []

@@ -1,5 +1,5 @@
 -- The rules of a race, as the lines of its script say them (this project).
-use Rattle.std.specs.Prelude.{◌≡◌, ℕ, zero, suc, ◌≤◌, max, ◌==◌, if◌then◌else◌, List, [], ◌∷◌, ◌++◌, slice_index_or, slice_set, map, filter_map, fold, All, Option, None, Some}
+use Rattle.std.specs.Prelude.{ℕ, zero, suc, ◌≤◌, max, ◌==◌, if◌then◌else◌, List, [], ◌∷◌, ◌++◌, slice_index_or, slice_set, map, filter_map, fold, All, Option, None, Some}
 use Rattle.rp_raftstep.specs.RaftState.{nodes_to}
 use Rattle.rp_request.specs.Fits.{FitsRequest}
 use Rattle.rp_request.specs.declared.requests.Request.{Request}

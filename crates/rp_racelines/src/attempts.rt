@@ -140,7 +140,7 @@ fn note_attempt(attempts: &mut Attempts, id: CmdId, outcome: Outcome) -> Result<
 fn note_entry(attempts: &mut Attempts, ends: &Ends, entry: &JournalEntry) -> Result<(), NoMemory>
     ensures { OnOk result ((client seq : ℕ) → lookup (is_command client seq) attempts.new.entries
         ≡ noted_entry entry.now (told_in ends.now.entries) client seq
-            (lookup (is_command client seq) attempts.old.entries)) }
+        (lookup (is_command client seq) attempts.old.entries)) }
 {
     match entry.event {
         PastEvent::Admit { id, .. } => {

@@ -44,11 +44,7 @@ fn nothing_sent(alloc: Global, clients: u16) -> Result<Vec<ClientRequests>, NoMe
 }
 
 /// A further request of a client.
-fn push_request(
-    alloc: Global,
-    sent: &mut ClientRequests,
-    request: Request,
-) -> Result<(), NoMemory>
+fn push_request(alloc: Global, sent: &mut ClientRequests, request: Request) -> Result<(), NoMemory>
     ensures { OnOk result (sent.new ≡ with_request request sent.old) }
 {
     let mut requests = std::mem::replace(&mut sent.requests, Seq::new(alloc)).into_vec();
@@ -58,17 +54,15 @@ fn push_request(
 }
 
 /// Puts the request of a line behind those of its client.
-fn take_line(
-    alloc: Global,
-    sent: &mut [ClientRequests],
-    line: &ScriptLine,
-) -> Result<(), NoMemory>
+fn take_line(alloc: Global, sent: &mut [ClientRequests], line: &ScriptLine) -> Result<(), NoMemory>
     requires { client_in line.now ≤ length sent.old }
     ensures { OnOk result (sent.new ≡ sent_after line.now sent.old) }
 {
     match *line {
         ScriptLine::Send {
-            client, request, ..
+            client,
+            request,
+            ..
         } if client > 0 => push_request(alloc, &mut sent[usize::from(client) - 1], request),
         _ => Ok(()),
     }

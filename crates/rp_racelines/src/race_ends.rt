@@ -102,7 +102,7 @@ fn has_live<B: BufferEnd + Drop>(node: &Node<B>) -> bool
 
 /// Whether some node is full.
 fn some_full<B: BufferEnd + Drop>(nodes: &[Node<B>]) -> bool
-    ensures { result ≡ list_any is_full (map (λ h. h.node) nodes.now) }
+    ensures { result ≡ list_any (λ h. is_full h.node) nodes.now }
 {
     nodes.iter().any(|node| node.is_full())
 }
@@ -122,7 +122,7 @@ fn have_rounds<B: BufferEnd + Drop>(nodes: &[Node<B>], rounds: u64) -> bool
 
 /// Whether an attempt of some node was pending through so many of its rounds.
 fn some_waited<B: BufferEnd + Drop>(nodes: &[Node<B>], rounds: u64) -> bool
-    ensures { result ≡ list_any (λ n. nat_le rounds n.waited) (map (λ h. h.node) nodes.now) }
+    ensures { result ≡ list_any (λ h. nat_le rounds h.node.waited) nodes.now }
 {
     nodes.iter().any(|node| rounds <= node.waited())
 }
@@ -135,6 +135,30 @@ fn is_waited_out<B: BufferEnd + Drop>(nodes: &[Node<B>], rounds: u64) -> bool
     have_rounds(nodes, rounds) && some_waited(nodes, rounds)
 }
 
+/// How a race ended, by its nodes and its reply lines.
+fn verdict_of<B: BufferEnd + Drop>(
+    rules: &RaceRules,
+    nodes: &[Node<B>],
+    lines: &[ReplyLine],
+) -> Verdict
+    requires reached { IsReached (length nodes.now) (map (λ h. h.node) nodes.now) }
+    requires commands { command_count rules.now < 2 ^ 32 }
+    requires lines { lines.now ≡ race_replies rules.now (map (λ h. h.node) nodes.now) }
+    ensures { EndsBy rules.now (map (λ h. h.node) nodes.now) result }
+{
+    if some_full(nodes) {
+        return Verdict::GoesOn;
+    }
+    let unended = count_open(lines);
+    if unended == 0 {
+        return Verdict::Ok;
+    }
+    if is_waited_out(nodes, patience(rules)) {
+        return Verdict::Unfinished { unended };
+    }
+    Verdict::GoesOn
+}
+
 /// How a race ended, by its nodes at the close and its reply lines. It takes no memory.
 pub fn judge<B: BufferEnd + Drop>(rules: &RaceRules, nodes: &Nodes<B>, replies: &Replies) -> Verdict
     requires reached { IsReached (length nodes.now) (map (λ h. h.node) nodes.now) }
@@ -142,17 +166,7 @@ pub fn judge<B: BufferEnd + Drop>(rules: &RaceRules, nodes: &Nodes<B>, replies: 
     requires replies { replies.now ≡ race_replies rules.now (map (λ h. h.node) nodes.now) }
     ensures { EndsBy rules.now (map (λ h. h.node) nodes.now) result }
 {
-    if some_full(nodes.as_slice()) {
-        return Verdict::GoesOn;
-    }
-    let unended = count_open(replies.as_slice());
-    if unended == 0 {
-        Verdict::Ok
-    } else if is_waited_out(nodes.as_slice(), patience(rules)) {
-        Verdict::Unfinished { unended }
-    } else {
-        Verdict::GoesOn
-    }
+    verdict_of(rules, nodes.as_slice(), replies.as_slice())
 }
 
 /// Whether a node is between two rounds behind an event, where this says whether it was before.
@@ -177,14 +191,21 @@ fn ends_whole(journal: &[JournalEntry]) -> bool
     whole
 }
 
-/// Whether no round of a node was broken off.
-pub fn is_whole<B: BufferEnd + Drop>(nodes: &Nodes<B>) -> bool
-    ensures { IsTrue result ↔ AreWhole (map (λ h. h.node) nodes.now) }
+/// Whether no round of these nodes was broken off.
+fn are_whole<B: BufferEnd + Drop>(nodes: &[Node<B>]) -> bool
+    ensures { result ≡ list_all (λ n. ends_whole n.journal) (map (λ h. h.node) nodes.now) }
 {
-    for node in nodes.as_slice() {
+    for node in nodes {
         if !ends_whole(node.journal().as_slice()) {
             return false;
         }
     }
     true
+}
+
+/// Whether no round of a node was broken off.
+pub fn is_whole<B: BufferEnd + Drop>(nodes: &Nodes<B>) -> bool
+    ensures { IsTrue result ↔ AreWhole (map (λ h. h.node) nodes.now) }
+{
+    are_whole(nodes.as_slice())
 }

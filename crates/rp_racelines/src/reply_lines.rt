@@ -88,6 +88,26 @@ fn push_client(
     Ok(())
 }
 
+/// The reply lines of all clients, by what is known of the latest attempts.
+fn lines_of(
+    alloc: Global,
+    rules: &RaceRules,
+    attempts: &Attempts,
+) -> Result<Vec<ReplyLine>, NoMemory>
+    requires clients { length rules.now.requests < 2 ^ 16 }
+    requires commands { command_count rules.now < 2 ^ 32 }
+    ensures { IfOk result (λ lines. (w : World) → AreLatest w attempts.now.entries
+        → lines.items ≡ race_replies rules.now w) }
+{
+    let mut lines = Vec::new(alloc);
+    let mut client = 0;
+    for sent in rules.requests.as_slice() {
+        client += 1;
+        push_client(&mut lines, attempts, client, sent.requests.len() as u32)?;
+    }
+    Ok(lines)
+}
+
 /// The reply lines of a race, one for each command of its script, by client and number: its latest
 /// attempt with its outcome, that the tries have ended, or that it is unsent.
 pub fn replies<B: BufferEnd + Drop>(
@@ -100,11 +120,6 @@ pub fn replies<B: BufferEnd + Drop>(
     ensures { IfOk result (λ replies. replies ≡ race_replies rules.now (map (λ h. h.node) nodes.now)) }
 {
     let attempts = latest_of(alloc, nodes.as_slice())?;
-    let mut lines = Vec::new(alloc);
-    let mut client = 0;
-    for sent in rules.requests.as_slice() {
-        client += 1;
-        push_client(&mut lines, &attempts, client, sent.requests.len() as u32)?;
-    }
+    let lines = lines_of(alloc, rules, &attempts)?;
     Ok(Seq::from_vec(lines))
 }

@@ -1,7 +1,7 @@
 use Rattle.std.proofs.Common.{◌≡◌, map, take, true}
 use Rattle.std.specs.List.{list_all}
 use Rattle.rp_racelines.specs.Judging.{ends_whole}
-use Rattle.rp_racelines.proofs.race_ends.is_whole.Given as goal
+use Rattle.rp_racelines.proofs.race_ends.are_whole.Given as goal
 
 -- no round of a node so far was broken off
 abbrev pub invariant-loop-node : goal.invariant-loop-node
