@@ -4,3 +4,4 @@ pub mod Telling
 pub mod Scripted
 pub mod Longest
 pub mod Judged
+pub mod Showing
