@@ -16,11 +16,11 @@ use Rattle.rp_switch_calls.specs.Firsts.{four_removals, HasTriedNothing, IsAim, 
 -- each of four clients has the request
 asked_at : (key c : ℕ) (requests : List ClientRequests) (rules : RaceRules) → rules.requests ≡ requests → requests ≡ four_removals key → 1 ≤ c → c ≤ 4
     → slice_get (requests_of rules c) 0 ≡ Some (Del key)
-asked_at key 0 requests rules has is some low = absurd (omega (arith, some))
-asked_at key 1 requests rules has is some low = ap (λ (rs : List ClientRequests). slice_get (requests_of (record rules { requests = rs }) 1) 0) (has ∙ is)
-asked_at key 2 requests rules has is some low = ap (λ (rs : List ClientRequests). slice_get (requests_of (record rules { requests = rs }) 2) 0) (has ∙ is)
-asked_at key 3 requests rules has is some low = ap (λ (rs : List ClientRequests). slice_get (requests_of (record rules { requests = rs }) 3) 0) (has ∙ is)
-asked_at key 4 requests rules has is some low = ap (λ (rs : List ClientRequests). slice_get (requests_of (record rules { requests = rs }) 4) 0) (has ∙ is)
+asked_at key zero requests rules has is some low = absurd (omega (arith, some))
+asked_at key (suc zero) requests rules has is some low = ap (λ (rs : List ClientRequests). slice_get (requests_of (record rules { requests = rs }) 1) 0) (has ∙ is)
+asked_at key (suc (suc zero)) requests rules has is some low = ap (λ (rs : List ClientRequests). slice_get (requests_of (record rules { requests = rs }) 2) 0) (has ∙ is)
+asked_at key (suc (suc (suc zero))) requests rules has is some low = ap (λ (rs : List ClientRequests). slice_get (requests_of (record rules { requests = rs }) 3) 0) (has ∙ is)
+asked_at key (suc (suc (suc (suc zero)))) requests rules has is some low = ap (λ (rs : List ClientRequests). slice_get (requests_of (record rules { requests = rs }) 4) 0) (has ∙ is)
 asked_at key (suc (suc (suc (suc (suc c))))) requests rules has is some low = absurd (omega (arith, low))
 
 -- a right without a try

@@ -1,5 +1,5 @@
 -- A node is taken and given back.
-use Rattle.std.proofs.Common.{◌≡◌, ℕ, suc, ◌+◌, ◌-◌, ◌<◌, ◌≤◌, ◌^◌, Bool, true, false, List, [], ◌∷◌, refl, sym, ap, subst, ◌∙◌, arith, slice_get, Some, Ok, Err}
+use Rattle.std.proofs.Common.{◌≡◌, ℕ, suc, ◌+◌, ◌-◌, ◌<◌, ◌≤◌, ◌^◌, Bool, true, false, List, [], ◌∷◌, refl, sym, ap, subst, ◌∙◌, arith, slice_get, Some, Ok}
 use Rattle.rp_base.specs.Keys.{IsKey}
 use Rattle.rp_base.specs.declared.ids.CmdId.{CmdId}
 use Rattle.rp_raftsafe.proofs.Known.{one_list_holds}
@@ -15,17 +15,35 @@ use Rattle.rp_events.specs.Nodes.{Node, is_full}
 use Rattle.rp_events.specs.Worlds.{World, Admit, node_of}
 use Rattle.rp_journals.specs.Entries.{at_node}
 use Rattle.rp_race.proofs.Keeping.{admits}
-use Rattle.rp_race.specs.Gives.{Tried, MayTry, AllMayTry, after_admission}
+use Rattle.rp_race.specs.Gives.{Tried, MayTry, after_admission}
 use Rattle.rp_race.specs.Played.{requests_of, HasRoundSince}
+use Rattle.rp_router.specs.Hints.{started, aimed_node, aimed_range}
 use Rattle.rp_switch.specs.declared.switch.Taken.{Taken}
-use Rattle.rp_switch.specs.declared.faults.Busy.{Busy}
-use Rattle.rp_switch.specs.Gifts.{CarriesClient, AreAdmissions, IsGift, admissions, tries_known, MayGive}
+use Rattle.rp_switch.specs.declared.terms.Terms.{Terms}
+use Rattle.rp_switch.specs.Gifts.{AreAdmissions, IsGift, admissions, tries_known}
 use Rattle.rp_switch.specs.Plays.{giving}
 use Rattle.rp_switch.specs.Rules.{IsNow}
 use Rattle.rp_switch.specs.Seats.{Takes, GivesBack}
-use Rattle.rp_switch.specs.Views.{Knowledge, Stage, Idle, Found, taking, noting}
-use Rattle.rp_switch.proofs.Backing.{took_it, may_give, carries_after, tries_admitted}
+use Rattle.rp_switch.specs.Views.{Knowledge, Idle, taking}
+use Rattle.rp_switch.proofs.Backing.{took_it, carries_after, tries_admitted}
 use Rattle.rp_switch_calls.specs.Firsts.{HasTriedNothing, MayBegin}
+
+-- it is at rest, with as many parts
+pub record Rests (v u : Knowledge) : Type 0 where
+  pub idle : u.stage ≡ Idle
+  pub parts : u.parts ≡ v.parts
+
+-- with the same terms, a client that has tried nothing may begin still
+pub again : (v u : Knowledge) (client node range key : ℕ) → u.terms ≡ v.terms → HasTriedNothing u client → MayBegin v client node range key
+    → MayBegin u client node range key
+again v u client node range key terms first m = record {
+  first = first;
+  some = m.some;
+  asked = ap (λ (t : Terms). slice_get (requests_of t.rules client) 0) terms ∙ m.asked;
+  at_node = m.at_node ∙ ap (λ (t : Terms). aimed_node (started t.nodes) key) (sym terms);
+  in_range = m.in_range ∙ ap (λ (t : Terms). aimed_range (started t.nodes) key) (sym terms);
+  low = subst (λ (t : Terms). node ≤ t.nodes) (sym terms) m.low;
+}
 
 module _ {E : Type 0} where
   -- what the seat knows when it has given the node back
@@ -36,23 +54,11 @@ module _ {E : Type 0} where
       back t.node.node (ap (λ (i : ℕ). slice_get w.seen (i - 1)) is ∙ ap (λ (k : Knowledge). slice_get k.seen (node - 1)) taken.4 ∙ took_it v node taken.0 t.node.node some low taken.1)
       ∙ ap (λ (i : ℕ). giving (i - 1) t.node.node after w) is
 
-  -- it is at rest, with as many parts
-  pub record Rests (v u : Knowledge) : Type 0 where
-    pub idle : u.stage ≡ Idle
-    pub parts : u.parts ≡ v.parts
-
   pub rests : (v w u : Knowledge) (node number : ℕ) (t : Taken E) (after : Node) → 1 ≤ node → node ≤ v.terms.nodes → Takes v node (Ok t) w
       → number ≡ t.number → GivesBack w number after u → Rests v u
   rests v w u node number t after some low taken same back =
       let is = gave v w u node number t after some low taken same back in
       record { idle = ap (λ (k : Knowledge). k.stage) is; parts = ap (λ (k : Knowledge). k.parts) is ∙ ap (λ (k : Knowledge). k.parts) taken.4 }
-
-  pub rests_busy : (v w : Knowledge) (node : ℕ) (busy : Busy) → v.stage ≡ Idle → Takes {E = E} v node (Err busy) w → Rests v w
-  rests_busy v w node busy idle told = record { idle = ap (λ (k : Knowledge). k.stage) told.1 ∙ idle; parts = ap (λ (k : Knowledge). k.parts) told.1 }
-
-  nothing_busy : (v w : Knowledge) (node client : ℕ) (busy : Busy) → Takes {E = E} v node (Err busy) w → HasTriedNothing v client → HasTriedNothing w client
-  nothing_busy v w node client busy told first =
-      subst (λ (k : Knowledge). HasTriedNothing k client) (sym told.1) (record { carries = first.carries; none = first.none })
 
   -- given back as it was, the client has tried nothing still
   pub nothing_given : (v w u : Knowledge) (node number client : ℕ) (t : Taken E) (after : Node) → 1 ≤ node → node ≤ v.terms.nodes → 1 ≤ client → Takes v node (Ok t) w

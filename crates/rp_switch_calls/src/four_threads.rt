@@ -6,8 +6,8 @@ ghost use Rattle.rp_switch.specs.Views.{Idle, all_parts};
 ghost use Rattle.rp_switch_calls.specs.Firsts.{four_removals, IsAim, MayBegin, AllMayBegin, IsReady, IsBack};
 
 use crate::samples::{key, opened};
-use crate::visits::{begins, first_id, passes};
-use rp_base::{Key, NodeId, RangeId};
+use crate::visits::{Aim, begins, first_id, passes};
+use rp_base::{Key, NodeId};
 use rp_bufcore::PlainEnd;
 use rp_events::{JournalEntry, PastEvent};
 use rp_node::{Node, Nodes};
@@ -19,9 +19,6 @@ use std::thread::{Threads, join};
 /// So often each seat takes a node.
 const TIMES: u32 = 25_000;
 
-/// Where a try is made, and of what.
-type Aim = (NodeId, RangeId, Key);
-
 /// Whether a seat's client was asked to be admitted, and how often the seat took a node.
 type Done = (bool, u32);
 
@@ -30,18 +27,17 @@ fn begins_at_last(
     switch: &Switch<PlainEnd>,
     seat: &mut Seat<PlainEnd>,
     client: u16,
-    aim: Aim,
+    aim: &Aim,
 ) -> bool
     requires of { IsSeatOf switch.now seat.old }
     requires idle { (known_by seat.old).stage ≡ Idle }
-    requires may { MayBegin (known_by seat.old) client aim.0 aim.1 aim.2 }
+    requires may { MayBegin (known_by seat.old) client aim.now.0 aim.now.1 aim.now.2 }
     ensures same { IsSame seat.old seat.new }
     ensures idle { (known_by seat.new).stage ≡ Idle }
     ensures parts { (known_by seat.new).parts ≡ (known_by seat.old).parts }
 {
-    let (node, range, key) = aim;
     for _ in 0..TIMES {
-        if begins(switch, seat, client, (node, range), key) {
+        if begins(switch, seat, client, aim) {
             return true;
         }
     }
@@ -75,9 +71,9 @@ fn plays(
     switch: &Switch<PlainEnd>,
     mut seat: Seat<PlainEnd>,
     client: u16,
-    aim: Aim,
+    aim: &Aim,
 ) -> (Seat<PlainEnd>, Done)
-    requires { IsReady switch.now seat client aim.0 aim.1 aim.2 }
+    requires { IsReady switch.now seat client aim.now.0 aim.now.1 aim.now.2 }
     ensures { IsBack switch.now result.0 1 }
 {
     let begun = begins_at_last(switch, &mut seat, client, aim);
@@ -89,24 +85,24 @@ fn plays(
 fn two_play<R: Threads + Sync>(
     rt: &R,
     switch: &Switch<PlainEnd>,
-    one: (Seat<PlainEnd>, u16),
-    two: (Seat<PlainEnd>, u16),
-    aim: Aim,
+    one: Seat<PlainEnd>,
+    two: Seat<PlainEnd>,
+    clients: (u16, u16),
+    aim: &Aim,
 ) -> (Seat<PlainEnd>, (Done, Done))
-    requires one { IsReady switch.now one.0 one.1 aim.0 aim.1 aim.2 }
-    requires two { IsReady switch.now two.0 two.1 aim.0 aim.1 aim.2 }
+    requires one { IsReady switch.now one clients.0 aim.now.0 aim.now.1 aim.now.2 }
+    requires two { IsReady switch.now two clients.1 aim.now.0 aim.now.1 aim.now.2 }
     ensures { IsBack switch.now result.0 2 }
 {
-    let (one, first) = one;
-    let (two, second) = two;
+    let (first, second) = clients;
     let pair = join(
         rt,
         move || -> (Seat<PlainEnd>, Done)
-            requires { IsReady switch.now one first aim.0 aim.1 aim.2 }
+            requires { IsReady switch.now one first aim.now.0 aim.now.1 aim.now.2 }
             ensures { IsBack switch.entry.now result.0 1 }
         { plays(switch, one, first, aim) },
         move || -> (Seat<PlainEnd>, Done)
-            requires { IsReady switch.now two second aim.0 aim.1 aim.2 }
+            requires { IsReady switch.now two second aim.now.0 aim.now.1 aim.now.2 }
             ensures { IsBack switch.entry.now result.0 1 }
         { plays(switch, two, second, aim) },
     );
@@ -123,12 +119,12 @@ fn four_play<R: Threads + Sync>(
     switch: &Switch<PlainEnd>,
     seats: (Seat<PlainEnd>, Seat<PlainEnd>),
     more: (Seat<PlainEnd>, Seat<PlainEnd>),
-    aim: Aim,
-) -> (Seat<PlainEnd>, [Done; 4])
-    requires one { IsReady switch.now seats.0 1 aim.0 aim.1 aim.2 }
-    requires two { IsReady switch.now seats.1 2 aim.0 aim.1 aim.2 }
-    requires three { IsReady switch.now more.0 3 aim.0 aim.1 aim.2 }
-    requires four { IsReady switch.now more.1 4 aim.0 aim.1 aim.2 }
+    aim: &Aim,
+) -> (Seat<PlainEnd>, (Done, Done), (Done, Done))
+    requires one { IsReady switch.now seats.0 1 aim.now.0 aim.now.1 aim.now.2 }
+    requires two { IsReady switch.now seats.1 2 aim.now.0 aim.now.1 aim.now.2 }
+    requires three { IsReady switch.now more.0 3 aim.now.0 aim.now.1 aim.now.2 }
+    requires four { IsReady switch.now more.1 4 aim.now.0 aim.now.1 aim.now.2 }
     ensures { IsBack switch.now result.0 4 }
 {
     let (one, two) = seats;
@@ -136,23 +132,21 @@ fn four_play<R: Threads + Sync>(
     let pair = join(
         rt,
         move || -> (Seat<PlainEnd>, (Done, Done))
-            requires { IsReady switch.now one 1 aim.0 aim.1 aim.2
-                × IsReady switch.now two 2 aim.0 aim.1 aim.2 }
+            requires { IsReady switch.now one 1 aim.now.0 aim.now.1 aim.now.2
+                × IsReady switch.now two 2 aim.now.0 aim.now.1 aim.now.2 }
             ensures { IsBack switch.entry.now result.0 2 }
-        { two_play(rt, switch, (one, 1), (two, 2), aim) },
+        { two_play(rt, switch, one, two, (1, 2), aim) },
         move || -> (Seat<PlainEnd>, (Done, Done))
-            requires { IsReady switch.now three 3 aim.0 aim.1 aim.2
-                × IsReady switch.now four 4 aim.0 aim.1 aim.2 }
+            requires { IsReady switch.now three 3 aim.now.0 aim.now.1 aim.now.2
+                × IsReady switch.now four 4 aim.now.0 aim.now.1 aim.now.2 }
             ensures { IsBack switch.entry.now result.0 2 }
-        { two_play(rt, switch, (three, 3), (four, 4), aim) },
+        { two_play(rt, switch, three, four, (3, 4), aim) },
     );
     let (left, right) = pair;
     let (mut seat, first) = left;
     let (other, second) = right;
     switch.join(&mut seat, other);
-    let (one_done, two_done) = first;
-    let (three_done, four_done) = second;
-    (seat, [one_done, two_done, three_done, four_done])
+    (seat, first, second)
 }
 
 /// A seat with a client's right, split from one that has those of this client and the next ones.
@@ -160,7 +154,7 @@ fn hands(
     switch: &Switch<PlainEnd>,
     seat: &mut Seat<PlainEnd>,
     client: u16,
-    aim: Aim,
+    aim: &Aim,
 ) -> Seat<PlainEnd>
     requires of { IsSeatOf switch.now seat.old }
     requires nodes { (terms_of switch.now).nodes ≡ 5 }
@@ -168,12 +162,12 @@ fn hands(
     requires idle { (known_by seat.old).stage ≡ Idle }
     requires parts { 2 ≤ (known_by seat.old).parts }
     requires client { (1 ≤ client) × (client ≤ 4) }
-    requires may { AllMayBegin (known_by seat.old) client aim.0 aim.1 aim.2 }
+    requires may { AllMayBegin (known_by seat.old) client aim.now.0 aim.now.1 aim.now.2 }
     ensures of { IsSeatOf switch.now seat.new }
     ensures idle { (known_by seat.new).stage ≡ Idle }
     ensures parts { (known_by seat.new).parts + 1 ≡ (known_by seat.old).parts }
-    ensures rest { AllMayBegin (known_by seat.new) (client + 1) aim.0 aim.1 aim.2 }
-    ensures ready { IsReady switch.now result client aim.0 aim.1 aim.2 }
+    ensures rest { AllMayBegin (known_by seat.new) (client + 1) aim.now.0 aim.now.1 aim.now.2 }
+    ensures ready { IsReady switch.now result client aim.now.0 aim.now.1 aim.now.2 }
 {
     switch.split(seat, client)
 }
@@ -183,23 +177,23 @@ fn played<R: Threads + Sync>(
     rt: &R,
     switch: &Switch<PlainEnd>,
     mut seat: Seat<PlainEnd>,
-    aim: Aim,
-) -> (Seat<PlainEnd>, [Done; 4])
+    aim: &Aim,
+) -> (Seat<PlainEnd>, (Done, Done), (Done, Done))
     requires of { IsSeatOf switch.now seat }
     requires first { known_by seat ≡ first (terms_of switch.now) }
     requires nodes { (terms_of switch.now).nodes ≡ 5 }
-    requires requests { (terms_of switch.now).rules.requests ≡ four_removals aim.2 }
+    requires requests { (terms_of switch.now).rules.requests ≡ four_removals aim.now.2 }
     requires clients { clients_of (terms_of switch.now) ≡ 4 }
-    requires aim { IsAim aim.0 aim.1 aim.2 }
+    requires aim { IsAim aim.now.0 aim.now.1 aim.now.2 }
     ensures { IsBack switch.now result.0 all_parts }
 {
     let one = hands(switch, &mut seat, 1, aim);
     let two = hands(switch, &mut seat, 2, aim);
     let three = hands(switch, &mut seat, 3, aim);
     let four = hands(switch, &mut seat, 4, aim);
-    let (other, done) = four_play(rt, switch, (one, two), (three, four), aim);
+    let (other, first, second) = four_play(rt, switch, (one, two), (three, four), aim);
     switch.join(&mut seat, other);
-    (seat, done)
+    (seat, first, second)
 }
 
 /// Where the key's removal is tried first.
@@ -226,27 +220,39 @@ fn times(node: &Node<PlainEnd>, client: u16) -> usize {
         .count()
 }
 
-/// Whether nothing but each of the tries that were made stands in the journals, once.
-fn is_what_was_done(nodes: &Nodes<PlainEnd>, at: NodeId, done: &[Done; 4]) -> bool {
-    let begun = done.iter().filter(|part| part.0).count();
-    let entries: usize = nodes
+/// Whether the client's part was done, and its try stands in the journal once.
+fn is_done(node: &Node<PlainEnd>, client: u16, done: Done) -> bool {
+    done.0 && done.1 == TIMES && times(node, client) == 1
+}
+
+/// Whether all was done, and nothing else stands in the journals.
+fn is_all_done(
+    nodes: &Nodes<PlainEnd>,
+    at: NodeId,
+    first: (Done, Done),
+    second: (Done, Done),
+) -> bool {
+    let written = nodes
         .as_slice()
         .iter()
-        .map(|node| node.journal().len())
-        .sum();
-    let each = |node: &Node<PlainEnd>| -> bool {
-        (1..5).zip(done).all(|(client, part)| times(node, client) == usize::from(part.0))
+        .filter(|node| node.journal().len() > 0)
+        .count();
+    let Some(node) = nodes.get(at) else {
+        return false;
     };
-    nodes.len() == 5 && entries == begun && nodes.get(at).is_some_and(each)
+    let all = is_done(node, 1, first.0)
+        && is_done(node, 2, first.1)
+        && is_done(node, 3, second.0)
+        && is_done(node, 4, second.1);
+    all && nodes.len() == 5 && written == 1 && node.journal().len() == 4
 }
 
 #[test]
 fn four_seats_take_five_nodes(rt: HostRuntime) -> Result<(), Fail> {
     let aim = aimed(key("a")?);
     let (switch, seat) = opened(rt.alloc(), aim.2)?;
-    let (seat, done) = played(&rt, &switch, seat, aim);
+    let (seat, first, second) = played(&rt, &switch, seat, &aim);
     let nodes = switch.close(rt.alloc(), seat)?;
-    let all = done.iter().all(|part| part.0 && part.1 == TIMES);
-    assert!(rt; all && is_what_was_done(&nodes, aim.0, &done));
+    assert!(rt; is_all_done(&nodes, aim.0, first, second));
     Ok(())
 }

@@ -17,6 +17,9 @@ use rp_node::Node;
 use rp_request::Request;
 use rp_switch::{Seat, Switch};
 
+/// Where a try is made, and of what.
+pub(crate) type Aim = (NodeId, RangeId, Key);
+
 /// Takes the node and gives it back as it is. Whether it was free.
 pub(crate) fn passes(switch: &Switch<PlainEnd>, seat: &mut Seat<PlainEnd>, node: NodeId) -> bool
     requires of { IsSeatOf switch.now seat.old }
@@ -60,18 +63,17 @@ pub(crate) fn begins(
     switch: &Switch<PlainEnd>,
     seat: &mut Seat<PlainEnd>,
     client: u16,
-    at: (NodeId, RangeId),
-    key: Key,
+    aim: &Aim,
 ) -> bool
     requires of { IsSeatOf switch.now seat.old }
     requires idle { (known_by seat.old).stage ≡ Idle }
-    requires may { MayBegin (known_by seat.old) client at.0 at.1 key }
+    requires may { MayBegin (known_by seat.old) client aim.now.0 aim.now.1 aim.now.2 }
     ensures same { IsSame seat.old seat.new }
     ensures idle { (known_by seat.new).stage ≡ Idle }
     ensures parts { (known_by seat.new).parts ≡ (known_by seat.old).parts }
     ensures not { result ≡ false → HasTriedNothing (known_by seat.new) client }
 {
-    let (node, range) = at;
+    let (node, range, key) = *aim;
     let Ok(mut taken) = switch.try_take(seat, node) else {
         return false;
     };
