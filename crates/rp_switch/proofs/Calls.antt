@@ -126,9 +126,9 @@ module _ {E : Type 0} where
   pub record FetchedIt (t : Terms) (old me : Standing E) (i place client : ℕ) : Type 0 where
     pub answer : Answer
     pub at : World
-    pub now : IsNow t at old.0.seen
+    pub now : IsNow old.0 at
     pub true_ : IsTrueOf t at client answer
-    pub known : me.0 ≡ fetching i place answer old.0
+    pub known : me.0 ≡ fetching i place answer at old.0
     pub slots : me.1 ≡ (i, Reply answer) ∷ old.1
 
   pub fetched_is : (old me : Standing E) (slots i found : ℕ) → plays.fetched (step slots i 1 2 maybe.none) old found me → found ≡ 1
@@ -152,7 +152,7 @@ module _ {E : Type 0} where
       → Allows (Kept t) slots id now i (λ _. 0) (plays.left_cell (step slots i 0 0 maybe.none) now)
   clear_ready t slots id q i client old me now e terms r is some_part =
       let place : i - old.0.terms.nodes ≡ q = let n = ap (λ (u : Terms). u.nodes) terms in omega (arith, n, e) in
-      let known : now.0 ≡ fetching i (i - old.0.terms.nodes) r.answer old.0 = ap (λ (s : Standing E). s.0) is ∙ r.known in
+      let known : now.0 ≡ fetching i (i - old.0.terms.nodes) r.answer r.at old.0 = ap (λ (s : Standing E). s.0) is ∙ r.known in
       clears_at t slots id q i now e (ap (λ (v : Knowledge). v.stage) known ∙ ap HasCell place)
       (ap (λ (s : Standing E). s.1) is ∙ ap (λ (l : List (ℕ × Slot E)). (i, Nothing) ∷ l) (sym (ap (λ (s : Standing E). rest s.1) is)))
       (subst (λ (v : Knowledge). 0 < v.parts) (sym known) some_part)
@@ -186,7 +186,7 @@ module _ {E : Type 0} where
 
   pub fetch_done : (slots i client : ℕ) (old me now after : Standing E) (found : ℕ) → old.1 ≡ slots_at old.0.stage → old.0.stage ≡ Idle
       → (r : FetchedIt old.0.terms old me i (i - old.0.terms.nodes) client) → now ≡ (me.0, (i, Nothing) ∷ rest me.1)
-      → plays.left_cell (step slots i 0 0 maybe.none) now found after → Rested old after (fetching i (i - old.0.terms.nodes) r.answer old.0)
+      → plays.left_cell (step slots i 0 0 maybe.none) now found after → Rested old after (fetching i (i - old.0.terms.nodes) r.answer r.at old.0)
   fetch_done slots i client old me now after found calm idle r is told = record {
     known = told.0 ∙ ap at_rest (ap (λ (s : Standing E). s.0) is ∙ r.known);
     none = told.1 ∙ ap (λ (s : Standing E). rest s.1) is ∙ ap rest r.slots ∙ calm ∙ ap slots_at idle;

@@ -27,7 +27,7 @@ use Rattle.rp_switch.specs.declared.slots.Slot.TheVariants.{Nothing, Body, Reply
 use Rattle.rp_switch.specs.declared.terms.Terms.{Terms}
 use Rattle.rp_switch.specs.Views.{Right, Lacks, Tries, Rounds, BrokenOff, Stage, Idle, HasNode, Knowledge, all_parts, right_at}
 use Rattle.rp_switch.specs.Rules.{Phase, home, out, InPhase, RightOf, AllHeard, IsWhole, weight, right_on, Kept, clients_of, size_of}
-use Rattle.rp_switch.proofs.Giving.{agrees, some_nodes}
+use Rattle.rp_switch.proofs.Nows.{agrees, some_nodes}
 use Rattle.rp_switch.proofs.Lifts.{reached_length, low_node}
 use Rattle.rp_switch.proofs.Parting.{none_at}
 
@@ -195,6 +195,7 @@ module _ {E : Type 0} where
             (has_each t s k id v at all (v.terms.nodes + client - 1) (omega (arith, nodes, clients, first, last))) (known.rights (v.terms.nodes + client - 1));
         tries = λ client carries. subst (λ (u : Terms). IsTriesOf u.rules k.world client (tries_known v client)) (sym terms)
             (subst (λ (ts : List Try). IsTriesOf t.rules k.world client ts) (sym (agrees t k.tries k.broken v some terms known.rights client carries)) (k.each_client client));
+        each_client = λ client. (k.tries client, subst (λ (u : Terms). IsTriesOf u.rules k.world client (k.tries client)) (sym terms) (k.each_client client));
       })
     where
       whole_at : (t : Terms) (s : State (Slot E) Knowledge) (k : Kept t s) (id : ℕ) (v : Knowledge) → get_elem? s.views id ≡ maybe.some v

@@ -1,7 +1,7 @@
 -- A node is given back.
 use Rattle.std.proofs.Common.{◌≡◌, ◌≢◌, ℕ, suc, ◌+◌, ◌-◌, ◌<◌, ◌≤◌, eqb, cond, Bool, true, false, ◌&&◌, List, [], ◌∷◌, set, sum_by, refl, ap, sym, ◌∙◌, arith, subst, slice_index, slice_get, Option, Some}
 use Rattle.std.proofs.lemmas.List.{length-set, get_or-set_same, get_or-set_other}
-use Rattle.std.proofs.lemmas.Bool.{eqb-true, eq-eqb, ltb-true}
+use Rattle.std.proofs.lemmas.Bool.{eqb-true, eq-eqb}
 use mathlib.Core.Option as maybe
 use mathlib.Core.Logic.{dite}
 use native.Mathlib.Decide.{ℕ_discrete}
@@ -13,22 +13,21 @@ use Rattle.rp_journals.proofs.Asking.{asked_once}
 use Rattle.rp_journals.proofs.Growing.{some_node}
 use Rattle.rp_events.specs.Nodes.{Node}
 use Rattle.rp_events.specs.Worlds.{World}
-use Rattle.rp_events.specs.Lawful.{IsReached}
-use Rattle.rp_race.specs.Gives.{Tried}
+use Rattle.rp_race.specs.Gives.{Tried, OnlyAdmitted}
 use Rattle.rp_node.specs.Steps.{Held}
 use Rattle.rp_switch.specs.declared.slots.Slot.{Slot}
 use Rattle.rp_switch.specs.declared.slots.Slot.TheVariants.{Nothing, Body, Reply}
 use Rattle.rp_switch.specs.declared.terms.Terms.{Terms}
 use Rattle.rp_switch.specs.Views.{Right, Lacks, Tries, Rounds, BrokenOff, HasNode, Knowledge, right_at, by_place}
-use Rattle.rp_switch.specs.Rules.{Phase, home, out, node_word, InPhase, HasIt, AtStage, RightOf, weight, right_on, IsWith, Kept}
-use Rattle.rp_switch.specs.Gifts.{tries_given, is_broken_off, tries_in, tries_known, IsTries, CarriesClient, IsGift, Gives}
+use Rattle.rp_switch.specs.Rules.{Phase, home, out, node_word, InPhase, HasIt, AtStage, OnlyAdmittedSince, RightOf, weight, right_on, IsWith, Kept}
+use Rattle.rp_switch.specs.Gifts.{tries_given, is_broken_off, IsTries, CarriesClient, IsGift, Gives}
 use Rattle.rp_switch.specs.Plays as plays
 use Rattle.rp_switch.specs.Plays.{Standing, right_given, giving}
 use Rattle.rp_switch.proofs.Places.{put, at_put}
 use Rattle.rp_switch.proofs.Rights.{at_place, as_many}
 use Rattle.rp_switch.proofs.Frames.{still_with, rebuilt, home_stays, cell_stays}
 use Rattle.rp_switch.proofs.Taking.{sees}
-use Rattle.rp_switch.proofs.Given.{Agree}
+use Rattle.rp_switch.proofs.Nows.{agrees, some_nodes, admitted_on}
 use Rattle.rp_switch.proofs.Lifts.{all_seen_later, all_heard_later, world_stays, answer_stays, stage_later}
 use Rattle.rp_switch.proofs.Went.{Went, went}
 
@@ -38,26 +37,6 @@ client_at n k some past = omega (arith, some, past)
 
 back_at : (n client : ℕ) → 0 < n → n ≤ n + client - 1 → suc (n + client - 1 - n) ≡ client
 back_at n client some past = omega (arith, some, past)
-
--- what a seat knows of a client's tries is so
-tries_so : (t : Terms) (tries : Tried) (broken : ℕ → Bool) (k : ℕ) (r : Right) → RightOf t tries broken k r → IsTries r
-    → (t.nodes ≤ k) × (tries_in r ≡ tries (suc (k - t.nodes)))
-tries_so t tries broken k Lacks known is = absurd is
-tries_so t tries broken k (Tries ts) known is = (known.0, sym known.1)
-tries_so t tries broken k Rounds known is = absurd is
-tries_so t tries broken k BrokenOff known is = absurd is
-
-pub agrees : (t : Terms) (tries : Tried) (broken : ℕ → Bool) (v : Knowledge) → 0 < t.nodes → v.terms ≡ t
-    → ((k : ℕ) → RightOf t tries broken k (right_at v.rights k)) → Agree v (tries_known v) tries
-agrees t tries broken v some terms known client carries =
-    let nodes : v.terms.nodes ≡ t.nodes = ap (λ (u : Terms). u.nodes) terms in
-    let k : ℕ = v.terms.nodes + client - 1 in
-    let so = tries_so t tries broken k (right_at v.rights k) (known k) carries in
-    let past = so.0 in
-    so.1 ∙ ap tries (omega (arith, nodes, some, past))
-
-pub some_nodes : (t : Terms) (w : World) → IsReached t.nodes w → 0 < t.nodes
-some_nodes t w reached = ltb-true 0 t.nodes reached.some
 
 -- who carries a right is the only one
 weighs_tries : (r : Right) → IsTries r → weight r ≡ 1
@@ -106,6 +85,13 @@ mine_given t w broken tries v place before after g some terms k Rounds is known 
         differ e = absurd (let r = eq-eqb place place refl in cc)
 mine_given t w broken tries v place before after g some terms k BrokenOff is known = known
 
+-- no right to rounds comes to be
+rounds_given : (nodes place : ℕ) (before after : Node) (k : ℕ) (r : Right) → right_given nodes place before after k r ≡ Rounds → r ≡ Rounds
+rounds_given nodes place before after k Lacks e = e
+rounds_given nodes place before after k (Tries ts) e = absurd (cc)
+rounds_given nodes place before after k Rounds e = refl
+rounds_given nodes place before after k BrokenOff e = e
+
 -- the rights of another seat, after it
 theirs_given : (t : Terms) (w : World) (broken : ℕ → Bool) (tries : Tried) (v u : Knowledge) (place id j : ℕ) (before after : Node) (views : List Knowledge)
     → (g : Went t w broken tries v place before after) → 0 < t.nodes → v.terms ≡ t
@@ -147,6 +133,20 @@ pub at_given : (nodes place : ℕ) (before after : Node) (rs : List Right) (k : 
     → right_at (by_place (right_given nodes place before after) 0 rs) k ≡ right_given nodes place before after k (right_at rs k)
 at_given nodes place before after rs k =
     at_place (right_given nodes place before after) (λ i. refl) rs 0 k ∙ ap (λ i. right_given nodes place before after i (right_at rs k)) (omega arith)
+
+-- where another seat may play the rounds, only admissions were given
+theirs_admitted : (t : Terms) (w : World) (broken : ℕ → Bool) (tries : Tried) (v u : Knowledge) (place id j : ℕ) (before after : Node) (views : List Knowledge)
+    → (g : Went t w broken tries v place before after) → slice_get w place ≡ Some before
+    → j ≢ id → get_elem? views id ≡ maybe.some v → get_elem? views j ≡ maybe.some u
+    → ((k : ℕ) → sum_by (right_on k) views ≤ 1) → OnlyAdmittedSince u.rights u.seen w → OnlyAdmittedSince u.rights u.seen g.world
+theirs_admitted t w broken tries v u place id j before after views g had away at there once was q b n rounds saw now = dite (ℕ_discrete q place)
+    (λ e.
+    let here : right_at u.rights place ≡ Rounds = ap (right_at u.rights) (sym e) ∙ rounds in
+    let is : after ≡ n = some_node after n (sym g.has ∙ ap (λ (z : ℕ). slice_get g.world z) (sym e) ∙ now) in
+    subst (λ (y : Node). OnlyAdmitted b y) is
+    (g.admitted (λ mine. only_one views id j place v u (once place) away at there (ap weight mine) (ap weight here)) b
+    (was place b before here (ap (λ (z : ℕ). slice_get u.seen z) (sym e) ∙ saw) had)))
+    (λ else_. was q b n rounds saw (sym (g.others q else_) ∙ now))
 
 taken_by : (p : Phase) (i j : ℕ) → p ≡ out i → j ≢ i → p ≢ out j
 taken_by p i j e away d = away (out_same j i (sym d ∙ e))
@@ -218,13 +218,15 @@ module _ {E : Type 0} where
           seen = sees t.nodes v.seen g.world place x.node low g.reached g.has (all_seen_later t.nodes v.seen k.world g.world g.later full_.seen);
           rights = as_many (right_given v.terms.nodes place before x.node) 0 v.rights ∙ full_.rights;
           heard = all_heard_later t.nodes v.joined k.world g.world g.later full_.heard;
+          admitted = admitted_on v.rights w.rights v.seen k.world g.world place x.node (subst (λ (z : ℕ). place < z) (sym full_.seen.size) low) g.has g.others
+              (λ i rounds. rounds_given v.terms.nodes place before x.node i (right_at v.rights i) (sym (at_given v.terms.nodes place before x.node v.rights i) ∙ rounds)) full_.admitted;
         };
       })
       (λ j u away there. let theirs = k.each_seat j u there in record {
         stage = stage_later t k.world g.world k.phases k.cells place j home u.seen u.stage g.later g.others (free j away) theirs.stage;
         rights = λ i. theirs_given t k.world k.broken k.tries v u place id j before x.node s.views g some full_.terms away in_views there k.once i (right_at u.rights i) refl (theirs.rights i);
         spent = theirs.spent;
-        whole = λ p. let h = theirs.whole p in record { terms = h.terms; seen = all_seen_later t.nodes u.seen k.world g.world g.later h.seen; rights = h.rights; heard = all_heard_later t.nodes u.joined k.world g.world g.later h.heard };
+        whole = λ p. let h = theirs.whole p in record { terms = h.terms; seen = all_seen_later t.nodes u.seen k.world g.world g.later h.seen; rights = h.rights; heard = all_heard_later t.nodes u.joined k.world g.world g.later h.heard; admitted = theirs_admitted t k.world k.broken k.tries v u place id j before x.node s.views g (it.same ∙ had) away in_views there k.once h.admitted };
       })
       (λ q j. at_put (λ y (p : Phase). p ≡ out j → IsWith (set s.views id w) y j) k.phases place home q
       (λ e is. absurd (cc))

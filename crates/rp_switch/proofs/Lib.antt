@@ -2,8 +2,10 @@ mod Rights
 mod Places
 mod Frames
 mod Lifts
-mod Taking
 mod Given
+mod Nows
+mod Sights
+mod Taking
 mod Quiet
 mod Went
 mod Giving

@@ -1,5 +1,5 @@
 -- What is true of a world stays true of a later one.
-use Rattle.std.proofs.Common.{◌≡◌, ◌≢◌, ℕ, zero, suc, ◌<◌, ◌≤◌, List, [], ◌∷◌, length, refl, ap, sym, ◌∙◌, arith, subst, slice_get, Some}
+use Rattle.std.proofs.Common.{◌≡◌, ◌≢◌, ℕ, zero, suc, ◌<◌, ◌≤◌, List, [], ◌∷◌, ◌++◌, length, refl, ap, sym, ◌∙◌, arith, subst, slice_get, Option, None, Some}
 use Rattle.std.proofs.lemmas.List.{length-map, length-append}
 use mathlib.Core.Option as maybe
 use Rattle.rp_clients.specs.declared.answers.Answer.{Answer}
@@ -10,7 +10,7 @@ use Rattle.rp_events.specs.Nodes.{Node, first_node}
 use Rattle.rp_events.specs.Worlds.{World, first_world, node_of}
 use Rattle.rp_events.specs.Lawful.{IsReached, IsLater}
 use Rattle.rp_journals.specs.Growth.{WorldGrows}
-use Rattle.rp_journals.proofs.Growing.{later_grows, later_trans, run_grows}
+use Rattle.rp_journals.proofs.Growing.{later_grows, later_refl, later_trans, run_grows}
 use Rattle.rp_journals.proofs.Lists.{get_begins}
 use Rattle.rp_race.specs.Ends.{patience}
 use Rattle.rp_race.specs.Gives.{AllSeen}
@@ -35,6 +35,20 @@ all_seen_later nodes seen w later goes all = record {
 
 pub all_heard_later : (nodes : ℕ) (joined : List World) (w later : World) → IsLater w later → AllHeard nodes joined w → AllHeard nodes joined later
 all_heard_later nodes joined w later goes all k seen e = all_seen_later nodes seen w later goes (all k seen e)
+
+-- one world more is heard of
+pub heard_more : (nodes : ℕ) (w : World) (xs : List World) (seen : World) → AllHeard nodes xs w → AllSeen nodes seen w → AllHeard nodes (xs ++ seen ∷ []) w
+heard_more nodes w [] seen heard all zero s e = subst (λ (z : World). AllSeen nodes z w) (unsome seen s e) all
+  where
+    value_or : World → Option World → World
+    value_or c None = c
+    value_or c (Some d) = d
+
+    unsome : (a b : World) → ◌≡◌ {A = Option World} (Some a) (Some b) → a ≡ b
+    unsome a b e = ap (value_or a) e
+heard_more nodes w [] seen heard all (suc i) s e = absurd (cc)
+heard_more nodes w (x ∷ xs) seen heard all zero s e = heard 0 s e
+heard_more nodes w (x ∷ xs) seen heard all (suc i) s e = heard_more nodes w xs seen (λ j z d. heard (suc j) z d) all i s e
 
 ended_later : (w later : World) → WorldGrows w later → (node : ℕ) (n : Node) (k : ℕ) (e : Ended) → node_of w node ≡ Some n → slice_get n.outcomes k ≡ Some e
     → (m : Node) × (node_of later node ≡ Some m) × (slice_get m.outcomes k ≡ Some e)
@@ -132,3 +146,10 @@ first_length n = length-map (nodes_to n) (λ node. first_node node n) ∙ number
 
 pub reached_length : (n : ℕ) (w : World) → IsReached n w → length w ≡ n
 reached_length n w r = ap (λ (u : World). length u) (sym r.reached) ∙ (run_grows r.schedule (first_world n)).size ∙ first_length n
+
+-- a reached world is past to itself
+pub all_now : (nodes : ℕ) (w : World) → IsReached nodes w → AllSeen nodes w w
+all_now nodes w reached = record {
+  size = reached_length nodes w reached;
+  each = λ node x has. record { before = w; reached = reached; later = later_refl w; has = has };
+}

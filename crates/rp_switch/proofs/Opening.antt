@@ -6,10 +6,11 @@ use mathlib.Core.Option as maybe
 use mathlib.Core.Option.{some-injective, some-ne-none}
 use lib.ListN.{get_elem?}
 use Rattle.atomic_table.specs.Table.{opening}
+use Rattle.rp_events.specs.Nodes.{Node}
 use Rattle.rp_events.specs.Worlds.{World, first_world}
 use Rattle.rp_events.specs.Lawful.{IsReached}
-use Rattle.rp_journals.proofs.Growing.{later_refl}
-use Rattle.rp_race.specs.Gives.{AllSeen}
+use Rattle.rp_journals.proofs.Growing.{some_node}
+use Rattle.rp_race.specs.Gives.{OnlyAdmitted}
 use Rattle.rp_node.specs.Steps.{Held}
 use Rattle.rp_switch.specs.Openings.{first_slots, bare, AreFirst}
 use Rattle.rp_switch.specs.declared.slots.Slot.{Slot}
@@ -17,9 +18,10 @@ use Rattle.rp_switch.specs.declared.slots.Slot.TheVariants.{Nothing, Body}
 use Rattle.rp_switch.specs.declared.terms.Terms.{Terms}
 use Rattle.rp_switch.specs.Views.{Right, Lacks, Tries, Rounds, BrokenOff, Knowledge, right_at}
 use Rattle.rp_switch.specs.Rules.{home, empty, clients_of, size_of, AllHeard, RightOf, Knows, weight, Kept, first}
+use Rattle.rp_race.proofs.Going.{only_itself}
 use Rattle.rp_race.proofs.Keeping.{race_first}
 use Rattle.rp_race.proofs.Trying.{tries_first}
-use Rattle.rp_switch.proofs.Lifts.{first_length}
+use Rattle.rp_switch.proofs.Lifts.{all_now}
 
 -- every word is 0
 zeros : (n k : ℕ) → slice_index (replicate n 0) k ≡ 0
@@ -116,12 +118,6 @@ starts n some few = record {
   reached = refl;
 }
 
-all_first : (n : ℕ) → IsReached n (first_world n) → AllSeen n (first_world n) (first_world n)
-all_first n reached = record {
-  size = first_length n;
-  each = λ node x has. record { before = first_world n; reached = reached; later = later_refl (first_world n); has = has };
-}
-
 nothing_heard : (n : ℕ) (w : World) → AllHeard n [] w
 nothing_heard n w zero seen e = absurd (cc)
 nothing_heard n w (suc k) seen e = absurd (cc)
@@ -154,9 +150,10 @@ opens {E} t nodes size some few are_first =
         spent = λ none_left. absurd (omega (arith, none_left));
         whole = λ p. record {
           terms = refl;
-          seen = all_first n reached;
+          seen = all_now n w reached;
           rights = length-append (replicate n Rounds) (replicate c (Tries [])) ∙ (let a = length-replicate n Rounds in let b = length-replicate c (Tries []) in omega (arith, a, b));
           heard = nothing_heard n w;
+          admitted = λ place before now rounds saw there. subst (λ (y : Node). OnlyAdmitted before y) (some_node before now (sym saw ∙ there)) (only_itself before);
         };
       });
       with_seat = λ place id e. absurd (cc);

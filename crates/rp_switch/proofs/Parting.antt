@@ -11,13 +11,14 @@ use Rattle.rp_events.specs.Worlds.{World}
 use Rattle.rp_race.specs.Gives.{AllSeen}
 use Rattle.rp_switch.specs.declared.slots.Slot.{Slot}
 use Rattle.rp_switch.specs.declared.terms.Terms.{Terms}
-use Rattle.rp_switch.specs.Views.{Lacks, Choice, OfClient, OfWorker, Idle, Chooses, Knowledge, nothing_known, right_at, is_chosen, choosing, left, right, both}
+use Rattle.rp_switch.specs.Views.{Lacks, Choice, OfClient, OfWorker, Idle, Chooses, Knowledge, nothing_known, right_at, is_chosen, choosing, knows_better, left, right, both}
 use Rattle.rp_switch.specs.Rules.{Phase, home, out, node_word, AllHeard, RightOf, Knows, weight, right_on, Kept}
 use Rattle.rp_switch.specs.Plays as plays
 use Rattle.rp_switch.specs.Plays.{Standing}
-use Rattle.rp_switch.proofs.Rights.{in_chosen, in_others, halves_weigh, in_half, in_other_half, chosen_long, others_long, together_at, together_long, either_weighs, in_either}
+use Rattle.rp_switch.proofs.Rights.{in_chosen, in_others, rounds_chosen, rounds_others, halves_weigh, in_half, in_other_half, chosen_long, others_long, together_at, together_long, either_weighs, in_either}
 use Rattle.rp_switch.proofs.Frames.{still_with, stands}
-use Rattle.rp_switch.proofs.Giving.{some_nodes}
+use Rattle.rp_switch.proofs.Nows.{some_nodes}
+use Rattle.rp_switch.proofs.Sights.{seen_both, stage_both, admitted_both}
 
 -- a node's word is 0 or 1
 small_word : (p : Phase) → node_word p ≤ 1
@@ -65,7 +66,7 @@ module _ {E : Type 0} where
         keeps,
         tt,
         stands t s id 0 me.0 w k at refl (λ j. refl) (λ y world is. absurd (let i = idle in cc))
-            (record { stage = tt; rights = known.rights; spent = λ none_left. absurd (omega (arith, none_left, some_part)); whole = λ p. let h = known.whole p in record { terms = h.terms; seen = h.seen; rights = h.rights; heard = h.heard } }),
+            (record { stage = tt; rights = known.rights; spent = λ none_left. absurd (omega (arith, none_left, some_part)); whole = λ p. let h = known.whole p in record { terms = h.terms; seen = h.seen; rights = h.rights; heard = h.heard; admitted = h.admitted } }),
         told found,
       ))
 
@@ -97,7 +98,7 @@ module _ {E : Type 0} where
               rights = λ i. subst (λ r. RightOf t k.tries k.broken i r) (sym (in_chosen p v.rights i))
                   (in_half (λ r. RightOf t k.tries k.broken i r) tt (p i) (right_at v.rights i) (known.rights i));
               spent = λ e. absurd (omega (arith, e, two));
-              whole = λ e. record { terms = full_.terms; seen = full_.seen; rights = chosen_long p v.rights ∙ full_.rights; heard = λ i seen at_. absurd (nothing_at i seen at_) };
+              whole = λ e. record { terms = full_.terms; seen = full_.seen; rights = chosen_long p v.rights ∙ full_.rights; heard = λ i seen at_. absurd (nothing_at i seen at_); admitted = λ i before now rounds saw there. full_.admitted i before now (rounds_chosen (p i) (right_at v.rights i) (sym (in_chosen p v.rights i) ∙ rounds)) saw there };
             })
             (each_set (λ j x. Knows t k.world k.tries k.broken k.phases k.cells j x) s.views id (left v)
             (record {
@@ -105,7 +106,7 @@ module _ {E : Type 0} where
               rights = λ i. subst (λ r. RightOf t k.tries k.broken i r) (sym (in_others p v.rights i))
                   (in_other_half (λ r. RightOf t k.tries k.broken i r) tt (p i) (right_at v.rights i) (known.rights i));
               spent = λ e. absurd (omega (arith, e, two));
-              whole = λ e. record { terms = full_.terms; seen = full_.seen; rights = others_long p v.rights ∙ full_.rights; heard = full_.heard };
+              whole = λ e. record { terms = full_.terms; seen = full_.seen; rights = others_long p v.rights ∙ full_.rights; heard = full_.heard; admitted = λ i before now rounds saw there. full_.admitted i before now (rounds_others (p i) (right_at v.rights i) (sym (in_others p v.rights i) ∙ rounds)) saw there };
             })
             (λ j x away e. k.each_seat j x e));
         with_seat = λ place j is. let w = still_with s.views id v (left v) at place j (λ world has. absurd (let st = stage in cc)) (k.with_seat place j is) in
@@ -154,11 +155,19 @@ module _ {E : Type 0} where
             })
             (λ j x _ e. each_set (λ i y. Knows t k.world k.tries k.broken k.phases k.cells i y) s.views id (both v w)
             (record {
-              stage = known.stage;
+              stage = stage_both t k.world k.phases k.cells id v w v.stage full_.seen.size their_whole.seen.size known.stage refl;
               rights = λ i. subst (λ r. RightOf t k.tries k.broken i r) (sym (together_at v.rights w.rights i))
                   (in_either (λ r. RightOf t k.tries k.broken i r) (right_at v.rights i) (right_at w.rights i) (known.rights i) (theirs.rights i));
               spent = λ none_left. absurd (omega (arith, none_left, some_part));
-              whole = λ e. record { terms = full_.terms; seen = full_.seen; rights = together_long v.rights w.rights (full_.rights ∙ sym their_whole.rights) ∙ full_.rights; heard = both_heard t.nodes k.world v.joined w.seen w.joined full_.heard their_whole.seen their_whole.heard };
+              whole = λ e. record {
+                terms = full_.terms;
+                seen = seen_both t.nodes k.world (knows_better v w) v.seen w.seen full_.seen their_whole.seen;
+                rights = together_long v.rights w.rights (full_.rights ∙ sym their_whole.rights) ∙ full_.rights;
+                heard = both_heard t.nodes k.world v.joined w.seen w.joined full_.heard their_whole.seen their_whole.heard;
+                admitted = admitted_both t k.world k.phases k.cells id v w full_.seen.size their_whole.seen.size known.stage
+                    (λ i. let b = pair_le (right_on i) s.views id other v w away at there_was in let o = k.once i in omega (arith, b, o))
+                    full_.admitted their_whole.admitted;
+              };
             })
             (λ i y _ d. k.each_seat i y d) j x e);
         with_seat = λ place j is. still_with views other w nothing_known there place j (λ world has. absurd (let st = idle in cc))

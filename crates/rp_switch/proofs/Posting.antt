@@ -23,16 +23,17 @@ use Rattle.rp_switch.specs.declared.slots.Slot.{Slot}
 use Rattle.rp_switch.specs.declared.slots.Slot.TheVariants.{Nothing, Body, Reply}
 use Rattle.rp_switch.specs.declared.terms.Terms.{Terms}
 use Rattle.rp_switch.specs.Views.{Right, Lacks, Tries, Rounds, BrokenOff, Stage, Idle, HasNode, HasCell, Chooses, Look, Found, Knowledge, right_at, right_learns, right_told, rights_told, noting, reaching, fetching, posting, at_rest}
-use Rattle.rp_switch.specs.Rules.{Phase, Cell, empty, full, taken, cell_word, clients_of, size_of, InCell, IsTrueOf, IsNow, AtStage, RightOf, Knows, weight, right_on, Kept}
+use Rattle.rp_switch.specs.Rules.{Phase, Cell, empty, full, taken, cell_word, clients_of, size_of, InCell, IsTrueOf, OnlyAdmittedSince, AtStage, RightOf, Knows, weight, right_on, Kept}
 use Rattle.rp_switch.specs.Plays as plays
 use Rattle.rp_switch.specs.Plays.{Standing}
 use Rattle.rp_journals.proofs.Asking.{asked_once}
 use Rattle.rp_race.proofs.Told.{told_there}
 use Rattle.rp_race.proofs.Trying.{tries_learnt}
+use Rattle.rp_switch.proofs.Nows.{is_now}
 use Rattle.rp_switch.proofs.Places.{put, put_here, put_else, at_put}
 use Rattle.rp_switch.proofs.Rights.{at_place, as_many}
 use Rattle.rp_switch.proofs.Frames.{still_with, rebuilt, stands, home_stays, cell_stays}
-use Rattle.rp_switch.proofs.Lifts.{true_of_seen, reached_length}
+use Rattle.rp_switch.proofs.Lifts.{true_of_seen, reached_length, all_now, heard_more}
 use Rattle.rp_switch.proofs.Giving.{only_one, rest_same}
 
 -- what a seat knows of its cell stays so where another changes
@@ -133,7 +134,7 @@ module _ {E : Type 0} where
               stage = (low, put_here k.cells q q (taken id) refl);
               rights = known.rights;
               spent = λ none_left. absurd (omega (arith, none_left, some_part));
-              whole = λ p. let h = known.whole p in record { terms = h.terms; seen = h.seen; rights = h.rights; heard = h.heard };
+              whole = λ p. let h = known.whole p in record { terms = h.terms; seen = h.seen; rights = h.rights; heard = h.heard; admitted = h.admitted };
             })
             (λ j x away there. (k.each_seat j x there).rights),
         ((λ _. (ap (λ (p : ℕ). reaching (t.nodes + q) p me.0) (sym place), refl)), (λ miss. absurd (miss hit))),
@@ -143,7 +144,7 @@ module _ {E : Type 0} where
         keeps,
         tt,
         stands t s id (t.nodes + q) me.0 w k at refl (λ j. refl) (λ y world is. is)
-            (record { stage = known.stage; rights = known.rights; spent = λ none_left. absurd (omega (arith, none_left, some_part)); whole = λ p. let h = known.whole p in record { terms = h.terms; seen = h.seen; rights = h.rights; heard = h.heard } }),
+            (record { stage = known.stage; rights = known.rights; spent = λ none_left. absurd (omega (arith, none_left, some_part)); whole = λ p. let h = known.whole p in record { terms = h.terms; seen = h.seen; rights = h.rights; heard = h.heard; admitted = h.admitted } }),
         ((λ hit. absurd (miss hit)), (λ _. (refl, refl))),
       ))
 
@@ -167,7 +168,7 @@ module _ {E : Type 0} where
         stage = tt;
         rights = known.rights;
         spent = λ none_left. absurd (omega (arith, none_left, some_part));
-        whole = λ p. let h = known.whole p in record { terms = h.terms; seen = h.seen; rights = h.rights; heard = h.heard };
+        whole = λ p. let h = known.whole p in record { terms = h.terms; seen = h.seen; rights = h.rights; heard = h.heard; admitted = h.admitted };
       })
       (λ j x away there. (k.each_seat j x there).rights)
 
@@ -223,7 +224,7 @@ told_at_lacks a word k = by_test (eqb k word)
     by_test true = told_lacks a
     by_test false = refl
 
-at_told : (a : Answer) (word : ℕ) (rs : List Right) (k : ℕ) → right_at (rights_told a word rs) k ≡ told_at a word k (right_at rs k)
+pub at_told : (a : Answer) (word : ℕ) (rs : List Right) (k : ℕ) → right_at (rights_told a word rs) k ≡ told_at a word k (right_at rs k)
 at_told a word rs k = at_place (told_at a word) (told_at_lacks a word) rs 0 k ∙ ap (λ i. told_at a word i (right_at rs k)) (omega arith)
 
 learns_weighs : (id : CmdId) (outcome : Outcome) (r : Right) → weight (right_learns id outcome r) ≡ weight r
@@ -243,6 +244,23 @@ at_told_weighs a word rs k = ap weight (at_told a word rs k) ∙ by_test (eqb k 
     by_test : (b : Bool) → weight (cond b (right_told a (right_at rs k)) (right_at rs k)) ≡ weight (right_at rs k)
     by_test true = told_weighs a (right_at rs k)
     by_test false = refl
+
+-- no right to rounds comes to be
+rounds_told : (a : Answer) (r : Right) → right_told a r ≡ Rounds → r ≡ Rounds
+rounds_told (answers.Ended id outcome) Lacks e = e
+rounds_told (answers.Ended id outcome) (Tries ts) e = absurd (cc)
+rounds_told (answers.Ended id outcome) Rounds e = refl
+rounds_told (answers.Ended id outcome) BrokenOff e = e
+rounds_told answers.Over r e = e
+rounds_told answers.NoMemory r e = e
+
+told_admitted : (a : Answer) (word : ℕ) (rs : List Right) (seen w : World) → OnlyAdmittedSince rs seen w → OnlyAdmittedSince (rights_told a word rs) seen w
+told_admitted a word rs seen w was q before now rounds saw there =
+    was q before now (by_test (eqb q word) (sym (at_told a word rs q) ∙ rounds)) saw there
+  where
+    by_test : (b : Bool) → cond b (right_told a (right_at rs q)) (right_at rs q) ≡ Rounds → right_at rs q ≡ Rounds
+    by_test true e = rounds_told a (right_at rs q) e
+    by_test false e = e
 
 -- the clients' tries, where one right is told an answer
 record Learns (t : Terms) (w : World) (tries : Tried) (broken : ℕ → Bool) (q : ℕ) (v : Knowledge) (a : Answer) : Type 0 where
@@ -372,7 +390,7 @@ module _ {E : Type 0} where
       exchanged found 1 2 (λ z. (w : Knowledge) × (a : Act (Slot E)) × Valid s.homes me.1 a × Kept t (stepped s (t.nodes + q) z id me.1 w a) × plays.fetched (step slots (t.nodes + q) 1 2 maybe.none) me found (w, carried_after me.1 a))
       (λ hit. let there = is_full t s.homes k.world q (k.cells q) (sym (k.replies q low).0 ∙ hit) (k.replies q low).1 in
       let a = there.0 in
-      let w = fetching (t.nodes + q) q a me.0 in
+      let w = fetching (t.nodes + q) q a k.world me.0 in
       let l = learns_answer t k.world k.tries k.broken q me.0 a k.reached there.3 k.each_client known.rights in (
         w,
         takes (t.nodes + q) (Reply a),
@@ -385,7 +403,7 @@ module _ {E : Type 0} where
               stage = (low, put_here k.cells q q (taken id) refl);
               rights = l.mine;
               spent = λ none_left. absurd (omega (arith, none_left, some_part));
-              whole = λ p. record { terms = full_.terms; seen = full_.seen; rights = as_many (told_at a (t.nodes + q)) 0 me.0.rights ∙ full_.rights; heard = full_.heard };
+              whole = λ p. record { terms = full_.terms; seen = full_.seen; rights = as_many (told_at a (t.nodes + q)) 0 me.0.rights ∙ full_.rights; heard = heard_more t.nodes k.world me.0.joined k.world full_.heard (all_now t.nodes k.world k.reached); admitted = told_admitted a (t.nodes + q) me.0.rights me.0.seen k.world full_.admitted };
             })
             (λ j x away there. let theirs = k.each_seat j x there in
             λ i. theirs_told t k.world k.tries k.broken q id j me.0 x a s.views l away at there k.once i (right_at x.rights i) refl (theirs.rights i)),
@@ -393,9 +411,9 @@ module _ {E : Type 0} where
           (λ _. (
             a,
             k.world,
-            subst (λ (u : Terms). IsNow u k.world me.0.seen) (sym full_.terms) (record { reached = k.reached; past = full_.seen }),
+            is_now t s k id me.0 at some_part,
             subst (λ (u : Terms). IsTrueOf u k.world (suc (t.nodes + q - me.0.terms.nodes)) a) (sym full_.terms) (subst (λ (p : ℕ). IsTrueOf t k.world (suc p) a) (sym place) there.3),
-            ap (λ (p : ℕ). fetching (t.nodes + q) p a me.0) (sym place),
+            ap (λ (p : ℕ). fetching (t.nodes + q) p a k.world me.0) (sym place),
             refl,
           )),
           (λ miss. absurd (miss hit)),
@@ -406,6 +424,6 @@ module _ {E : Type 0} where
         keeps,
         tt,
         stands t s id (t.nodes + q) me.0 w k at refl (λ j. refl) (λ y world is. is)
-            (record { stage = known.stage; rights = known.rights; spent = λ none_left. absurd (omega (arith, none_left, some_part)); whole = λ p. let h = known.whole p in record { terms = h.terms; seen = h.seen; rights = h.rights; heard = h.heard } }),
+            (record { stage = known.stage; rights = known.rights; spent = λ none_left. absurd (omega (arith, none_left, some_part)); whole = λ p. let h = known.whole p in record { terms = h.terms; seen = h.seen; rights = h.rights; heard = h.heard; admitted = h.admitted } }),
         ((λ hit. absurd (miss hit)), (λ _. (refl, refl))),
       ))

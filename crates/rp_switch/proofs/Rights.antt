@@ -55,6 +55,15 @@ pub in_other_half : (P : Right → Type 0) → P Lacks → (b : Bool) (r : Right
 in_other_half P none true r known = none
 in_other_half P none false r known = known
 
+-- the right to rounds that is in a half was there
+pub rounds_chosen : (b : Bool) (r : Right) → (if b then r else Lacks) ≡ Rounds → r ≡ Rounds
+rounds_chosen true r e = e
+rounds_chosen false r e = absurd (cc)
+
+pub rounds_others : (b : Bool) (r : Right) → (if b then Lacks else r) ≡ Rounds → r ≡ Rounds
+rounds_others true r e = absurd (cc)
+rounds_others false r e = e
+
 either_lacks : (r : Right) → r ≡ either_right r Lacks
 either_lacks Lacks = refl
 either_lacks (Tries ts) = refl

@@ -1,5 +1,5 @@
 -- A node is taken.
-use Rattle.std.proofs.Common.{◌≡◌, ◌≢◌, ℕ, zero, suc, ◌+◌, ◌<◌, eqb, Bool, List, [], ◌∷◌, length, set, refl, ap, sym, ◌∙◌, arith, subst, slice_index, slice_set, slice_get, Some}
+use Rattle.std.proofs.Common.{◌≡◌, ◌≢◌, ℕ, zero, suc, ◌+◌, ◌<◌, eqb, Bool, List, set, refl, ap, sym, ◌∙◌, arith, subst, slice_index, slice_set, slice_get, Some}
 use Rattle.std.proofs.lemmas.List.{length-set, get_or-set_same, get_or-set_other}
 use mathlib.Core.Option as maybe
 use mathlib.Core.Logic.{dite}
@@ -19,9 +19,10 @@ use Rattle.rp_switch.specs.declared.slots.Slot.{Slot}
 use Rattle.rp_switch.specs.declared.slots.Slot.TheVariants.{Body}
 use Rattle.rp_switch.specs.declared.terms.Terms.{Terms}
 use Rattle.rp_switch.specs.Views.{Stage, Idle, HasNode, HasCell, Chooses, Found, Knowledge, noting, taking}
-use Rattle.rp_switch.specs.Rules.{Phase, home, out, Cell, node_word, InPhase, IsNow, AtStage, Knows, IsWith, Kept}
+use Rattle.rp_switch.specs.Rules.{Phase, home, out, Cell, node_word, InPhase, AtStage, Knows, IsWith, Kept}
 use Rattle.rp_switch.specs.Plays as plays
 use Rattle.rp_switch.specs.Plays.{Standing}
+use Rattle.rp_switch.proofs.Nows.{set_at, admitted_on, is_now}
 use Rattle.rp_switch.proofs.Places.{put, put_here, put_else, at_put}
 use Rattle.rp_switch.proofs.Frames.{set_there, still_with, rebuilt, stands, home_stays, cell_stays}
 
@@ -65,18 +66,8 @@ sees nodes seen w place x low reached has all = record {
     each (suc q) n e = dite (ℕ_discrete q place)
         (λ is. subst (λ (z : ℕ). WasSeen nodes w (suc z) n) (sym is)
         (subst (λ (y : Node). WasSeen nodes w (suc place) y)
-        (some_node x n (sym (set_here seen place x (subst (λ (z : ℕ). place < z) (sym all.size) low)) ∙ ap (λ (z : ℕ). slice_get (slice_set seen place x) z) (sym is) ∙ e)) now))
+        (some_node x n (sym (set_at seen place x (subst (λ (z : ℕ). place < z) (sym all.size) low)) ∙ ap (λ (z : ℕ). slice_get (slice_set seen place x) z) (sym is) ∙ e)) now))
         (λ away. all.each (suc q) n (sym (set_other seen place q x away) ∙ e))
-      where
-        set_here : (l : World) (i : ℕ) (a : Node) → i < length l → slice_get (slice_set l i a) i ≡ Some a
-        set_here [] i a less = absurd (omega (arith, less))
-        set_here (y ∷ ys) zero a less = refl
-        set_here (y ∷ ys) (suc i) a less = set_here ys i a (omega (arith, less))
-
-pub set_at : (l : World) (i : ℕ) (a : Node) → i < length l → slice_get (slice_set l i a) i ≡ Some a
-set_at [] i a less = absurd (omega (arith, less))
-set_at (y ∷ ys) zero a less = refl
-set_at (y ∷ ys) (suc i) a less = set_at ys i a (omega (arith, less))
 
 -- a word that is not 0 is 1
 is_taken : (p : Phase) → node_word p ≢ 0 → node_word p ≡ 1
@@ -127,7 +118,7 @@ module _ {E : Type 0} where
         };
         rights = known.rights;
         spent = λ none_left. absurd (omega (arith, none_left, some_part));
-        whole = λ _. record { terms = whole.terms; seen = sees t.nodes v.seen k.world place x.node low k.reached has whole.seen; rights = whole.rights; heard = whole.heard };
+        whole = λ _. record { terms = whole.terms; seen = sees t.nodes v.seen k.world place x.node low k.reached has whole.seen; rights = whole.rights; heard = whole.heard; admitted = admitted_on v.rights v.rights v.seen k.world k.world place x.node (subst (λ (z : ℕ). place < z) (sym whole.seen.size) low) has (λ q away. refl) (λ q rounds. rounds) whole.admitted };
       })
       (λ j u away e. knows_away t k.world place j (out id) u (away_from j) (k.each_seat j u e))
       (λ q j. at_put (λ y (p : Phase). p ≡ out j → IsWith (set s.views id w) y j) k.phases place (out id) q
@@ -143,7 +134,6 @@ module _ {E : Type 0} where
   takes_node t slots id place me low idle some_part s k long at small =
       let found : ℕ = slice_index s.words place in
       let known = k.each_seat id me.0 at in
-      let whole = known.whole some_part in
       exchanged found 0 1 (λ z. (w : Knowledge) × (a : Act (Slot E)) × Valid s.homes me.1 a × Kept t (stepped s place z id me.1 w a) × plays.took (step slots place 0 1 maybe.none) me found (w, carried_after me.1 a))
       (λ hit. let there = is_home s.homes k.world place (k.phases place) (sym (k.nodes place low).0 ∙ hit) (k.nodes place low).1 in
       let x = there.1.0 in (
@@ -151,13 +141,13 @@ module _ {E : Type 0} where
         takes place (Body x),
         there.1.1,
         take_hits t id place s me.0 k at low idle some_part x there.0 there.1.2,
-        ((λ _. (x, k.world, subst (λ (u : Terms). IsNow u k.world me.0.seen) (sym whole.terms) (record { reached = k.reached; past = whole.seen }), there.1.2, refl, refl)), (λ miss. absurd (miss hit))),
+        ((λ _. (x, k.world, is_now t s k id me.0 at some_part, there.1.2, refl, refl)), (λ miss. absurd (miss hit))),
       ))
       (λ miss. let w = noting (Found place found) me.0 in (
         w,
         keeps,
         tt,
         stands t s id place me.0 w k at refl (λ j. refl) (λ y world is. is)
-            (record { stage = known.stage; rights = known.rights; spent = λ none_left. absurd (omega (arith, none_left, some_part)); whole = λ p. let h = known.whole p in record { terms = h.terms; seen = h.seen; rights = h.rights; heard = h.heard } }),
+            (record { stage = known.stage; rights = known.rights; spent = λ none_left. absurd (omega (arith, none_left, some_part)); whole = λ p. let h = known.whole p in record { terms = h.terms; seen = h.seen; rights = h.rights; heard = h.heard; admitted = h.admitted } }),
         ((λ hit. absurd (miss hit)), (λ _. ((k.nodes place low).0 ∙ is_taken (k.phases place) (λ e. miss ((k.nodes place low).0 ∙ e)), refl, refl))),
       ))

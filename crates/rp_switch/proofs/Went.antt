@@ -8,7 +8,7 @@ use Rattle.rp_events.specs.Lawful.{AllLawful, IsReached, IsLater}
 use Rattle.rp_journals.specs.Asked.{all_at, AskedOnce}
 use Rattle.rp_journals.specs.Elsewhere.{IsAhead}
 use Rattle.rp_journals.proofs.Growing.{later_grows, reached_later, one_node}
-use Rattle.rp_race.specs.Gives.{Tried, AllSeen, AllMayTry, IsPart, MayEnd, tried_after, admitted_after, after_round}
+use Rattle.rp_race.specs.Gives.{Tried, AllSeen, AllMayTry, OnlyAdmitted, IsPart, MayEnd, tried_after, admitted_after, after_round}
 use Rattle.rp_race.specs.Played.{IsTriesOf}
 use Rattle.rp_race.specs.Race.{IsRace}
 use Rattle.rp_race.specs.Rounds.{between, stage_of}
@@ -19,6 +19,7 @@ use Rattle.rp_switch.proofs.Given.{quiet_trans, quiet_given, others_stay, stands
 use Rattle.rp_switch.proofs.Quiet.{quiet_part, quiet_end}
 use Rattle.rp_switch.proofs.Places.{put, put_here, put_else}
 use Rattle.rp_race.proofs.Keeping as keeping
+use Rattle.rp_race.proofs.Going.{only_all}
 
 -- the world that a gift leads to
 pub record Went (t : Terms) (w : World) (broken : ℕ → Bool) (tries : Tried) (v : Knowledge) (place : ℕ) (before after : Node) : Type 0 where
@@ -36,6 +37,7 @@ pub record Went (t : Terms) (w : World) (broken : ℕ → Bool) (tries : Tried) 
   pub broken_else : (q : ℕ) → q ≢ place → broken_now (suc q) ≡ broken (suc q)
   pub broken_lacks : (right_at v.rights place ≡ Rounds → ⊥) → broken_now (suc place) ≡ broken (suc place)
   pub broken_not : is_broken_off after ≡ false → broken (suc place) ≡ false → broken_now (suc place) ≡ false
+  pub admitted : (right_at v.rights place ≡ Rounds → ⊥) → (earlier : Node) → OnlyAdmitted earlier before → OnlyAdmitted earlier after
 
 -- what a gift stands on
 pub record Ready (t : Terms) (w : World) (broken : ℕ → Bool) (tries : Tried) (v : Knowledge) (place : ℕ) (at : World) (before : Node) : Type 0 where
@@ -86,6 +88,7 @@ by_admissions t w broken tries v place at before after r gift =
       broken_else = λ q away. refl;
       broken_lacks = λ lacks. refl;
       broken_not = λ not_off was. was;
+      admitted = λ lacks earlier only. subst (λ (y : Node). OnlyAdmitted earlier y) (sym gift.leaves) (only_all t.rules t.nodes node earlier before only (tries_known v) xs may);
     }
 
 by_round : (t : Terms) (w : World) (broken : ℕ → Bool) (tries : Tried) (v : Knowledge) (place : ℕ) (at : World) (before after : Node)
@@ -113,6 +116,7 @@ by_round t w broken tries v place at before after r gift =
       broken_else = λ q away. refl;
       broken_lacks = λ lacks. refl;
       broken_not = λ not_off was. was;
+      admitted = λ lacks earlier only. absurd (lacks gift.carries);
     }
 
 -- where a node stands between two rounds nothing of it was broken off
@@ -157,6 +161,7 @@ by_part t w broken tries v place at before after r gift =
       broken_else = λ q away. put_else broken node (suc q) true (λ e. away (omega (arith, e)));
       broken_lacks = λ lacks. absurd (lacks gift.carries);
       broken_not = λ not_off was. absurd (cc);
+      admitted = λ lacks earlier only. absurd (lacks gift.carries);
     })
     (λ on. record {
       world = run w (all_at node xs);
@@ -173,6 +178,7 @@ by_part t w broken tries v place at before after r gift =
       broken_else = λ q away. refl;
       broken_lacks = λ lacks. refl;
       broken_not = λ not_off was. was;
+      admitted = λ lacks earlier only. absurd (lacks gift.carries);
     })
     (true_or_false (is_broken_off after))
 

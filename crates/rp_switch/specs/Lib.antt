@@ -1,6 +1,6 @@
 pub mod Views
-pub mod Rules
 pub mod Gifts
+pub mod Rules
 pub mod Plays
 pub mod Calm
 pub mod Seats

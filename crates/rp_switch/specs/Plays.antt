@@ -32,10 +32,10 @@ giving place before after v = record v {
 }
 
 -- an exchange of a node's word tells what it found; where that is 0 the seat has the node, which is that
--- of a world from which all that it saw is past; else it is 1
+-- of a world of which all is so that the seat knows; else it is 1
 abbrev pub took : {E : Type 0} → Step (Slot E) → Standing E → ℕ → Standing E → Type 0
 took s m found m' =
-    (found ≡ 0 → (x : Held _) × (at : World) × IsNow m.0.terms at m.0.seen × (slice_get at s.word ≡ Some x.node)
+    (found ≡ 0 → (x : Held _) × (at : World) × IsNow m.0 at × (slice_get at s.word ≡ Some x.node)
     × (m'.0 ≡ taking s.word at x.node m.0) × (m'.1 ≡ (s.word, Body x) ∷ m.1))
     × (found ≢ 0 → (found ≡ 1) × (m'.0 ≡ noting (Found s.word found) m.0) × (m'.1 ≡ m.1))
 
@@ -52,13 +52,12 @@ reached s m found m' =
     (found ≡ 0 → (m'.0 ≡ reaching s.word (s.word - m.0.terms.nodes) m.0) × (m'.1 ≡ (s.word, Nothing) ∷ m.1))
     × (found ≢ 0 → (m'.0 ≡ noting (Found s.word found) m.0) × (m'.1 ≡ m.1))
 
--- where it is 1 the seat has the cell with an answer that is true of a world from which all that the
--- seat saw is past
+-- where it is 1 the seat has the cell with an answer that is true of such a world
 abbrev pub fetched : {E : Type 0} → Step (Slot E) → Standing E → ℕ → Standing E → Type 0
 fetched s m found m' =
-    (found ≡ 1 → (a : Answer) × (at : World) × IsNow m.0.terms at m.0.seen
+    (found ≡ 1 → (a : Answer) × (at : World) × IsNow m.0 at
     × IsTrueOf m.0.terms at (suc (s.word - m.0.terms.nodes)) a
-    × (m'.0 ≡ fetching s.word (s.word - m.0.terms.nodes) a m.0) × (m'.1 ≡ (s.word, Reply a) ∷ m.1))
+    × (m'.0 ≡ fetching s.word (s.word - m.0.terms.nodes) a at m.0) × (m'.1 ≡ (s.word, Reply a) ∷ m.1))
     × (found ≢ 1 → (m'.0 ≡ noting (Found s.word found) m.0) × (m'.1 ≡ m.1))
 
 -- the cell goes home with the answer that lies in it

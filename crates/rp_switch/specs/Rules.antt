@@ -10,13 +10,14 @@ use Rattle.rp_events.specs.Nodes.{Node}
 use Rattle.rp_events.specs.Worlds.{World, first_world, node_of}
 use Rattle.rp_events.specs.Lawful.{IsReached, IsLater}
 use Rattle.rp_race.specs.Ends.{IsWaitedOutForGood, patience}
-use Rattle.rp_race.specs.Gives.{AllSeen, Tried}
+use Rattle.rp_race.specs.Gives.{AllSeen, OnlyAdmitted, Tried}
 use Rattle.rp_race.specs.Played.{IsTriesOf}
 use Rattle.rp_race.specs.Race.{IsRace}
 use Rattle.rp_node.specs.Steps.{Held}
 use Rattle.rp_switch.specs.declared.slots.Slot.{Slot}
 use Rattle.rp_switch.specs.declared.slots.Slot.TheVariants.{Nothing, Body, Reply}
 use Rattle.rp_switch.specs.declared.terms.Terms.{Terms}
+use Rattle.rp_switch.specs.Gifts.{CarriesClient, tries_known}
 use Rattle.rp_switch.specs.Views.{Right, Lacks, Tries, Rounds, BrokenOff, Stage, Idle, HasNode, HasCell, Chooses, Knowledge, all_parts, nothing_known, right_at}
 
 -- a node is at home, or out with the seat of this number
@@ -71,10 +72,25 @@ InCell t homes w place (full a) =
     (get_elem? homes (t.nodes + place) ≡ maybe.some (maybe.some (Reply a))) × IsTrueOf t w (suc place) a
 InCell t homes w place (taken id) = Unit {0}
 
--- a reached world from which all that was seen is past
-pub record IsNow (t : Terms) (at seen : World) : Type 0 where
-  pub reached : IsReached t.nodes at
-  pub past : AllSeen t.nodes seen at
+-- a node whose rounds a seat may play has only admitted since the seat saw it last
+abbrev pub OnlyAdmittedSince : (rights : List Right) (seen w : World) → Type 0
+OnlyAdmittedSince rights seen w =
+    (place : ℕ) (before now : Node) → right_at rights place ≡ Rounds
+    → slice_get seen place ≡ Some before → slice_get w place ≡ Some now → OnlyAdmitted before now
+
+-- What a step tells of the world that it came to: it is reached, and all that the seat saw is past there; it is
+-- that of a race, but for rounds that were broken off, none of them of a node whose rounds the seat may play; such
+-- a node has only admitted since; each client made its tries as it may, those of the seat's clients as it keeps them.
+pub record IsNow (v : Knowledge) (at : World) : Type 0 where
+  pub reached : IsReached v.terms.nodes at
+  pub past : AllSeen v.terms.nodes v.seen at
+  pub broken : ℕ → Bool
+  pub race : IsRace v.terms.rules broken at
+  pub unbroken : (place : ℕ) → right_at v.rights place ≡ Rounds → broken (suc place) ≡ false
+  pub admitted : OnlyAdmittedSince v.rights v.seen at
+  pub tries : Tried
+  pub each : (client : ℕ) → IsTriesOf v.terms.rules at client (tries client)
+  pub kept : (client : ℕ) → CarriesClient v client → tries_known v client ≡ tries client
 
 -- the seat has this node, which has not changed since it was taken
 pub record HasIt (t : Terms) (w : World) (phases : ℕ → Phase) (id place : ℕ) (at seen : World) : Type 0 where
@@ -98,17 +114,18 @@ RightOf t tries broken k (Tries ts) = (t.nodes ≤ k) × (tries (suc (k - t.node
 RightOf t tries broken k Rounds = (k < t.nodes) × (broken (suc k) ≡ false)
 RightOf t tries broken k BrokenOff = k < t.nodes
 
--- what joined seats had seen is past
+-- what was heard of other worlds is past
 abbrev pub AllHeard : (nodes : ℕ) → List World → World → Type 0
 AllHeard nodes joined w = (k : ℕ) (seen : World) → slice_get joined k ≡ Some seen → AllSeen nodes seen w
 
 -- a seat that is not spent knows what the switch is made for and of each right whether it carries it,
--- and has seen each node
+-- and has seen each node, those whose rounds it may play since their last round
 pub record IsWhole (t : Terms) (w : World) (v : Knowledge) : Type 0 where
   pub terms : v.terms ≡ t
   pub seen : AllSeen t.nodes v.seen w
   pub rights : length v.rights ≡ size_of t
   pub heard : AllHeard t.nodes v.joined w
+  pub admitted : OnlyAdmittedSince v.rights v.seen w
 
 -- what a seat knows is so
 pub record Knows (t : Terms) (w : World) (tries : Tried) (broken : ℕ → Bool) (phases : ℕ → Phase)

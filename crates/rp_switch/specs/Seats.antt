@@ -3,6 +3,7 @@ use Rattle.std.specs.Prelude.{◌≡◌, ◌≢◌, ℕ, ◌+◌, ◌-◌, ◌%�
 use Rattle.rp_bufcore.specs.declared.ends.BufferEnd.{Ghosts}
 use Rattle.rp_clients.specs.declared.answers.Answer.{Answer}
 use Rattle.rp_clients.specs.declared.answers.Empty.{Empty}
+use Rattle.rp_clients.specs.Tries.{Try}
 use Rattle.rp_events.specs.Worlds.{World}
 use Rattle.rp_events.specs.Lawful.{IsReached}
 use Rattle.rp_events.specs.Nodes.{Node}
@@ -38,10 +39,10 @@ module _ {E : Type 0} {g : Ghosts E} where
   IsSame old new = (new.seat.table_id ≡ old.seat.table_id) × ((known_by new).terms ≡ (known_by old).terms)
 
 -- What a try to take a node tells. The exchange of its word found it free, and the seat has the node of
--- a reached world from which all that it saw is past; or it found the node taken, and nothing changed.
+-- a world of which all is so that the seat knows; or it found the node taken, and nothing changed.
 abbrev pub Takes : {E : Type 0} → Knowledge → (node : ℕ) → Result (Taken E) Busy → Knowledge → Type 0
 Takes v node (Ok t) w =
-    (at : World) × IsNow v.terms at v.seen × (slice_get at (node - 1) ≡ Some t.node.node) × (t.number ≡ node)
+    (at : World) × IsNow v at × (slice_get at (node - 1) ≡ Some t.node.node) × (t.number ≡ node)
     × (w ≡ taking (node - 1) at t.node.node v)
 Takes v node (Err busy) w =
     (busy.node ≡ node) × (w ≡ noting (Found (node - 1) 1) v)
@@ -58,12 +59,12 @@ Posts v client answer (Ok done) w =
     w ≡ posting (v.terms.nodes + client - 1) answer (reaching (v.terms.nodes + client - 1) (client - 1) v)
 Posts v client answer (Err busy) w = (found : ℕ) × (found ≢ 0) × (w ≡ noting (Found (v.terms.nodes + client - 1) found) v)
 
--- What a try to fetch tells: the exchange found the cell full, and the answer that lay there is true; where
--- it tells an end, the client's right has learnt it. Or it found another word than that of a full cell.
+-- What a try to fetch tells: the exchange found the cell full, and the answer that lay there is true of a world of
+-- which all is so that the seat knows; where it tells an end, the client's right has learnt it. Or it found another word than that of a full cell.
 abbrev pub Fetches : Knowledge → (client : ℕ) → Result Answer Empty → Knowledge → Type 0
 Fetches v client (Ok a) w =
-    (at : World) × IsNow v.terms at v.seen × IsTrueOf v.terms at client a
-    × (w ≡ at_rest (fetching (v.terms.nodes + client - 1) (client - 1) a v))
+    (at : World) × IsNow v at × IsTrueOf v.terms at client a
+    × (w ≡ at_rest (fetching (v.terms.nodes + client - 1) (client - 1) a at v))
 Fetches v client (Err empty) w = (found : ℕ) × (found ≢ 1) × (w ≡ noting (Found (v.terms.nodes + client - 1) found) v)
 
 -- the seat carries the right to the rounds of each node that the worker serves
@@ -87,7 +88,8 @@ is_broken BrokenOff = true
 -- What the last seat knows of the nodes at the close: they are those of a reached world, which is that of
 -- a race, but for a last round of each node whose right says that one was broken off; and what it keeps of
 -- each client's tries is all that the journals have.
--- All that it saw, and that each seat saw that was joined to it, is past there.
+-- All that it saw and heard of, and that each seat did that was joined to it, is past there. Each client made
+-- its tries as it may.
 pub record Closes (v : Knowledge) (nodes : List Node) : Type 0 where
   pub reached : IsReached v.terms.nodes nodes
   pub race : IsRace v.terms.rules (λ node. is_broken (right_at v.rights (node - 1))) nodes
@@ -95,3 +97,4 @@ pub record Closes (v : Knowledge) (nodes : List Node) : Type 0 where
   pub heard : AllHeard v.terms.nodes v.joined nodes
   pub carries : (client : ℕ) → 1 ≤ client → client ≤ clients_of v.terms → CarriesClient v client
   pub tries : (client : ℕ) → CarriesClient v client → IsTriesOf v.terms.rules nodes client (tries_known v client)
+  pub each_client : (client : ℕ) → (tries : List Try) × IsTriesOf v.terms.rules nodes client tries

@@ -1,5 +1,5 @@
 -- What a seat of a switch knows (this project).
-use Rattle.std.specs.Prelude.{ℕ, suc, ◌+◌, ◌-◌, Bool, false, if◌then◌else◌, ◌==◌, ◌%◌, ◌&&◌, nat_lt, List, [], ◌∷◌, ◌++◌, slice_index_or, slice_set}
+use Rattle.std.specs.Prelude.{ℕ, suc, ◌+◌, ◌-◌, Bool, true, false, not, if◌then◌else◌, ◌==◌, ◌%◌, ◌&&◌, nat_lt, List, [], ◌∷◌, ◌++◌, slice_index_or, slice_set}
 use Rattle.rp_base.specs.declared.ids.CmdId.{CmdId}
 use Rattle.rp_request.specs.declared.outcomes.Outcome.{Outcome}
 use Rattle.rp_clients.specs.Tries.{Try, learns}
@@ -39,8 +39,9 @@ pub data Look : Type 0 where
   Posted : (word : ℕ) → Answer → Look
 
 -- what the switch is made for; the seat's parts of the right to close it; where it stands; each node as
--- it was when the seat last took it; its rights, those of the nodes' rounds first, then those of the
--- clients; what its steps told, in order; and what the seats had seen that were joined to it
+-- it was when the seat last took it or gave it back; its rights, those of the nodes' rounds first, then those
+-- of the clients; what its steps told, in order; and, besides, the worlds in which the answers were true that
+-- it fetched, and what the seats had seen and heard that were joined to it
 pub record Knowledge : Type 0 where
   pub terms : Terms
   pub parts : ℕ
@@ -137,12 +138,13 @@ taking place at n v = record v {
 abbrev pub reaching : (word place : ℕ) → Knowledge → Knowledge
 reaching word place v = record v { stage = HasCell place; looks = v.looks ++ Found word 0 ∷ [] }
 
--- it is taken with this answer
-abbrev pub fetching : (word place : ℕ) → Answer → Knowledge → Knowledge
-fetching word place a v = record v {
+-- it is taken with this answer, which is true of this world
+abbrev pub fetching : (word place : ℕ) → Answer → World → Knowledge → Knowledge
+fetching word place a at v = record v {
   stage = HasCell place;
   rights = rights_told a word v.rights;
   looks = v.looks ++ Fetched place a ∷ [];
+  joined = v.joined ++ at ∷ [];
 }
 
 abbrev pub at_rest : Knowledge → Knowledge
@@ -172,10 +174,35 @@ right v = record v {
   joined = [];
 }
 
--- parts and rights of two seats in one, which has seen what the first has, and keeps what the other had
+-- the seat has the node with this place
+abbrev pub has_node : Stage → (place : ℕ) → Bool
+has_node (HasNode q at) place = q == place
+has_node Idle place = false
+has_node (HasCell q) place = false
+has_node (Chooses choice) place = false
+
+abbrev pub is_rounds : Right → Bool
+is_rounds Lacks = false
+is_rounds (Tries ts) = false
+is_rounds Rounds = true
+is_rounds BrokenOff = false
+
+-- of each node what the first of two seats saw, or the other at the places that are asked for
+unfoldable pub seen_by : (ℕ → Bool) → ℕ → World → World → World
+seen_by p k [] ms = []
+seen_by p k (n ∷ ns) [] = n ∷ ns
+seen_by p k (n ∷ ns) (m ∷ ms) = (if p k then m else n) ∷ seen_by p (suc k) ns ms
+
+-- at these the other seat may play the rounds of a node that the first does not have
+abbrev pub knows_better : Knowledge → Knowledge → ℕ → Bool
+knows_better v w k = is_rounds (right_at w.rights k) && not (has_node v.stage k)
+
+-- parts and rights of two seats in one, which has seen what the first has, but the nodes whose rounds the other may
+-- play, and keeps what the other had seen
 abbrev pub both : Knowledge → Knowledge → Knowledge
 both v w = record v {
   parts = v.parts + w.parts;
+  seen = seen_by (knows_better v w) 0 v.seen w.seen;
   rights = together v.rights w.rights;
   looks = v.looks ++ w.looks;
   joined = v.joined ++ w.seen ∷ w.joined;

@@ -83,6 +83,7 @@ impl<E: BufferEnd + Drop> Switch<E> {
             table,
             nodes: count,
             clients: _,
+            rules: _,
         } = self;
         let Seat { seat } = seat;
         let mut closed = table.close_with(seat);

@@ -35,6 +35,7 @@ mod openings;
 mod plays;
 mod rule;
 mod seats;
+mod shows;
 mod slots;
 mod switch;
 mod takes;

@@ -83,6 +83,7 @@ impl<E: BufferEnd + Drop> Switch<E> {
             table,
             nodes: count,
             clients,
+            rules: terms.rules,
         };
         Ok((switch, Seat { seat }))
     }

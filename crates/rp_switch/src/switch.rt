@@ -1,5 +1,5 @@
 //! A switch, its seats, and a node that is taken.
-ghost use Rattle.std.specs.Prelude.{◌≡◌, ◌<◌, ◌≤◌, true};
+ghost use Rattle.std.specs.Prelude.{◌≡◌, ◌<◌, ◌≤◌, ◌^◌, true};
 ghost use Rattle.rp_switch.specs.Rules.{clients_of, size_of};
 ghost use Rattle.rp_switch.specs.Calm.{is_calm, slots_at};
 
@@ -11,6 +11,7 @@ use atomic_table::{Seat as TableSeat, Table};
 use rp_base::NodeId;
 use rp_bufcore::BufferEnd;
 use rp_node::Node;
+use rp_race::RaceRules;
 use std::alloc::Global;
 
 /// Nodes, each behind a word, and a reply cell for each client behind a word. Threads step through a
@@ -20,10 +21,13 @@ pub struct Switch<E: BufferEnd + Drop> {
     pub(crate) table: Table<Slot<E>, Known, Terms, Law, Global>,
     pub(crate) nodes: usize,
     pub(crate) clients: usize,
+    pub(crate) rules: RaceRules,
     ghost nodes_are: { nodes ≡ table.shared.key.nodes },
     ghost some: { 1 ≤ nodes },
     ghost few: { nodes ≤ 5 },
+    ghost numbered: { clients < 2 ^ 16 },
     ghost clients_are: { clients ≡ clients_of table.shared.key },
+    ghost rules_are: { rules ≡ table.shared.key.rules },
     ghost counted: { (table.shared.table_id.words ≡ size_of table.shared.key)
         × (table.shared.table_id.slots ≡ size_of table.shared.key) },
 }
