@@ -1,0 +1,5 @@
+mod Onward
+mod Visits
+mod Admitting
+mod Fetching
+mod Hearing
