@@ -1,5 +1,5 @@
 mod Onward
+mod Waits
 mod Visits
 mod Admitting
 mod Fetching
-mod Hearing

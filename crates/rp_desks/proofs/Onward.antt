@@ -1,11 +1,13 @@
 -- A seat that goes on: by steps one after another.
-use Rattle.std.proofs.Common.{◌≡◌, ℕ, ◌+◌, ◌-◌, ◌<◌, ◌≤◌, Bool, true, false, List, refl, sym, ap, subst, ◌∙◌, arith, Some, None, Ok, Err}
+use Rattle.std.proofs.Common.{◌≡◌, ℕ, ◌+◌, ◌-◌, ◌<◌, ◌≤◌, Bool, true, false, List, refl, sym, ap, subst, ◌∙◌, arith, Some, None, Result, Ok, Err, IfErr}
 use Rattle.std.proofs.lemmas.List.Elements.{All-weaker}
 use Rattle.rp_base.specs.declared.ids.CmdId.{CmdId}
 use Rattle.rp_request.specs.declared.requests.Request.{Request}
-use Rattle.rp_clients.specs.Desks.{CameBy}
+use Rattle.rp_clients.specs.declared.answers.AdmitFault.{AdmitFault}
+use Rattle.rp_clients.specs.Desks.{CameBy, RefusesBy}
 use Rattle.rp_clients.specs.Tries.{Try, MayCome, GoneOn}
 use Rattle.rp_race.specs.Played.{requests_of}
+use Rattle.rp_switch.specs.declared.terms.Terms.{Terms}
 use Rattle.rp_switch.specs.Gifts.{IsTries, CarriesClient, tries_known}
 use Rattle.rp_switch.specs.Views.{Right, Lacks, Tries, Rounds, BrokenOff, Stage, Idle, HasNode, HasCell, Chooses, Knowledge, right_at}
 use Rattle.rp_desks.specs.Onward.{rounds_seen, is_lacking, has_tries, is_idle, carries, heard_over, IsOnward, Stays, Looks, MayAsk, Admits, tries_after}
@@ -83,12 +85,12 @@ may_ask_behind client u v node range id request a m = record {
       (λ t was seq at. let less = was seq at in let more = a.onward.rounds node in omega (arith, less, more)) (tries_known u client) m.gone_on);
 }
 
-pub admits_behind : (client : ℕ) (u v w : Knowledge) (node range : ℕ) (id : CmdId) (answer : _) → Stays client u v
+pub admits_behind : (client : ℕ) (u v w : Knowledge) (node range : ℕ) (id : CmdId) (answer : Result (Unit {0}) AdmitFault) → Stays client u v
     → Admits client v node range id answer w → Admits client u node range id answer w
 admits_behind client u v w node range id answer a b = record {
   onward = onward_behind client u v w a.onward b.onward;
   rounds = b.rounds;
   least = let x = a.onward.rounds node in let y = b.least in omega (arith, x, y);
   tries = b.tries ∙ ap (tries_after node range b.rounds id answer) a.tries;
-  names = subst (λ t. _) a.onward.terms b.names;
+  names = subst (λ (t : Terms). IfErr answer (RefusesBy t.nodes)) a.onward.terms b.names;
 }

@@ -12,14 +12,12 @@ use Rattle.rp_race.specs.Played.{IsTriesOf}
 use Rattle.rp_race.proofs.Waited.{seen_not_less}
 use Rattle.rp_tried.proofs.Coming.{came_by}
 use Rattle.rp_switch.specs.declared.switch.Taken.{Taken}
-use Rattle.rp_switch.specs.declared.faults.Busy.{Busy}
 use Rattle.rp_switch.specs.Gifts.{CarriesClient, AreAdmissions, tries_known}
 use Rattle.rp_switch.specs.Plays.{right_given, giving}
 use Rattle.rp_switch.specs.Rules.{IsNow}
 use Rattle.rp_switch.specs.Seats.{Takes, GivesBack}
 use Rattle.rp_switch.specs.Views.{Right, Lacks, Tries, Rounds, BrokenOff, Idle, Look, Knowledge, right_at, noting, taking}
-use Rattle.rp_switch.proofs.Backing.{took_it, right_after, carries_after, tries_admitted}
-use Rattle.rp_switch.proofs.Nows.{set_at}
+use Rattle.rp_switch.proofs.Backing.{took_it, right_after, carries_after, tries_admitted, seen_after}
 use Rattle.rp_desks.specs.Onward.{rounds_seen, is_lacking, has_tries, is_idle, carries, heard_over, IsOnward, Stays, Looks}
 use Rattle.rp_desks.proofs.Onward.{tries_are, tries_so, lacking_is}
 
@@ -48,42 +46,45 @@ module _ {E : Type 0} where
         ∙ ap (λ (u : Knowledge). giving (node - 1) t.node.node after u) taken.4;
   }
 
-  pub not_taken : (v w : Knowledge) (node client : ℕ) (busy : Busy) → is_idle v.stage ≡ true → carries v client ≡ true → Takes {E} v node (Err busy) w → Stays client v w
-  not_taken v w node client busy idle has taken = subst (λ u. Stays client v u) (sym taken.1) (record {
-    onward = record {
-      terms = refl;
-      parts = refl;
-      idle = idle;
-      carries = has;
-      lacks = λ k e. e;
-      rounds = λ n. omega arith;
-      heard = λ e. e;
-    };
-    tries = refl;
-  })
+-- where the node was taken
+pub not_taken : (v w : Knowledge) (client : ℕ) (look : Look) → is_idle v.stage ≡ true → carries v client ≡ true → w ≡ noting look v → Stays client v w
+not_taken v w client look idle has is = subst (λ u. Stays client v u) (sym is) (record {
+  onward = record {
+    terms = refl;
+    parts = refl;
+    idle = idle;
+    carries = has;
+    lacks = λ k e. e;
+    rounds = λ n. omega arith;
+    heard = λ e. e;
+  };
+  tries = refl;
+})
 
-seen_some : (v : Knowledge) (at : World) (place : ℕ) (before : Node) (o : Option Node) → IsNow v at → slice_get at place ≡ Some before → slice_get v.seen place ≡ o
+pub seen_some : (v : Knowledge) (at : World) (place : ℕ) (before : Node) (o : Option Node) → IsNow v at → slice_get at place ≡ Some before → slice_get v.seen place ≡ o
     → option_map_or (λ (n : Node). n.rounds) o 0 ≤ before.rounds
 seen_some v at place before None now here is = omega arith
 seen_some v at place before (Some old) now here is = (seen_not_less v.terms.nodes at (suc place) old (now.past.each (suc place) old is) before here).0
-
-pub set_rounds : (seen : World) (place : ℕ) (after : Node) → place < length seen → option_map_or (λ (n : Node). n.rounds) (slice_get (slice_set seen place after) place) 0 ≡ after.rounds
-set_rounds seen place after low = ap (λ o. option_map_or (λ (n : Node). n.rounds) o 0) (set_at seen place after low)
 
 set_length : (seen : World) (place : ℕ) (n : Node) → length (slice_set seen place n) ≡ length seen
 set_length [] place n = refl
 set_length (x ∷ xs) zero n = refl
 set_length (x ∷ xs) (suc place) n = ap suc (set_length xs place n)
 
+-- the node is seen as it was given
+given_rounds : (v : Knowledge) (at : World) (place : ℕ) (before after : Node) → length v.seen ≡ v.terms.nodes → place < v.terms.nodes
+    → option_map_or (λ (n : Node). n.rounds) (slice_get (slice_set (slice_set v.seen place before) place after) place) 0 ≡ after.rounds
+given_rounds v at place before after size low =
+    let long = set_length v.seen place before in
+    ap (λ o. option_map_or (λ (n : Node). n.rounds) o 0) (seen_after place before after (taking place at before v) (omega (arith, size, long, low)))
+
 rounds_on : (v : Knowledge) (at : World) (place : ℕ) (before after : Node) → IsNow v at → place < v.terms.nodes → slice_get at place ≡ Some before → before.rounds ≤ after.rounds
     → (q : ℕ) → option_map_or (λ (n : Node). n.rounds) (slice_get v.seen q) 0 ≤ option_map_or (λ (n : Node). n.rounds) (slice_get (slice_set (slice_set v.seen place before) place after) q) 0
 rounds_on v at place before after now low here more q = ⊎_elim
     (λ (same : q ≡ place).
-    let size = now.past.size in
-    let long = set_length v.seen place before in
     let was = seen_some v at place before (slice_get v.seen q) now here (ap (slice_get v.seen) (sym same)) in
     let is = ap (λ k. option_map_or (λ (n : Node). n.rounds) (slice_get (slice_set (slice_set v.seen place before) place after) k) 0) same
-        ∙ set_rounds (slice_set v.seen place before) place after (omega (arith, size, long, low)) in
+        ∙ given_rounds v at place before after now.past.size low in
     omega (arith, was, more, is))
     (λ (away : q ≡ place → ⊥).
     let is = ap (λ o. option_map_or (λ (n : Node). n.rounds) o 0) (set_other (slice_set v.seen place before) place q after away ∙ set_other v.seen place q before away) in
@@ -122,9 +123,9 @@ visit_stays v w node at before client s first has = record {
   tries = visit_tries v w node at before before client s first has (record { what = []; may = tt; carries = tt; leaves = refl });
 }
 
-has_node : (w : World) (node : ℕ) (n : Node) → 1 ≤ node → slice_get w (node - 1) ≡ Some n → node_of w node ≡ Some n
+pub has_node : (w : World) (node : ℕ) (n : Node) → 1 ≤ node → slice_get w (node - 1) ≡ Some n → node_of w node ≡ Some n
 has_node w zero n some here = absurd (omega (arith, some))
-has_node w (suc place) n some here = here
+has_node w (suc place) n some here = subst (λ k. slice_get w k ≡ Some n) (omega arith) here
 
 pub visit_has : (v w : Knowledge) (node : ℕ) (at : World) (before after : Node) → Visit v node at before after w → node_of at node ≡ Some before
 visit_has v w node at before after s = has_node at node before s.some s.here
@@ -138,8 +139,8 @@ pub visit_looks : (v w : Knowledge) (node : ℕ) (at : World) (before : Node) (c
 visit_looks v w node at before client s first has = record {
   stays = visit_stays v w node at before client s first has;
   saw =
-      let some = s.some in let low = s.low in let size = s.now.past.size in let long = set_length v.seen (node - 1) before in
+      let some = s.some in let low = s.low in
       ap (λ (u : Knowledge). rounds_seen u.seen node) s.leaves
-      ∙ set_rounds (slice_set v.seen (node - 1) before) (node - 1) before (omega (arith, some, low, size, long));
+      ∙ given_rounds v at (node - 1) before before s.now.past.size (omega (arith, some, low));
   least = came_by v.terms.rules v.terms.nodes at s.now.reached client (tries_known v client) (visit_own v at client s.now has) node before (visit_has v w node at before before s);
 }
