@@ -3,3 +3,4 @@ mod Waits
 mod Visits
 mod Admitting
 mod Fetching
+mod Standing
