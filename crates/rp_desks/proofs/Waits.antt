@@ -13,15 +13,15 @@ use Rattle.rp_tried.proofs.Seen.{seen_waited}
 use Rattle.rp_desks.specs.Onward.{is_waited_out, heard_over}
 
 module _ {X : Type 0} (p : X → Bool) where
-  both_true : (a b : Bool) → a ≡ true → b ≡ true → (a && b) ≡ true
+  pub both_true : (a b : Bool) → a ≡ true → b ≡ true → (a && b) ≡ true
   both_true true b e f = f
   both_true false b e f = absurd cc
 
-  left_true : (a b : Bool) → (a && b) ≡ true → a ≡ true
+  pub left_true : (a b : Bool) → (a && b) ≡ true → a ≡ true
   left_true true b e = refl
   left_true false b e = absurd cc
 
-  right_true : (a b : Bool) → (a && b) ≡ true → b ≡ true
+  pub right_true : (a b : Bool) → (a && b) ≡ true → b ≡ true
   right_true true b e = e
   right_true false b e = absurd cc
 

@@ -14,7 +14,10 @@ use Rattle.rp_clients.specs.declared.answers.Answer.TheVariants as answer
 use Rattle.rp_clients.specs.declared.answers.Empty.{Empty}
 use Rattle.rp_clients.specs.Desks.{CameBy, RefusesBy, TellsEnd}
 use Rattle.rp_clients.specs.Tries.{Try, MayCome, GoneOn, learns}
+use Rattle.rp_request.specs.declared.outcomes.Outcome.{Outcome}
 use Rattle.rp_request.specs.declared.outcomes.Outcome.TheVariants.{Refused}
+use Rattle.rp_request.specs.declared.outcomes.Refusal.{Refusal}
+use Rattle.rp_request.specs.declared.outcomes.Refusal.TheVariants.{NotLeaseHolder}
 use Rattle.rp_events.specs.Nodes.{Node}
 use Rattle.rp_events.specs.Worlds.{World}
 use Rattle.rp_race.specs.Ends.{patience}
@@ -47,6 +50,19 @@ is_idle (Chooses choice) = false
 -- the seat carries the right of this client
 abbrev pub carries : Knowledge → (client : ℕ) → Bool
 carries v client = has_tries (right_at v.rights (v.terms.nodes + client - 1))
+
+-- where a refusal names another holder of the lease, it is one of so many nodes
+abbrev pub names_node : (nodes : ℕ) → Refusal → Bool
+names_node nodes (NotLeaseHolder lease) = nat_le lease.holder nodes
+names_node nodes _ = true
+
+abbrev pub is_named : (nodes : ℕ) → Option Outcome → Bool
+is_named nodes (Some (Refused refusal)) = names_node nodes refusal
+is_named nodes _ = true
+
+-- so does each refusal that ended a try
+abbrev pub all_named : (nodes : ℕ) → List Try → Bool
+all_named nodes tries = list_all (λ (t : Try). is_named nodes t.end) tries
 
 -- each of these nodes has had so many rounds, and so long an attempt of one of them was pending
 abbrev pub is_waited_out : (rounds : ℕ) → World → Bool

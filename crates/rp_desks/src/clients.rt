@@ -22,10 +22,10 @@ use std::marker::{Brand, PhantomData};
 use std::sync::Wait;
 
 /// The client at a desk of these tables.
-fn send_all_at<K: Origin, R: Wait, E: BufferEnd + Drop, G: Gate>(
-    rt: &R,
+fn send_all_at<'a, K: Origin, R: Wait, E: BufferEnd + Drop, G: Gate>(
+    rt: &'a R,
     alloc: Global,
-    shared: &Shared<'_, E>,
+    shared: &Shared<'a, E>,
     rights: Rights<E>,
     gate: &G,
     client: u16,
@@ -88,10 +88,10 @@ fn send_all_at<K: Origin, R: Wait, E: BufferEnd + Drop, G: Gate>(
 /// race: an admission at the node that is aimed at, the item in the buffer, and the end that is posted.
 /// Where it heard that no more is to be waited for it leaves the rest; else it has done all. `NoMemory`
 /// where memory was refused, here or as was posted. All units that it took are given back.
-pub fn send_all<R: Wait, E: BufferEnd + Drop, G: Gate>(
-    rt: &R,
+pub fn send_all<'a, R: Wait, E: BufferEnd + Drop, G: Gate>(
+    rt: &'a R,
     alloc: Global,
-    shared: &Shared<'_, E>,
+    shared: &Shared<'a, E>,
     rights: Rights<E>,
     gate: &G,
     client: u16,

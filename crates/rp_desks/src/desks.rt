@@ -56,7 +56,7 @@ impl<'a, R: Wait, E: BufferEnd + Drop, K: Origin> Desk for SwitchDesk<'a, R, E, 
         id: CmdId,
         request: Request,
     ) -> Result<(), AdmitFault> {
-        let answer = self.seat.admit(self.rt, node, range, id, request);
+        let answer = self.seat.admit(self.rt, node, range, id, &request);
         match &answer {
             Ok(()) | Err(AdmitFault::Refused(_)) => self.is_put = false,
             Err(AdmitFault::NoMemory) => self.is_short = true,
@@ -67,6 +67,7 @@ impl<'a, R: Wait, E: BufferEnd + Drop, K: Origin> Desk for SwitchDesk<'a, R, E, 
     /// Inserts the command's item into the buffer of the node's range: false exactly where there was no
     /// room or another was faster.
     fn put(&mut self, node: NodeId, range: RangeId, id: CmdId) -> bool
+        ensures stands { standing_of self.new ≡ record (standing_of self.old) { is_put = result } }
         ensures puts { Puts (passes.known_by self.old.pass) node range id result
             (passes.known_by self.new.pass) }
     {

@@ -24,6 +24,7 @@ pub mod laws;
 mod origins;
 mod rights;
 mod seats;
+mod widths;
 
 pub use clients::send_all;
 pub use desks::SwitchDesk;

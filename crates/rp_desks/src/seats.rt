@@ -1,11 +1,13 @@
 //! A client's seat at a switch.
-ghost use Rattle.std.specs.Prelude.{◌≡◌, ◌≤◌};
+ghost use Rattle.std.specs.Prelude.{◌≡◌, ◌≤◌, true};
+ghost use Rattle.rp_switch.specs.Gifts.{tries_known};
 ghost use Rattle.rp_switch.specs.Rules.{clients_of};
 ghost use Rattle.rp_switch.specs.Seats.{terms_of, known_by};
-ghost use Rattle.rp_desks.specs.Onward.{Looks, MayLook, MayAsk, Admits, MayAdmit, Hears, answer_of};
+ghost use Rattle.rp_desks.specs.Onward.{all_named, Looks, MayLook, MayAsk, Admits, MayAdmit, Hears, answer_of};
 ghost use Rattle.rp_desks.specs.Whence.{IsSeated};
 
 use crate::origins::Origin;
+use crate::widths::{id_fits, node_fits, request_fits};
 use rp_base::{CmdId, NoMemory, NodeId, RangeId};
 use rp_bufcore::BufferEnd;
 use rp_clients::{AdmitFault, Answer, Empty};
@@ -25,6 +27,7 @@ pub(crate) struct ClientSeat<'a, E: BufferEnd + Drop, K: Origin> {
     pub(crate) from: PhantomData<K>,
     pub ghost seated: { IsSeated K.from switch.now seat },
     pub ghost client_is: { client ≡ K.from.client },
+    pub ghost named: { all_named (known_by seat).terms.nodes (tries_known (known_by seat) client) ≡ true },
     pub ghost served: { (1 ≤ client) × (client ≤ clients_of (terms_of switch.now)) },
 }
 
@@ -46,6 +49,7 @@ impl<'a, E: BufferEnd + Drop, K: Origin> ClientSeat<'a, E, K> {
         ensures client { self.new.client ≡ self.old.client }
         ensures told { MayLook self.old.client (known_by self.old.seat) node result (known_by self.new.seat) }
     {
+        node_fits(node);
         let Ok(taken) = self.switch.try_take(&mut self.seat, node) else {
             return None;
         };
@@ -75,13 +79,15 @@ impl<'a, E: BufferEnd + Drop, K: Origin> ClientSeat<'a, E, K> {
         node: NodeId,
         range: RangeId,
         id: CmdId,
-        request: Request,
+        request: &Request,
     ) -> Option<Result<(), AdmitFault>>
-        requires node { node ≤ (known_by self.old.seat).terms.nodes }
-        requires may { MayAsk self.old.client (known_by self.old.seat) node range id request }
+        requires { MayAsk self.old.client (known_by self.old.seat) node range id request.now }
         ensures client { self.new.client ≡ self.old.client }
         ensures told { MayAdmit self.old.client (known_by self.old.seat) node range id result (known_by self.new.seat) }
     {
+        node_fits(node);
+        id_fits(id);
+        request_fits(*request);
         let Ok(mut taken) = self.switch.try_take(&mut self.seat, node) else {
             return None;
         };
@@ -89,7 +95,11 @@ impl<'a, E: BufferEnd + Drop, K: Origin> ClientSeat<'a, E, K> {
             self.switch.give(&mut self.seat, taken);
             return None;
         }
-        let answer = taken.node.step(Event::Admit { range, id, request });
+        let answer = taken.node.step(Event::Admit {
+            range,
+            id,
+            request: *request,
+        });
         self.switch.give(&mut self.seat, taken);
         Some(answered(answer))
     }
@@ -101,10 +111,9 @@ impl<'a, E: BufferEnd + Drop, K: Origin> ClientSeat<'a, E, K> {
         node: NodeId,
         range: RangeId,
         id: CmdId,
-        request: Request,
+        request: &Request,
     ) -> Result<(), AdmitFault>
-        requires node { node ≤ (known_by self.old.seat).terms.nodes }
-        requires may { MayAsk self.old.client (known_by self.old.seat) node range id request }
+        requires { MayAsk self.old.client (known_by self.old.seat) node range id request.now }
         ensures client { self.new.client ≡ self.old.client }
         ensures told { Admits self.old.client (known_by self.old.seat) node range id result (known_by self.new.seat) }
     {
