@@ -1,0 +1,9 @@
+mod Onward
+mod Waits
+mod Named
+mod Visits
+mod Admitting
+mod Fetching
+mod Standing
+mod Seated
+mod Trying

@@ -1,0 +1,4 @@
+pub mod Onward
+pub mod Whence
+pub mod Desks
+pub mod Standings
