@@ -1,5 +1,5 @@
 -- What a mail keeps for a node (this project): of each other node the messages that were copied and are not delivered.
-use Rattle.std.specs.Prelude.{◌≡◌, ◌≢◌, ℕ, ◌+◌, ◌-◌, ◌≤◌, List, [], ◌++◌, length, take, drop, slice_get, slice_set, Some, Result, Ok, Err}
+use Rattle.std.specs.Prelude.{◌≡◌, ◌≢◌, ℕ, ◌+◌, ◌-◌, ◌≤◌, List, [], ◌++◌, length, take, drop, slice_get, slice_set, Option, Some, Result, Ok, Err}
 use Rattle.rp_events.specs.Nodes.{Node}
 use Rattle.rp_events.specs.Worlds.{World, node_of}
 use Rattle.rp_race.specs.declared.rules.RaceRules.{RaceRules}
@@ -46,3 +46,15 @@ pub record IsCopiedTo (rules : RaceRules) (from to : ℕ) (m : Node) (old new : 
 abbrev pub IsCopied : RaceRules → (from to : ℕ) → Node → Lane → {A B : Type 0} → Result A B → Lane → Type 0
 IsCopied rules from to m old (Ok done) new = IsCopiedTo rules from to m old new × IsUpToDate m new
 IsCopied rules from to m old (Err fault) new = IsCopiedTo rules from to m old new
+
+-- the letters of a lane are out
+pub record IsEmptiedLane (before after : Lane) : Type 0 where
+  pub copied : after.copied ≡ before.copied
+  pub rounds : after.rounds ≡ before.rounds
+  pub letters : after.letters.list ≡ []
+
+-- those of all other nodes are, of so many nodes
+pub record IsEmptied (nodes : ℕ) (old new : Mail) : Type 0 where
+  pub node : new.node ≡ old.node
+  pub each : (from : ℕ) (before after : Lane) → 1 ≤ from → from ≤ nodes → from ≢ old.node
+      → lane_in old from ≡ Some before → lane_in new from ≡ Some after → IsEmptiedLane before after

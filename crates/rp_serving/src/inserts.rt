@@ -1,4 +1,5 @@
 //! Where a node's lease asks go.
+ghost use Rattle.std.specs.Prelude.{◌<◌};
 ghost use Rattle.rp_buffer.specs.Passes.{IsPassOf};
 
 use rp_base::{Item, NodeId, RangeId};
@@ -31,15 +32,27 @@ impl<'a, R: Wait> SlotInserts<'a, R> {
     }
 }
 
+impl<'a, R: Wait> SlotInserts<'a, R> {
+    /// Tries once: whether the item is put, or there is no room for it.
+    fn is_settled(&mut self, buffer: u8, item: &Item) -> bool
+        requires { buffer < 40 }
+    {
+        match self.table.insert(&mut self.pass, buffer, *item) {
+            Ok(()) | Err(InsertFault::Full { .. }) => true,
+            Err(InsertFault::Raced { .. }) => false,
+        }
+    }
+}
+
 impl<'a, R: Wait> Inserts for SlotInserts<'a, R> {
     /// Tries again where another thread came between.
     fn insert(&mut self, node: NodeId, range: RangeId, item: Item) {
         let buffer = 8 * (node.get() - 1) + range.get();
         for _ in self.rt.forever() {
-            match self.table.insert(&mut self.pass, buffer, item) {
-                Ok(()) | Err(InsertFault::Full { .. }) => return,
-                Err(InsertFault::Raced { .. }) => yield_now(),
+            if self.is_settled(buffer, &item) {
+                return;
             }
+            yield_now();
         }
     }
 }

@@ -16,20 +16,23 @@
 //! applied; and the round ends. It is linear in what it delivers and applies.
 #![tactic(auto)]
 
-mod dues;
-mod ends;
+mod applies;
+mod deliveries;
+mod events;
 mod faults;
+mod flushes;
+mod handovers;
 mod inserts;
 mod lanes;
 mod letters;
 mod mails;
 mod plays;
-mod stations;
-mod workbenches;
+mod ranges;
+mod turns;
 
-pub use ends::Ends;
 pub use faults::BrokenOff;
 pub use inserts::{Inserts, SlotInserts};
+pub use lanes::Lane;
+pub use letters::Letter;
 pub use mails::Mail;
 pub use plays::play;
-pub use workbenches::Workbench;

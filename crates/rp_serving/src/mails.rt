@@ -1,13 +1,14 @@
 //! What is copied for a node, until a round of it delivers it.
 ghost use Rattle.std.specs.Prelude.{◌≡◌, ◌≢◌, ℕ, ◌-◌, ◌≤◌, [], length, slice_get, Some, false};
-ghost use Rattle.rp_events.specs.Nodes.{Node};
+ghost use Rattle.rp_events.specs.Nodes as nodes;
 ghost use Rattle.rp_events.specs.Worlds.{World};
-ghost use Rattle.rp_race.specs.declared.rules.RaceRules.{RaceRules};
+ghost use Rattle.rp_race.specs.declared.rules.RaceRules as race;
 ghost use Rattle.rp_race.specs.Gives.{NoneBehind};
 ghost use Rattle.rp_serving.specs.declared.lanes.Lane.{Lane};
-ghost use Rattle.rp_serving.specs.Mails.{lane_in, IsMailOf, IsWhole, IsCopied};
+ghost use Rattle.rp_serving.specs.Mails.{lane_in, IsMailOf, IsWhole, IsCopied, IsEmptiedLane};
 
 use crate::lanes::Lane;
+use crate::letters::Letter;
 use rp_base::{NoMemory, NodeId};
 use rp_bufcore::BufferEnd;
 use rp_node::Node;
@@ -27,7 +28,7 @@ pub struct Mail {
 impl Mail {
     /// The mail of a node to which nothing has happened. It takes no memory.
     pub fn new(alloc: Global, node: NodeId) -> Mail
-        ensures { (rules : RaceRules) (seen : World) (n : Node) → n.journal ≡ []
+        ensures { (rules : race.RaceRules) (seen : World) (n : nodes.Node) → n.journal ≡ []
             → IsMailOf rules node seen n result }
     {
         Mail {
@@ -65,11 +66,26 @@ impl Mail {
         self.lanes[place].copy(self.alloc, rules, from, self.node, sender)
     }
 
+    /// Takes the letters of a sender out. It takes no memory.
+    pub(crate) fn take_from(&mut self, from: NodeId) -> Vec<Letter>
+        ensures taken { (lane : Lane) × (lane_in self.old from ≡ Some lane)
+            × (result.items ≡ lane.letters.list) }
+        ensures lane { (before : Lane) (after : Lane) → lane_in self.old from ≡ Some before
+            → lane_in self.new from ≡ Some after → IsEmptiedLane before after }
+        ensures others { (k : ℕ) → k ≢ from - 1
+            → slice_get self.new.lanes k ≡ slice_get self.old.lanes k }
+        ensures node { self.new.node ≡ self.old.node }
+        ensures handed { self.new.handed ≡ self.old.handed }
+    {
+        let place = usize::from(from.get()) - 1;
+        self.lanes[place].take(self.alloc)
+    }
+
     /// Whether some other of so many nodes, when it was copied from, had more than two rounds less
     /// than this.
     pub fn is_behind(&self, nodes: u8, rounds: u64) -> bool
         requires { nodes ≤ 5 }
-        ensures { (seen : World) → length seen ≡ nodes → IsWhole self.now.node seen self.now → (n : Node)
+        ensures { (seen : World) → length seen ≡ nodes → IsWhole self.now.node seen self.now → (n : nodes.Node)
             → n.rounds ≡ rounds → result ≡ false → NoneBehind self.now.node seen n }
     {
         for place in 0..nodes {
