@@ -125,7 +125,7 @@ half_own v node place next old mail n now is own owner h = record {
     less far = ⊎_elim (λ (same : from ≡ next). absurd (far same)) (λ (apart : from ≡ next → ⊥). omega (arith, apart, low, is)) (cases_eq from next)
 
 -- there is a node of each number of those that were seen
-there_in : {X : Type 0} (xs : List X) (i : ℕ) → i < length xs → (x : X) × (slice_get xs i ≡ Some x)
+pub there_in : {X : Type 0} (xs : List X) (i : ℕ) → i < length xs → (x : X) × (slice_get xs i ≡ Some x)
 there_in [] i h = absurd (omega (arith, h))
 there_in (x ∷ xs) zero h = (x, refl)
 there_in (x ∷ xs) (suc i) h = there_in xs i (omega (arith, h))

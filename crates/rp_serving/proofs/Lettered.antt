@@ -81,33 +81,86 @@ stands_of rules from to sent l s =
 pub goes_to : (rules : RaceRules) (from to : ℕ) (sent : List (Parcel AppliedState)) (l : Letter) → Stands rules from to 1 sent l → l.parcel.to ≡ to
 goes_to rules from to sent l s = eqb-true l.parcel.to to (and_parts (l.parcel.to == to) (not (is_lost rules.loss rules.salt from l.number)) s.carried).0
 
+-- what is left, beside what is gone
+record Leaves (from : ℕ) (n : Node) (letters all : List Letter) : Type 0 where
+  gone : List Letter
+  are : all ≡ gone ++ letters
+  heard : heard_from from n.journal ≡ numbers gone
+
+numbers_long : (xs : List Letter) → length (numbers xs) ≡ length xs
+numbers_long [] = refl
+numbers_long (x ∷ xs) = ap suc (numbers_long xs)
+
+take_front : (xs ys : List Letter) → take (length xs) (xs ++ ys) ≡ xs
+take_front [] ys = refl
+take_front (x ∷ xs) ys = ap (λ l. x ∷ l) (take_front xs ys)
+
+drop_front : (xs ys : List Letter) → drop (length xs) (xs ++ ys) ≡ ys
+drop_front [] ys = refl
+drop_front (x ∷ xs) ys = drop_front xs ys
+
+take_drop : (k : ℕ) (xs : List Letter) → xs ≡ take k xs ++ drop k xs
+take_drop zero xs = refl
+take_drop (suc k) [] = refl
+take_drop (suc k) (x ∷ xs) = ap (λ l. x ∷ l) (take_drop k xs)
+
+leaves : (from : ℕ) (n : Node) (letters all : List Letter) → AreLeft from n letters all → Leaves from n letters all
+leaves from n letters all a =
+    let k = length (heard_from from n.journal) in
+    record { gone = take k all; are = take_drop k all ∙ ap (λ l. take k all ++ l) (sym a.are); heard = a.heard }
+
+pub are_left : (from : ℕ) (n : Node) (gone letters all : List Letter) → all ≡ gone ++ letters → heard_from from n.journal ≡ numbers gone → AreLeft from n letters all
+are_left from n gone letters all are heard =
+    let long : length (heard_from from n.journal) ≡ length gone = ap length heard ∙ numbers_long gone in
+    record {
+      are = sym (ap (drop (length (heard_from from n.journal))) are ∙ ap (λ k. drop k (gone ++ letters)) long ∙ drop_front gone letters);
+      heard = heard ∙ ap numbers (sym (ap (take (length (heard_from from n.journal))) are ∙ ap (λ k. take k (gone ++ letters)) long ∙ take_front gone letters));
+    }
+
+-- where the next letter stands
+pub left_stands : (rules : RaceRules) (from to : ℕ) (n : Node) (l : Letter) (letters : List Letter) (sent : List (Parcel AppliedState)) → AreLeft from n (l ∷ letters) (letters_of rules from to sent) → Stands rules from to 1 sent l
+left_stands rules from to n l letters sent a =
+    let g : Leaves from n (l ∷ letters) (letters_of rules from to sent) = leaves from n (l ∷ letters) (letters_of rules from to sent) a in
+    stands_in rules from to 1 sent g.gone letters l g.are
+
 -- what is heard of a sender, and what is left: a beginning of all that is carried
 pub left_begins : (rules : RaceRules) (from to : ℕ) (n : Node) (letters : List Letter) (sent : List (Parcel AppliedState)) → AreLeft from n letters (letters_of rules from to sent)
     → Begins (heard_from from n.journal) (carried rules from to sent)
-left_begins rules from to n letters sent a = record {
-  more = numbers letters;
-  is = sym (numbers_are rules from to 1 sent) ∙ ap numbers a.are ∙ numbers_further a.gone letters ∙ ap (λ ks. ks ++ numbers letters) (sym a.heard);
-}
+left_begins rules from to n letters sent a =
+    let g : Leaves from n letters (letters_of rules from to sent) = leaves from n letters (letters_of rules from to sent) a in
+    record {
+      more = numbers letters;
+      is = sym (numbers_are rules from to 1 sent) ∙ ap numbers g.are ∙ numbers_further g.gone letters ∙ ap (λ ks. ks ++ numbers letters) (sym g.heard);
+    }
 
 pub left_next : (rules : RaceRules) (from to : ℕ) (n : Node) (l : Letter) (letters : List Letter) (sent : List (Parcel AppliedState)) → AreLeft from n (l ∷ letters) (letters_of rules from to sent)
     → Begins (heard_from from n.journal ++ l.number ∷ []) (carried rules from to sent)
-left_next rules from to n l letters sent a = record {
-  more = numbers letters;
-  is = sym (numbers_are rules from to 1 sent) ∙ ap numbers a.are ∙ numbers_further a.gone (l ∷ letters) ∙ ap (λ ks. ks ++ l.number ∷ numbers letters) (sym a.heard)
-      ∙ sym (append_assoc (heard_from from n.journal) (l.number ∷ []) (numbers letters));
-}
+left_next rules from to n l letters sent a =
+    let g : Leaves from n (l ∷ letters) (letters_of rules from to sent) = leaves from n (l ∷ letters) (letters_of rules from to sent) a in
+    record {
+      more = numbers letters;
+      is = sym (numbers_are rules from to 1 sent) ∙ ap numbers g.are ∙ numbers_further g.gone (l ∷ letters) ∙ ap (λ ks. ks ++ l.number ∷ numbers letters) (sym g.heard)
+          ∙ sym (append_assoc (heard_from from n.journal) (l.number ∷ []) (numbers letters));
+    }
 
 pub left_after : (from : ℕ) (n later : Node) (l : Letter) (letters all : List Letter) → AreLeft from n (l ∷ letters) all
     → heard_from from later.journal ≡ heard_from from n.journal ++ l.number ∷ [] → AreLeft from later letters all
-left_after from n later l letters all a heard = record {
-  gone = a.gone ++ l ∷ [];
-  are = a.are ∙ sym (append_assoc a.gone (l ∷ []) letters);
-  heard = heard ∙ ap (λ ks. ks ++ l.number ∷ []) a.heard ∙ sym (numbers_further a.gone (l ∷ []));
-}
+left_after from n later l letters all a heard =
+    let g : Leaves from n (l ∷ letters) all = leaves from n (l ∷ letters) all a in
+    are_left from later (g.gone ++ l ∷ []) letters all (g.are ∙ sym (append_assoc g.gone (l ∷ []) letters))
+    (heard ∙ ap (λ ks. ks ++ l.number ∷ []) g.heard ∙ sym (numbers_further g.gone (l ∷ [])))
 
 pub left_none : (rules : RaceRules) (from to : ℕ) (n : Node) (sent : List (Parcel AppliedState)) → AreLeft from n [] (letters_of rules from to sent) → heard_from from n.journal ≡ carried rules from to sent
 left_none rules from to n sent a =
-    a.heard ∙ ap numbers (sym (a.are ∙ append-nil a.gone)) ∙ numbers_are rules from to 1 sent
+    let g : Leaves from n [] (letters_of rules from to sent) = leaves from n [] (letters_of rules from to sent) a in
+    g.heard ∙ ap numbers (sym (g.are ∙ append-nil g.gone)) ∙ numbers_are rules from to 1 sent
 
 pub left_same : (from : ℕ) (n later : Node) (letters all : List Letter) → AreLeft from n letters all → heard_from from later.journal ≡ heard_from from n.journal → AreLeft from later letters all
-left_same from n later letters all a same = record { gone = a.gone; are = a.are; heard = same ∙ a.heard }
+left_same from n later letters all a same =
+    let g : Leaves from n letters all = leaves from n letters all a in
+    are_left from later g.gone letters all g.are (same ∙ g.heard)
+
+-- where all was heard nothing is left
+pub none_left : (rules : RaceRules) (from to : ℕ) (n : Node) (sent : List (Parcel AppliedState)) → heard_from from n.journal ≡ carried rules from to sent → AreLeft from n [] (letters_of rules from to sent)
+none_left rules from to n sent heard =
+    are_left from n (letters_of rules from to sent) [] (letters_of rules from to sent) (sym (append-nil (letters_of rules from to sent))) (heard ∙ sym (numbers_are rules from to 1 sent))

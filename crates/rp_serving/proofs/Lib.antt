@@ -8,3 +8,4 @@ pub mod Stepping
 pub mod Halfway
 pub mod Ranging
 pub mod Copying
+pub mod Rounding

@@ -15,7 +15,7 @@ use Rattle.rp_race.specs.Owed.{heard_from, carried}
 use Rattle.rp_serving.specs.declared.letters.Letter.{Letter}
 use Rattle.rp_serving.specs.Inside.{IsUnderWay, IsNextFrom, MayGoOn, WentOn}
 use Rattle.rp_serving.specs.Letters.{letters_of, AreLeft}
-use Rattle.rp_serving.proofs.Lettered.{Stands, stands_in, stands_of, goes_to, left_next}
+use Rattle.rp_serving.proofs.Lettered.{Stands, left_stands, stands_of, goes_to, left_next}
 use Rattle.rp_serving.proofs.Went.{went_stage, went_heard, went_unheard, went_handed, went_unhanded}
 
 -- a delivery
@@ -23,7 +23,7 @@ pub may_deliver_next : (rules : RaceRules) (nodes node : ℕ) (seen : World) (n 
     → AreLeft from n (l ∷ rest) (letters_of rules from node m.sent) → may_deliver from (stage_of n.journal) ≡ true
     → MayGoOn rules nodes node seen n (events.Deliver from l.parcel.range l.number l.parcel.message)
 may_deliver_next rules nodes node seen n from l rest m saw apart left may =
-    let s : Stands rules from node 1 m.sent l = stands_in rules from node 1 m.sent left.gone rest l left.are in
+    let s : Stands rules from node 1 m.sent l = left_stands rules from node n l rest m.sent left in
     record {
       within = refl;
       may = may;

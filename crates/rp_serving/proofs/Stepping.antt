@@ -137,3 +137,11 @@ hears_again n mid later a b = record { heard = λ k. b.heard k ∙ a.heard k; ha
 
 pub hears_none : (n : Node) → HearsNothing n n
 hears_none n = record { heard = λ k. refl; handed = refl }
+
+module _ (rules : RaceRules) (node : ℕ) (at seen : World) where
+  -- what a collect and a flush tell together
+  pub flush_heard_ok : (r : Result (Unit {0}) BrokenOff) (n mid later : Node) (range : ℕ) → WentOn rules node at seen n (events.Collect range) mid
+      → OnOk r (WentOn rules node at seen mid (events.Flush range) later) → OnOk r (HearsNothing n later)
+  flush_heard_ok (Ok done) n mid later range a b =
+      hears_again n mid later (collected_heard rules node at seen n mid range a) (flushed_heard rules node at seen mid later range b)
+  flush_heard_ok (Err why) n mid later range a b = tt

@@ -24,8 +24,7 @@ letters_of rules from to sent = letters_behind rules from to 1 sent
 abbrev pub numbers : List Letter → List ℕ
 numbers letters = map (λ l. l.number) letters
 
--- what is left to deliver of these to a node: those before it the node has heard
+-- what is left to deliver of these to a node: what is behind those that it has heard
 pub record AreLeft (from : ℕ) (n : Node) (letters all : List Letter) : Type 0 where
-  pub gone : List Letter
-  pub are : all ≡ gone ++ letters
-  pub heard : heard_from from n.journal ≡ numbers gone
+  pub are : letters ≡ drop (length (heard_from from n.journal)) all
+  pub heard : heard_from from n.journal ≡ numbers (take (length (heard_from from n.journal)) all)

@@ -58,6 +58,13 @@ pub record HasFlushed (n : Node) : Type 0 where
   pub stage : stage_of n.journal ≡ flushing ranges
   pub all : all_flushed n ranges ≡ true
 
+-- the round is whole: behind its inside it ended
+pub record PlaysWhole (v : Knowledge) (node : ℕ) (n : Node) : Type 0 where
+  pub inside : Node
+  pub under_way : IsUnderWay v.terms.rules node (taken_from v) v.seen inside
+  pub may_end : MayEnd v.terms.rules node v.seen inside
+  pub leaves : n ≡ after_round inside
+
 module _ {E : Type 0} {g : Ghosts E} where
   -- what its seat knows
   abbrev pub known_of : Turn E g → Knowledge
@@ -82,10 +89,3 @@ module _ {E : Type 0} {g : Ghosts E} where
   -- all of what was sent to the node is heard
   abbrev pub AllHeard : Turn E g → Node → Type 0
   AllHeard t n = HeardAll (known_of t).terms.rules t.node (known_of t).seen n
-
-  -- the round is whole: behind its inside it ended
-  pub record PlaysWhole (t : Turn E g) (n : Node) : Type 0 where
-    pub inside : Node
-    pub under_way : UnderWay t inside
-    pub may_end : MayEnd (known_of t).terms.rules t.node (known_of t).seen inside
-    pub leaves : n ≡ after_round inside

@@ -83,6 +83,7 @@ impl<'a, E: BufferEnd + Drop> Turn<'a, E> {
         ensures stage { OnOk result (may_tick (stage_of node.new.node.journal) ≡ true) }
         ensures handed { OnOk result (handed_over node.new.node.journal ≡ handed_over node.old.node.journal) }
         ensures emptied { OnOk result (IsEmptied self.now.nodes mail.old mail.new) }
+        ensures counted { OnOk result (mail.new.handed ≡ mail.old.handed) }
         ensures under_way { UnderWay self.now node.new.node }
         ensures why { IfErr result (λ why. WhyBroken why node.new.node) }
     {

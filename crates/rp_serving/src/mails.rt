@@ -1,6 +1,6 @@
 //! What is copied for a node, until a round of it delivers it.
 ghost use Rattle.std.specs.Prelude.{◌≡◌, ◌≢◌, ℕ, ◌-◌, ◌≤◌, [], length, slice_get, Some, false};
-ghost use Rattle.rp_events.specs.Nodes as nodes;
+ghost use Rattle.rp_events.specs.Nodes as events;
 ghost use Rattle.rp_events.specs.Worlds.{World};
 ghost use Rattle.rp_race.specs.declared.rules.RaceRules as race;
 ghost use Rattle.rp_race.specs.Gives.{NoneBehind};
@@ -28,7 +28,7 @@ pub struct Mail {
 impl Mail {
     /// The mail of a node to which nothing has happened. It takes no memory.
     pub fn new(alloc: Global, node: NodeId) -> Mail
-        ensures { (rules : race.RaceRules) (seen : World) (n : nodes.Node) → n.journal ≡ []
+        ensures { (rules : race.RaceRules) (seen : World) (n : events.Node) → n.journal ≡ []
             → IsMailOf rules node seen n result }
     {
         Mail {
@@ -66,6 +66,12 @@ impl Mail {
         self.lanes[place].copy(self.alloc, rules, from, self.node, sender)
     }
 
+    /// There is a lane for each of five nodes.
+    pub(crate) fn five(&self)
+        ensures { length self.now.lanes ≡ 5 }
+    {
+    }
+
     /// Takes the letters of a sender out. It takes no memory.
     pub(crate) fn take_from(&mut self, from: NodeId) -> Vec<Letter>
         ensures taken { (lane : Lane) × (lane_in self.old from ≡ Some lane)
@@ -85,7 +91,7 @@ impl Mail {
     /// than this.
     pub fn is_behind(&self, nodes: u8, rounds: u64) -> bool
         requires { nodes ≤ 5 }
-        ensures { (seen : World) → length seen ≡ nodes → IsWhole self.now.node seen self.now → (n : nodes.Node)
+        ensures { (seen : World) → length seen ≡ nodes → IsWhole self.now.node seen self.now → (n : events.Node)
             → n.rounds ≡ rounds → result ≡ false → NoneBehind self.now.node seen n }
     {
         for place in 0..nodes {
