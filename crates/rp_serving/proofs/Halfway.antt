@@ -63,16 +63,19 @@ from_more v node from n now new l left f d u = record {
 some_node : (a b : Node) → ◌≡◌ {A = Option Node} (Some a) (Some b) → a ≡ b
 some_node a b e = cc
 
-pub from_all : (v : Knowledge) (node from : ℕ) (n now : Node) (left : List Letter) → left ≡ [] → FromLeft v node from n now left → DeliversAll v node from n now
-from_all v node from n now left none f = record {
+pub from_all : (v : Knowledge) (node from : ℕ) (n now : Node) (left : List Letter) → length left ≡ 0 → FromLeft v node from n now left → DeliversAll v node from n now
+from_all v node from n now left ended f = record {
   heard = λ m saw.
       let same : f.left_is.m ≡ m = some_node f.left_is.m m (sym f.left_is.saw ∙ saw) in
-      left_none v.terms.rules from node now f.left_is.m.sent (subst (λ l. AreLeft from now l (letters_of v.terms.rules from node f.left_is.m.sent)) none f.left_is.left)
+      left_none v.terms.rules from node now f.left_is.m.sent (subst (λ l. AreLeft from now l (letters_of v.terms.rules from node f.left_is.m.sent)) (nil left ended) f.left_is.left)
       ∙ ap (λ (z : Node). carried v.terms.rules from node z.sent) same;
   others = f.others;
   handed = f.handed;
   stage = f.stage;
-}
+} where
+  nil : (xs : List Letter) → length xs ≡ 0 → xs ≡ []
+  nil [] e = refl
+  nil (x ∷ xs) e = absurd (omega (arith, e))
 
 -- the letters of the senders up to this place are delivered
 pub record Halfway (v : Knowledge) (node place : ℕ) (old mail : Mail) (n now : Node) : Type 0 where

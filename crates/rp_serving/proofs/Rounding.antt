@@ -211,3 +211,19 @@ mail_new mail a b c d e lanes none fa fb fc fd fe rules seen n fresh = record {
       };
   handed = none ∙ sym (ap handed_over fresh);
 }
+
+-- none of the other nodes is more than two rounds behind
+pub none_behind : (mail : Mail) (nodes rounds : ℕ) (seen : World) (n : Node) → length seen ≡ nodes → nodes ≤ 5 → length mail.lanes ≡ 5 → IsWhole mail.node seen mail → n.rounds ≡ rounds
+    → ((k : ℕ) (lane : Lane) → k < nodes → (k + 1 ≡ mail.node → ⊥) → slice_get mail.lanes k ≡ Some lane → rounds ≤ lane.rounds + 2) → NoneBehind mail.node seen n
+none_behind mail nodes rounds seen n size few five whole same each zero m saw ne = absurd cc
+none_behind mail nodes rounds seen n size few five whole same each (suc place) m saw ne =
+    let low = short seen place m saw in
+    let at : suc place - 1 ≡ place = omega arith in
+    let l = there_in mail.lanes place (omega (arith, low, size, few, five)) in
+    let rounds_are = (whole (suc place) m l.0 saw ne (ap (slice_get mail.lanes) at ∙ l.1)).rounds in
+    let one = each place l.0 (omega (arith, low, size)) (λ e. ne (let z : suc place ≡ mail.node = omega (arith, e) in z)) l.1 in
+    omega (arith, one, rounds_are, same) where
+  short : {X : Type 0} (xs : List X) (i : ℕ) (x : X) → slice_get xs i ≡ Some x → i < length xs
+  short [] i x e = absurd cc
+  short (y ∷ xs) zero x e = omega arith
+  short (y ∷ xs) (suc i) x e = let s = short xs i x e in omega (arith, s)

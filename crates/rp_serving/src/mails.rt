@@ -25,6 +25,11 @@ pub struct Mail {
     pub(crate) handed: usize,
 }
 
+/// There is a lane for each of five nodes.
+fn five(lanes: &[Lane; 5])
+    ensures { length lanes.now ≡ 5 }
+{}
+
 impl Mail {
     /// The mail of a node to which nothing has happened. It takes no memory.
     pub fn new(alloc: Global, node: NodeId) -> Mail
@@ -70,6 +75,7 @@ impl Mail {
     pub(crate) fn five(&self)
         ensures { length self.now.lanes ≡ 5 }
     {
+        five(&self.lanes);
     }
 
     /// Takes the letters of a sender out. It takes no memory.
@@ -94,11 +100,10 @@ impl Mail {
         ensures { (seen : World) → length seen ≡ nodes → IsWhole self.now.node seen self.now → (n : events.Node)
             → n.rounds ≡ rounds → result ≡ false → NoneBehind self.now.node seen n }
     {
+        self.five();
         for place in 0..nodes {
-            if place + 1 == self.node.get() {
-                continue;
-            }
-            if self.lanes[usize::from(place)].rounds < rounds.saturating_sub(2) {
+            let is_other = place + 1 != self.node.get();
+            if is_other && self.lanes[usize::from(place)].rounds < rounds.saturating_sub(2) {
                 return true;
             }
         }

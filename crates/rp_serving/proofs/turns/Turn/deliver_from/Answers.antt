@@ -20,7 +20,7 @@ loop-letter-preserved g c =
     from_more _ _ _ _ _ _ _ c.next.new.self.rest.items (from_is _ _ _ _ _ _ _ c.in-Some.ensures.steps.0 c.loop-letter.invariant) c.in_ok-deliver.ensures.ok c.in_ok-deliver.ensures.under_way
 
 pub returns-clause-ok : goal.returns-clause-ok
-returns-clause-ok g c = from_all _ _ _ _ _ c.loop-letter.letter-iterator.rest.items ? c.loop-letter.invariant
+returns-clause-ok g c = from_all _ _ _ _ _ c.loop-letter.letter-iterator.rest.items (search rules) c.loop-letter.invariant
 
 pub returns-clause-under_way : goal.returns-clause-under_way
 returns-clause-under_way g c = c.loop-letter.invariant.under_way
