@@ -124,8 +124,8 @@ half_own v node place next old mail n now is own owner h = record {
       (λ (same : from ≡ node). absurd (ne same))
       (λ (apart : from ≡ node → ⊥). let far : from ≡ next → ⊥ = λ e. apart (e ∙ own) in less far)
       (cases_eq from node) where
-    less : (from ≡ next → ⊥) → from ≤ place
-    less far = ⊎_elim (λ (same : from ≡ next). absurd (far same)) (λ (apart : from ≡ next → ⊥). omega (arith, apart, low, is)) (cases_eq from next)
+        less : (from ≡ next → ⊥) → from ≤ place
+        less far = ⊎_elim (λ (same : from ≡ next). absurd (far same)) (λ (apart : from ≡ next → ⊥). omega (arith, apart, low, is)) (cases_eq from next)
 
 -- there is a node of each number of those that were seen
 pub there_in : {X : Type 0} (xs : List X) (i : ℕ) → i < length xs → (x : X) × (slice_get xs i ≡ Some x)

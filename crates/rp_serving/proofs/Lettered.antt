@@ -57,21 +57,21 @@ stands_in rules from to k [] [] rest l e = absurd cc
 stands_in rules from to k [] (g ∷ gone) rest l e = absurd cc
 stands_in rules from to k (p ∷ ps) gone rest l e =
     go (λ gone' e'. stands_in rules from to (k + 1) ps gone' rest l e') (is_carried rules from to k p) refl gone e where
-  later : Stands rules from to (k + 1) ps l → Stands rules from to k (p ∷ ps) l
-  later s = record { i = suc s.i; here = s.here; number = let z = s.number in omega (arith, z); carried = s.carried }
+      later : Stands rules from to (k + 1) ps l → Stands rules from to k (p ∷ ps) l
+      later s = record { i = suc s.i; here = s.here; number = let z = s.number in omega (arith, z); carried = s.carried }
 
-  go : ((gone : List Letter) → letters_behind rules from to (k + 1) ps ≡ gone ++ l ∷ rest → Stands rules from to (k + 1) ps l) → (b : Bool) → is_carried rules from to k p ≡ b → (gone : List Letter) → cond b (letter_at k p ∷ letters_behind rules from to (k + 1) ps) (letters_behind rules from to (k + 1) ps) ≡ gone ++ l ∷ rest
-      → Stands rules from to k (p ∷ ps) l
-  go further true is [] e' =
-      let same : letter_at k p ≡ l = first_letter (letter_at k p) l (letters_behind rules from to (k + 1) ps) rest e' in
-      record {
-        i = zero;
-        here = ap (λ (z : Letter). Some z.parcel) same;
-        number = ap (λ (z : Letter). z.number) (sym same) ∙ let z : k ≡ k + 0 = omega arith in z;
-        carried = subst (λ (z : Letter). is_carried rules from to z.number z.parcel ≡ true) same is;
-      }
-  go further true is (g ∷ gone) e' = later (further gone (other_letters (letter_at k p) g (letters_behind rules from to (k + 1) ps) (gone ++ l ∷ rest) e'))
-  go further false is gone e' = later (further gone e')
+      go : ((gone : List Letter) → letters_behind rules from to (k + 1) ps ≡ gone ++ l ∷ rest → Stands rules from to (k + 1) ps l) → (b : Bool) → is_carried rules from to k p ≡ b → (gone : List Letter) → cond b (letter_at k p ∷ letters_behind rules from to (k + 1) ps) (letters_behind rules from to (k + 1) ps) ≡ gone ++ l ∷ rest
+          → Stands rules from to k (p ∷ ps) l
+      go further true is [] e' =
+          let same : letter_at k p ≡ l = first_letter (letter_at k p) l (letters_behind rules from to (k + 1) ps) rest e' in
+          record {
+            i = zero;
+            here = ap (λ (z : Letter). Some z.parcel) same;
+            number = ap (λ (z : Letter). z.number) (sym same) ∙ let z : k ≡ k + 0 = omega arith in z;
+            carried = subst (λ (z : Letter). is_carried rules from to z.number z.parcel ≡ true) same is;
+          }
+      go further true is (g ∷ gone) e' = later (further gone (other_letters (letter_at k p) g (letters_behind rules from to (k + 1) ps) (gone ++ l ∷ rest) e'))
+      go further false is gone e' = later (further gone e')
 
 pub stands_of : (rules : RaceRules) (from to : ℕ) (sent : List (Parcel AppliedState)) (l : Letter) → Stands rules from to 1 sent l → parcel_of sent l.number ≡ Some l.parcel
 stands_of rules from to sent l s =

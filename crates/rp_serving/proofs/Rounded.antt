@@ -35,12 +35,12 @@ first_number_in nodes (suc k) place n e =
     go (first_number_in nodes k place n)
     (get_push (map (λ node. first_node node nodes) (nodes_to k)) (first_node (suc k) nodes) place n
     (ap (λ l. slice_get l place) (sym (map-append (λ node. first_node node nodes) (nodes_to k) (suc k ∷ []))) ∙ e)) where
-  go : (slice_get (map (λ node. first_node node nodes) (nodes_to k)) place ≡ Some n → n.node ≡ suc place)
-      → PushCases (map (λ node. first_node node nodes) (nodes_to k)) (first_node (suc k) nodes) place n → n.node ≡ suc place
-  go before (Before is) = before is
-  go before (Last at is) =
-      let long : length (map (λ node. first_node node nodes) (nodes_to k)) ≡ k = length-map (nodes_to k) (λ node. first_node node nodes) ∙ numbers_long k in
-      ap (λ (z : Node). z.node) is ∙ let z : suc k ≡ suc place = omega (arith, at, long) in z
+      go : (slice_get (map (λ node. first_node node nodes) (nodes_to k)) place ≡ Some n → n.node ≡ suc place)
+          → PushCases (map (λ node. first_node node nodes) (nodes_to k)) (first_node (suc k) nodes) place n → n.node ≡ suc place
+      go before (Before is) = before is
+      go before (Last at is) =
+          let long : length (map (λ node. first_node node nodes) (nodes_to k)) ≡ k = length-map (nodes_to k) (λ node. first_node node nodes) ∙ numbers_long k in
+          ap (λ (z : Node). z.node) is ∙ let z : suc k ≡ suc place = omega (arith, at, long) in z
 
 pub first_number : (nodes node : ℕ) (n : Node) → node_of (first_world nodes) node ≡ Some n → n.node ≡ node
 first_number nodes zero n e = absurd cc

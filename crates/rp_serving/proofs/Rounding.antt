@@ -49,13 +49,13 @@ among : (p : Handover → Bool) (nodes : ℕ) (hs : List Handover) → All (λ (
 among p nodes [] all i h e = absurd cc
 among p nodes (x ∷ hs) all i h e =
     go (λ j e'. among p nodes hs (All-tail (λ (z : Handover). z.to ≤ nodes) x hs all) j h e') (p x) i e where
-  some_is : (a b : Handover) → ◌≡◌ {A = Option Handover} (Some a) (Some b) → a ≡ b
-  some_is a b e' = cc
+      some_is : (a b : Handover) → ◌≡◌ {A = Option Handover} (Some a) (Some b) → a ≡ b
+      some_is a b e' = cc
 
-  go : ((j : ℕ) → slice_get (filter p hs) j ≡ Some h → h.to ≤ nodes) → (b : Bool) → (i : ℕ) → slice_get (cond b (x ∷ filter p hs) (filter p hs)) i ≡ Some h → h.to ≤ nodes
-  go further true zero e' = subst (λ (z : Handover). z.to ≤ nodes) (some_is x h e') (All-head (λ (z : Handover). z.to ≤ nodes) x hs all)
-  go further true (suc j) e' = further j e'
-  go further false i e' = further i e'
+      go : ((j : ℕ) → slice_get (filter p hs) j ≡ Some h → h.to ≤ nodes) → (b : Bool) → (i : ℕ) → slice_get (cond b (x ∷ filter p hs) (filter p hs)) i ≡ Some h → h.to ≤ nodes
+      go further true zero e' = subst (λ (z : Handover). z.to ≤ nodes) (some_is x h e') (All-head (λ (z : Handover). z.to ≤ nodes) x hs all)
+      go further true (suc j) e' = further j e'
+      go further false i e' = further i e'
 
 pub hand_within : (rules : RaceRules) (nodes : ℕ) (n : Node) (h : Handover) → HandsWithin nodes rules → due_handover rules n ≡ Some h → h.to ≤ nodes
 hand_within rules nodes n h hands due = go _ due where
@@ -75,10 +75,10 @@ lanes_there rules nodes node seen mail five few (suc place) m saw =
     let at : suc place - 1 ≡ place = omega arith in
     let l = there_in mail.lanes place (omega (arith, low, five, few)) in
     (l.0, ap (slice_get mail.lanes) at ∙ l.1) where
-  short : {X : Type 0} (xs : List X) (i : ℕ) (x : X) → slice_get xs i ≡ Some x → i < length xs
-  short [] i x e = absurd cc
-  short (y ∷ xs) zero x e = omega arith
-  short (y ∷ xs) (suc i) x e = let s = short xs i x e in omega (arith, s)
+      short : {X : Type 0} (xs : List X) (i : ℕ) (x : X) → slice_get xs i ≡ Some x → i < length xs
+      short [] i x e = absurd cc
+      short (y ∷ xs) zero x e = omega arith
+      short (y ∷ xs) (suc i) x e = let s = short xs i x e in omega (arith, s)
 
 pub seen_few : (nodes : ℕ) (at seen : World) → IsReached nodes at → AllSeen nodes seen at → length seen ≤ 5
 seen_few nodes at seen reached all = let few = leb-true nodes 5 reached.few in let size = all.size in omega (arith, few, size)
@@ -223,7 +223,7 @@ none_behind mail nodes rounds seen n size few five whole same each (suc place) m
     let rounds_are = (whole (suc place) m l.0 saw ne (ap (slice_get mail.lanes) at ∙ l.1)).rounds in
     let one = each place l.0 (omega (arith, low, size)) (λ e. ne (let z : suc place ≡ mail.node = omega (arith, e) in z)) l.1 in
     omega (arith, one, rounds_are, same) where
-  short : {X : Type 0} (xs : List X) (i : ℕ) (x : X) → slice_get xs i ≡ Some x → i < length xs
-  short [] i x e = absurd cc
-  short (y ∷ xs) zero x e = omega arith
-  short (y ∷ xs) (suc i) x e = let s = short xs i x e in omega (arith, s)
+      short : {X : Type 0} (xs : List X) (i : ℕ) (x : X) → slice_get xs i ≡ Some x → i < length xs
+      short [] i x e = absurd cc
+      short (y ∷ xs) zero x e = omega arith
+      short (y ∷ xs) (suc i) x e = let s = short xs i x e in omega (arith, s)

@@ -52,9 +52,9 @@ module _ (rules : RaceRules) (node : ℕ) (at seen : World) (n later : Node) whe
       → (k : ℕ) → (k ≡ from → ⊥) → heard_from k later.journal ≡ heard_from k n.journal
   delivered_others from range number message w k ne =
       went_unheard rules node at seen n (events.Deliver from range number message) later w k (unheard (from == k) refl) where
-    unheard : (b : Bool) → (from == k) ≡ b → cond {A = Option ℕ} b (Some number) None ≡ None
-    unheard true is = absurd (ne (sym (eqb-true from k is)))
-    unheard false is = refl
+        unheard : (b : Bool) → (from == k) ≡ b → cond {A = Option ℕ} b (Some number) None ≡ None
+        unheard true is = absurd (ne (sym (eqb-true from k is)))
+        unheard false is = refl
 
   pub delivered_handed : (from range number : ℕ) (message : Message AppliedState) → WentOn rules node at seen n (events.Deliver from range number message) later → handed_over later.journal ≡ handed_over n.journal
   delivered_handed from range number message w = went_unhanded rules node at seen n (events.Deliver from range number message) later w refl

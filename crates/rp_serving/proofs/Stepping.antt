@@ -129,8 +129,8 @@ module _ (rules : RaceRules) (node : ℕ) (at seen : World) where
       let longer : length later.journal ≡ length n.journal + 1 = went_longer rules node at seen n (events.Apply range) later w in
       let low : length n.journal < journal_end = below (length n.journal) w.room in
       omega (arith, longer, low) where
-    below : (k : ℕ) → nat_le journal_end k ≡ false → k < journal_end
-    below k e = leb-false journal_end k e
+        below : (k : ℕ) → nat_le journal_end k ≡ false → k < journal_end
+        below k e = leb-false journal_end k e
 
 pub hears_again : (n mid later : Node) → HearsNothing n mid → HearsNothing mid later → HearsNothing n later
 hears_again n mid later a b = record { heard = λ k. b.heard k ∙ a.heard k; handed = b.handed ∙ a.handed }

@@ -16,12 +16,7 @@ use rp_node::Node;
 
 impl<'a, E: BufferEnd + Drop> Turn<'a, E> {
     /// A message is delivered.
-    fn deliver(
-        &self,
-        node: &mut Node<E>,
-        from: NodeId,
-        letter: Letter,
-    ) -> Result<(), BrokenOff>
+    fn deliver(&self, node: &mut Node<E>, from: NodeId, letter: Letter) -> Result<(), BrokenOff>
         requires has { Has self.now }
         requires under_way { UnderWay self.now node.old.node }
         requires next { IsNextOf (known_of self.now) self.now.node from node.old.node letter }
@@ -69,11 +64,7 @@ impl<'a, E: BufferEnd + Drop> Turn<'a, E> {
     }
 
     /// All of the mail is delivered, by sender and number.
-    pub(crate) fn deliver_all(
-        &self,
-        node: &mut Node<E>,
-        mail: &mut Mail,
-    ) -> Result<(), BrokenOff>
+    pub(crate) fn deliver_all(&self, node: &mut Node<E>, mail: &mut Mail) -> Result<(), BrokenOff>
         requires has { Has self.now }
         requires under_way { UnderWay self.now node.old.node }
         requires mail { IsMailOf (known_of self.now).terms.rules self.now.node (known_of self.now).seen node.old.node mail.old }

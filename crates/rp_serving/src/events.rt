@@ -16,11 +16,7 @@ use rp_snapshot::Snapshot;
 
 impl<'a, E: BufferEnd + Drop> Turn<'a, E> {
     /// The round goes on by an event. Where the node is full or memory is refused nothing happens.
-    fn answer(
-        &self,
-        node: &mut Node<E>,
-        event: Event<Snapshot>,
-    ) -> Result<EventAnswer, BrokenOff>
+    fn answer(&self, node: &mut Node<E>, event: Event<Snapshot>) -> Result<EventAnswer, BrokenOff>
         requires has { Has self.now }
         requires under_way { UnderWay self.now node.old.node }
         requires may { May self.now node.old.node event }
@@ -38,11 +34,7 @@ impl<'a, E: BufferEnd + Drop> Turn<'a, E> {
     }
 
     /// The round goes on by an event whose answer is no matter.
-    pub(crate) fn happen(
-        &self,
-        node: &mut Node<E>,
-        event: Event<Snapshot>,
-    ) -> Result<(), BrokenOff>
+    pub(crate) fn happen(&self, node: &mut Node<E>, event: Event<Snapshot>) -> Result<(), BrokenOff>
         requires has { Has self.now }
         requires under_way { UnderWay self.now node.old.node }
         requires may { May self.now node.old.node event }

@@ -38,11 +38,7 @@ fn is_carried(
 }
 
 /// A copy of a message, with its number.
-fn letter_of(
-    alloc: Global,
-    number: u64,
-    parcel: &Parcel<Snapshot>,
-) -> Result<Letter, NoMemory>
+fn letter_of(alloc: Global, number: u64, parcel: &Parcel<Snapshot>) -> Result<Letter, NoMemory>
     ensures { IfOk result (λ l. (l.number ≡ number) × (l.parcel ≡ parcel.now)) }
 {
     let message = copy_message(alloc, &parcel.message)?;

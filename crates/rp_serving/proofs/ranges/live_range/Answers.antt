@@ -9,11 +9,11 @@ pub loop-number-preserved : goal.loop-number-preserved
 loop-number-preserved g c =
     let at : c.unwrap-range.result ≡ c.loop-number.number = search rules in
     elim c.if-is_live.branch [
-      then-is_live+else-left-eq0 w ↦
+      | then-is_live+else-left-eq0 w ↦
           c.loop-number.invariant
           ∙ place_passed (λ range. is_live (seat c.args.node.now.node range)) c.loop-number.number c.loop-number.left c.if-is_live.left (search rules)
           (ap (λ k. is_live (seat c.args.node.now.node k)) (sym at) ∙ sym c.is_live.ensures ∙ w.if-is_live.true) (search rules)
-    | else-is_live w ↦
+      | else-is_live w ↦
           c.loop-number.invariant
           ∙ place_later (λ range. is_live (seat c.args.node.now.node range)) c.loop-number.number c.loop-number.left (search rules)
           (ap (λ k. is_live (seat c.args.node.now.node k)) (sym at) ∙ sym c.is_live.ensures ∙ w.if-is_live.false)
