@@ -59,12 +59,26 @@ fn is_followed(alloc: Global, rules: &RaceRules, world: &mut World, key: Key) ->
         && !is_whole(world.nodes())
 }
 
+/// Whether it is so by the rules of this script.
+fn is_told(alloc: Global, text: &str, world: &mut World, key: Key) -> bool
+    requires { IsReached (length world.old.world.nodes) world.old.world.nodes }
+{
+    match rules(alloc, text) {
+        Some(rules) => is_followed(alloc, &rules, world, key),
+        None => false,
+    }
+}
+
 #[test]
 fn a_put_is_told(rt: HostRuntime) -> Result<(), Fail> {
-    let alloc = rt.alloc();
-    let rules = rules(alloc, "cluster 1\nsend 1 0 1 put a 5\nend")?;
     let key = key("a")?;
-    let mut world = world_of_one(alloc)?;
-    assert!(rt; is_followed(alloc, &rules, &mut world, key));
+    let mut world = world_of_one(rt.alloc())?;
+    let told = is_told(
+        rt.alloc(),
+        "cluster 1\nsend 1 0 1 put a 5\nend",
+        &mut world,
+        key,
+    );
+    assert!(rt; told);
     Ok(())
 }

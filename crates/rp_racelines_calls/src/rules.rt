@@ -20,9 +20,9 @@ fn deletes(sent: &ClientRequests, first: Key, second: Key) -> bool {
 fn are_sent(sent: &[ClientRequests], first: Key, second: Key) -> bool {
     match sent {
         [a, b, third, d, e, f, last] => {
-            let others = a.requests.len() + b.requests.len();
-            let more = d.requests.len() == 0 && e.requests.len() == 0 && f.requests.len() == 0;
-            others == 0 && more && deletes(third, first, second) && last.requests.len() == 1
+            let first_none = a.requests.len() == 0 && b.requests.len() == 0;
+            let more_none = d.requests.len() == 0 && e.requests.len() == 0 && f.requests.len() == 0;
+            first_none && more_none && deletes(third, first, second) && last.requests.len() == 1
         }
         _ => false,
     }
@@ -44,8 +44,9 @@ fn is_as_written(rules: &RaceRules, first: Key, second: Key) -> bool {
 
 #[test]
 fn clients_keep_their_numbers(rt: HostRuntime) -> Result<(), Fail> {
-    let text = "cluster 5\nsend 1 0 3 del a\nsend 2 0 7 del b\ntransfer 2 0 4\nsend 3 0 3 del c\nend";
-    let rules = rules(rt.alloc(), text)?;
+    let text =
+        "cluster 5\nsend 1 0 3 del a\nsend 2 0 7 del b\ntransfer 2 0 4\nsend 3 0 3 del c\nend";
+    let rules = rules(rt.alloc(), text).ok_or("rules")?;
     let (first, second) = (key("a")?, key("c")?);
     assert!(rt; is_as_written(&rules, first, second));
     Ok(())

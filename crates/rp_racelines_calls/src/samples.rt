@@ -1,5 +1,5 @@
 //! The rules of a script, and a world that plays one put.
-ghost use Rattle.std.specs.Prelude.{◌<◌, ◌^◌, length, IfOk};
+ghost use Rattle.std.specs.Prelude.{◌<◌, ◌≤◌, ◌^◌, length, IfOk, IfSome};
 ghost use Rattle.rp_events.specs.Lawful.{IsReached};
 ghost use Rattle.rp_racelines.specs.Verdicts.{command_count};
 
@@ -8,19 +8,32 @@ use rp_events::WorldEvent;
 use rp_race::RaceRules;
 use rp_racelines::rules_of;
 use rp_request::Request;
-use rp_script::read_lines;
+use rp_script::{NumberedLine, read_lines};
 use rp_world::World;
 use std::alloc::Global;
 use std::test::Fail;
 
-/// The rules of a race's script, with a loss of 5 and a salt of 9.
-#[tactic(auto, using(crate::proofs::Counting::few))]
-pub(crate) fn rules(alloc: Global, text: &str) -> Result<RaceRules, Fail>
-    ensures clients { IfOk result (λ r. length r.requests < 2 ^ 16) }
-    ensures commands { IfOk result (λ r. command_count r < 2 ^ 32) }
+/// The rules of a race's lines, with a loss of 5 and a salt of 9.
+fn rules_in(alloc: Global, lines: &[NumberedLine]) -> Option<RaceRules>
+    requires { length lines.now ≤ 65536 }
+    ensures clients { IfSome result (λ r. length r.requests < 2 ^ 16) }
+    ensures commands { IfSome result (λ r. command_count r < 2 ^ 32) }
 {
-    let lines = read_lines(alloc, true, text.as_bytes()).ok().ok_or("a script")?;
-    Ok(rules_of(alloc, lines.as_slice(), 5, 9)?)
+    match rules_of(alloc, lines, 5, 9) {
+        Ok(rules) => Some(rules),
+        Err(_) => None,
+    }
+}
+
+/// The rules of a race's script.
+pub(crate) fn rules(alloc: Global, text: &str) -> Option<RaceRules>
+    ensures clients { IfSome result (λ r. length r.requests < 2 ^ 16) }
+    ensures commands { IfSome result (λ r. command_count r < 2 ^ 32) }
+{
+    match read_lines(alloc, true, text.as_bytes()) {
+        Ok(lines) => rules_in(alloc, lines.as_slice()),
+        Err(_) => None,
+    }
 }
 
 pub(crate) fn key(text: &str) -> Result<Key, Fail> {
