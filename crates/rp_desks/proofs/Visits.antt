@@ -39,9 +39,9 @@ module _ {E : Type 0} where
     here = taken.2;
     leaves =
         gave t.node.node (
-          ap (λ (k : ℕ). slice_get w.seen (k - 1)) taken.3
-          ∙ ap (λ (u : Knowledge). slice_get u.seen (node - 1)) taken.4
-          ∙ took_it v node taken.0 t.node.node some low taken.1)
+        ap (λ (k : ℕ). slice_get w.seen (k - 1)) taken.3
+        ∙ ap (λ (u : Knowledge). slice_get u.seen (node - 1)) taken.4
+        ∙ took_it v node taken.0 t.node.node some low taken.1)
         ∙ ap (λ (k : ℕ). giving (k - 1) t.node.node after w) taken.3
         ∙ ap (λ (u : Knowledge). giving (node - 1) t.node.node after u) taken.4;
   }
@@ -84,7 +84,7 @@ rounds_on v at place before after now low here more q = ⊎_elim
     (λ (same : q ≡ place).
     let was = seen_some v at place before (slice_get v.seen q) now here (ap (slice_get v.seen) (sym same)) in
     let is = ap (λ k. option_map_or (λ (n : Node). n.rounds) (slice_get (slice_set (slice_set v.seen place before) place after) k) 0) same
-        ∙ given_rounds v at place before after now.past.size low in
+    ∙ given_rounds v at place before after now.past.size low in
     omega (arith, was, more, is))
     (λ (away : q ≡ place → ⊥).
     let is = ap (λ o. option_map_or (λ (n : Node). n.rounds) o 0) (set_other (slice_set v.seen place before) place q after away ∙ set_other v.seen place q before away) in

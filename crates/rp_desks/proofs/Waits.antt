@@ -92,7 +92,7 @@ pub waited_is : (rounds : ℕ) (w : World) → is_waited_out rounds w ≡ true �
 waited_is rounds w e =
     let all = left_true {X = Node} (λ n. true) (list_all (λ (n : Node). nat_le rounds n.rounds) w) (list_any (λ (n : Node). nat_le rounds n.waited) w) e in
     let any = any_is (λ (n : Node). nat_le rounds n.waited) w
-        (right_true {X = Node} (λ n. true) (list_all (λ (n : Node). nat_le rounds n.rounds) w) (list_any (λ (n : Node). nat_le rounds n.waited) w) e) in
+    (right_true {X = Node} (λ n. true) (list_all (λ (n : Node). nat_le rounds n.rounds) w) (list_any (λ (n : Node). nat_le rounds n.waited) w) e) in
     record {
       each = λ node n has. let there = node_at w node n has in leb-true rounds n.rounds (all_is (λ (n : Node). nat_le rounds n.rounds) w all there.0 n there.1);
       node = suc any.place;

@@ -70,7 +70,16 @@ fn send_all_at<'a, K: Origin, R: Wait, E: BufferEnd + Drop, G: Gate>(
         is_short: false,
         is_put: false,
     };
-    let finals = drive(rt, alloc, &mut desk, gate, nodes, client, requests, shared.capacity);
+    let finals = drive(
+        rt,
+        alloc,
+        &mut desk,
+        gate,
+        nodes,
+        client,
+        requests,
+        shared.capacity,
+    );
     let SwitchDesk {
         seat: ClientSeat { seat, .. },
         pass,

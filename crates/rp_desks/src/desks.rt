@@ -72,9 +72,7 @@ impl<'a, R: Wait, E: BufferEnd + Drop, K: Origin> Desk for SwitchDesk<'a, R, E, 
             (passes.known_by self.new.pass) }
     {
         let buffer = 8 * (node.get() - 1) + range.get();
-        let inserted = self
-            .buffers
-            .insert(&mut self.pass, buffer, Item::Write(id));
+        let inserted = self.buffers.insert(&mut self.pass, buffer, Item::Write(id));
         self.is_put = inserted.is_ok();
         self.is_put
     }

@@ -7,3 +7,4 @@ pub mod Collecting
 pub mod Coming
 pub mod Ticking
 pub mod Happening
+pub mod Briefly

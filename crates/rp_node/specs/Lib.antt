@@ -6,3 +6,4 @@ pub mod Waits
 pub mod Several
 pub mod Ticks
 pub mod Asked
+pub mod Briefs

@@ -56,6 +56,7 @@ fn ask<B: BufferEnd>(
 impl Core {
     /// What the range's buffer gives joins its replica's inbox; without a live replica nothing is
     /// asked of it. At want of memory nothing happens, and nothing was asked.
+    #[inline(never)]
     pub(crate) fn collect<B: BufferEnd>(
         &mut self,
         end: &mut B,

@@ -81,6 +81,7 @@ impl Core {
 
     /// The event is planned at the range's replica, where there is one, with room made for all that
     /// it takes. It leaves all that contracts see, room aside.
+    #[inline(never)]
     pub(crate) fn prepare(
         &mut self,
         range: RangeId,
@@ -102,6 +103,7 @@ impl Core {
 
     /// The right range's replica starts at a node that has neither a replica nor a tombstone of it.
     /// It takes no memory.
+    #[cold]
     fn open(&mut self, right: RightStart)
         requires { self.old.nodes ≤ 5 }
         ensures node { node_of self.new ≡ opened (node_of self.old) (Some right) }
@@ -119,6 +121,7 @@ impl Core {
 
     /// What was planned at the range's replica is done, and the right range that it starts is
     /// opened. It takes no memory.
+    #[inline(never)]
     pub(crate) fn turn(&mut self, range: RangeId, plan: Option<ReplicaPlan>) -> EventAnswer
         requires nodes { self.old.nodes ≤ 5 }
         requires ready { TurnReady (seat_in self.old.seats range) plan

@@ -69,6 +69,7 @@ impl Core {
     }
 
     /// A message comes where the node has nothing of the range. It takes no memory.
+    #[cold]
     fn receive_absent(&mut self, from: NodeId, range: RangeId, message: Message<Snapshot>)
         requires nodes { self.old.nodes ≤ 5 }
         requires fits { MessageFits message }
@@ -107,6 +108,7 @@ impl Core {
     }
 
     /// The message that the sender sent under this number comes. At want of memory nothing happens.
+    #[inline(never)]
     pub(crate) fn deliver(
         &mut self,
         from: NodeId,

@@ -3,10 +3,11 @@ ghost use Rattle.std.specs.Prelude.{◌≡◌, IfOk, OnErr};
 ghost use Rattle.rp_events.specs.MaySteps.{MayStep};
 ghost use Rattle.rp_node.specs.Steps.{Steps};
 
+use crate::briefs::Brief;
 use crate::nodes::Node;
 use rp_base::NoMemory;
 use rp_bufcore::BufferEnd;
-use rp_events::{Event, EventAnswer, PastEvent as Past, ReplicaEvent as Turn};
+use rp_events::{Event, EventAnswer};
 use rp_snapshot::Snapshot;
 
 impl<B: BufferEnd + Drop> Node<B> {
@@ -21,12 +22,10 @@ impl<B: BufferEnd + Drop> Node<B> {
         let core = &mut self.core;
         match event {
             Event::Admit { range, id, request } => core.admit(range, id, &request),
-            Event::Ask { range } => core.happen(range, Turn::Ask, Past::Ask { range }),
-            Event::Transfer { range, to } => {
-                core.happen(range, Turn::Transfer { to }, Past::Transfer { range, to })
-            }
+            Event::Ask { range } => core.happen_briefly(range, Brief::Ask),
+            Event::Transfer { range, to } => core.happen_briefly(range, Brief::Transfer { to }),
             Event::Collect { range } => core.collect(&mut self.end, range),
-            Event::Flush { range } => core.happen(range, Turn::Flush, Past::Flush { range }),
+            Event::Flush { range } => core.happen_briefly(range, Brief::Flush),
             Event::Tick => core.tick(),
             Event::Deliver {
                 from,
@@ -34,12 +33,10 @@ impl<B: BufferEnd + Drop> Node<B> {
                 number,
                 message,
             } => core.deliver(from, range, number, message),
-            Event::Apply { range } => core.happen(range, Turn::Apply, Past::Apply { range }),
-            Event::Cut { range } => core.happen(range, Turn::Cut, Past::Cut { range }),
+            Event::Apply { range } => core.happen_briefly(range, Brief::Apply),
+            Event::Cut { range } => core.happen_briefly(range, Brief::Cut),
             Event::Remove { range } => core.remove(range),
-            Event::Peek { range, key } => {
-                core.happen(range, Turn::Peek { key }, Past::Peek { range, key })
-            }
+            Event::Peek { range, key } => core.happen_briefly(range, Brief::Peek { key }),
             Event::Restart => core.restart(),
             Event::Round => core.round().map(|()| EventAnswer::Done),
         }

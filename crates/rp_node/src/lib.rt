@@ -28,6 +28,7 @@
 //! Sent list, journal and outcomes only grow. A node that is full (`is_full`) takes no event more.
 #![tactic(auto)]
 
+mod briefs;
 mod collects;
 mod cores;
 mod deliveries;

@@ -36,6 +36,7 @@ fn longest_wait(seats: &[Seat], rounds: u64) -> u64
 
 impl Core {
     /// A round ends. At want of memory nothing happens.
+    #[inline(never)]
     pub(crate) fn round(&mut self) -> Result<(), NoMemory>
         requires { self.old.rounds + 1 < 2 ^ 64 }
         ensures ok { OnOk result (answered (node_of self.new) answers.Done

@@ -37,6 +37,7 @@ impl Core {
 
     /// A client's attempt asks to be admitted; its request is kept. At want of memory nothing
     /// happens.
+    #[inline(never)]
     pub(crate) fn admit(
         &mut self,
         range: RangeId,
@@ -66,6 +67,7 @@ impl Core {
     }
 
     /// The range's replica is taken down, and leaves a tombstone. At want of memory nothing happens.
+    #[cold]
     pub(crate) fn remove(&mut self, range: RangeId) -> Result<EventAnswer, NoMemory>
         requires nodes { self.old.nodes ≤ 5 }
         ensures ok { IfOk result (λ answer. answered (node_of self.new) answer
@@ -80,6 +82,7 @@ impl Core {
     }
 
     /// A replica becomes a tombstone. It takes no memory.
+    #[cold]
     fn take_down(&mut self, range: RangeId)
         ensures node { node_of self.new ≡ taken_down_in (node_of self.old) range }
         ensures logs { self.new.logs ≡ self.old.logs }

@@ -51,7 +51,7 @@ fn plan_all(
     ensures seats { map status_of seats.new ≡ map status_of seats.old }
     ensures plans { IfOk result (λ plans. AllReady seats.new (event_of happens) ticks rounds plans.items) }
 {
-    let mut plans = Vec::new(alloc);
+    let mut plans = Vec::with_capacity(alloc, seats.len())?;
     for seat in seats {
         let plan = seat.plan(happens.event(), ticks, rounds)?;
         plans.push(plan)?;
@@ -126,6 +126,7 @@ impl Core {
     }
 
     /// Time goes on by one tick in all ranges. At want of memory nothing happens.
+    #[inline(never)]
     pub(crate) fn tick(&mut self) -> Result<EventAnswer, NoMemory>
         requires nodes { self.old.nodes ≤ 5 }
         requires allowed { MayTick (node_of self.old) }
@@ -138,6 +139,7 @@ impl Core {
     }
 
     /// The node starts again with what it keeps. At want of memory nothing happens.
+    #[cold]
     pub(crate) fn restart(&mut self) -> Result<EventAnswer, NoMemory>
         requires { self.old.nodes ≤ 5 }
         ensures ok { IfOk result (λ answer. answered (node_of self.new) answer ≡ written past.Restart

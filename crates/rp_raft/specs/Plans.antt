@@ -90,6 +90,10 @@ with_head st head = record { head = head; log = st.log }
 abbrev pub CanHold : LogState → List Entry → Type 0
 CanHold log added = 0 < length added → last_index log + length added < 2 ^ 64
 
+-- the head with another commit index
+abbrev pub with_commit : Head → ℕ → Head
+with_commit head commit = record head { commit = commit }
+
 -- a leader's state with these entries behind its log
 abbrev pub ahead : Head → LogState → List Entry → RaftState
 ahead head log added = record { head = head; log = appended log added }
@@ -102,18 +106,13 @@ at_least index indexes = count_by (λ known. nat_le index known) indexes
 abbrev pub leads_to : Head → LogState → LogEdit → RaftState
 leads_to head log edit = record { head = head; log = edited log edit }
 
--- a draft that sends nothing, and one that sends one message
+-- a draft that sends nothing
 abbrev pub quiet_draft : {S : Type 0} → Head → RaftDraft S
 quiet_draft head = record { head = head; edit = Stays; messages = []; due = Nobody; taken = None }
 
-abbrev pub answered_draft : {S : Type 0} → Head → ℕ → Message S → RaftDraft S
-answered_draft head to message = record {
-  head = head;
-  edit = Stays;
-  messages = (to, message) ∷ [];
-  due = Nobody;
-  taken = None;
-}
+-- the draft with a message more
+abbrev pub with_message : {S : Type 0} → RaftDraft S → ℕ → Message S → RaftDraft S
+with_message d to message = record d { messages = d.messages ++ (to, message) ∷ [] }
 
 -- what a draft means over the log that it was made of
 abbrev pub draft_of : {S : Type 0} → LogState → RaftDraft S → Draft S
@@ -123,6 +122,14 @@ draft_of log d = record {
   due = d.due;
   taken = d.taken;
 }
+
+-- a draft that an event begins with: beside its head it holds nothing yet
+pub record IsBegun {S : Type 0} (st : RaftState) (d : RaftDraft S) : Type 0 where
+  pub edit : d.edit ≡ Stays
+  pub messages : d.messages ≡ []
+  pub due : d.due ≡ Nobody
+  pub taken : d.taken ≡ None
+  pub sound : IsSound (with_head st d.head)
 
 pub record DraftFits {S : Type 0} (log : LogState) (d : RaftDraft S) : Type 0 where
   pub whole : IsNoCut d.edit
@@ -144,9 +151,16 @@ drafted_by st p = record {
   taken = p.draft.taken;
 }
 
+-- the plan that an event begins with: all is as in this state
+pub record BeginsAt {S : Type 0} (st : RaftState) (p : RaftPlan S) : Type 0 where
+  pub begun : IsBegun st p.draft
+  pub head : p.draft.head ≡ st.head
+  pub commit : p.commit ≡ st.head.commit
+  pub replies : p.replies ≡ 0
+
 -- the head that the planned event leaves, what it sends, and what it takes in
 abbrev pub head_after : {S : Type 0} → RaftPlan S → Head
-head_after p = p.after
+head_after p = with_commit p.draft.head p.commit
 
 abbrev pub sends_of : {S : Type 0} → RaftPlan S → List (ℕ × Message S)
 sends_of p = p.draft.messages
@@ -168,7 +182,7 @@ done_by st p = record {
 -- the plan was made in this state
 pub record IsMadeIn {S : Type 0} (st : RaftState) (p : RaftPlan S) : Type 0 where
   pub edit : EditFits st.log p.draft.edit
-  pub sound : IsSound (leads_to p.after st.log p.draft.edit)
+  pub sound : IsSound (leads_to (head_after p) st.log p.draft.edit)
   pub draft : IsSound (leads_to p.draft.head st.log p.draft.edit)
   pub sendable : IsSendable p.draft.edit p.draft.head p.draft.due
   pub replies : p.replies ≤ length p.draft.messages

@@ -1,9 +1,9 @@
 //! How a leader's commit index moves on (Raft 2014, sections 5.3 and 5.4.2).
 
-ghost use Rattle.std.specs.Prelude.{◌≡◌, ◌<◌, ◌≤◌, ℕ, false, length, max, take};
+ghost use Rattle.std.specs.Prelude.{◌≡◌, ◌<◌, ◌≤◌, ℕ, false, true, length, max, take};
 ghost use Rattle.rp_raftstep.specs.RaftState.{is_majority, with_node};
 ghost use Rattle.rp_raftstep.specs.Step.{advanced, committable, is_committable, matched_by};
-ghost use Rattle.rp_raft.specs.Plans.{CanHold, ahead, at_least};
+ghost use Rattle.rp_raft.specs.Plans.{CanHold, ahead, at_least, with_commit};
 
 use crate::ahead::{last_in, term_in};
 use crate::heads::{is_majority, place};
@@ -25,20 +25,30 @@ fn is_on_majority(head: &Head, matched: &[u64], index: u64) -> bool
     ensures { result ≡ is_majority head.now (at_least index matched.now) }
 {
     let count = matched.iter().filter(|known| index <= **known).count();
-    is_majority(*head, count)
+    is_majority(head, count)
 }
 
-/// The greatest index that a majority has.
+/// The reach with one index of the table more.
+fn reach_with(head: &Head, matched: &[u64], reach: u64, known: u64) -> u64
+    requires { length matched.now ≤ 5 }
+    ensures more { reach ≤ result }
+    ensures known { is_majority head.now (at_least known matched.now) ≡ true → known ≤ result }
+{
+    if reach < known && is_on_majority(head, matched, known) {
+        return known;
+    }
+    reach
+}
+
+/// The greatest index that a majority has, or the commit index where that is greater.
 fn reach(head: &Head, matched: &[u64]) -> u64
     requires { length matched.now ≤ 5 }
     ensures { (index : ℕ) → result < index
         → is_majority head.now (at_least index matched.now) ≡ false }
 {
-    let mut reach: u64 = 0;
+    let mut reach = head.commit;
     for known in matched {
-        if is_on_majority(head, matched, *known) {
-            reach = reach.max(*known);
-        }
+        reach = reach_with(head, matched, reach, *known);
     }
     reach
 }
@@ -73,17 +83,15 @@ fn committed(head: &Head, log: &Log, added: &[Entry]) -> u64
     head.commit
 }
 
-/// At the end of an event a leader moves its commit index on.
-pub(crate) fn advanced(head: Head, log: &Log, added: &[Entry]) -> Head
-    requires nodes { head.nodes ≤ 5 }
+/// The commit index at the end of an event: a leader's moves on.
+pub(crate) fn commit_after(head: &Head, log: &Log, added: &[Entry]) -> u64
+    requires nodes { head.now.nodes ≤ 5 }
     requires hold { CanHold log.now.log added.now }
-    ensures same { result ≡ record head { commit = result.commit } }
-    ensures state { ahead result log.now.log added.now
-        ≡ advanced (ahead head log.now.log added.now) }
+    ensures { ahead (with_commit head.now result) log.now.log added.now
+        ≡ advanced (ahead head.now log.now.log added.now) }
 {
     if head.role != Role::Leader {
-        return head;
+        return head.commit;
     }
-    let commit = committed(&head, log, added);
-    Head { commit, ..head }
+    committed(head, log, added)
 }

@@ -1,8 +1,8 @@
 //! The simplest drafts, of which the others are made.
 
-ghost use Rattle.std.specs.Prelude.{◌≡◌, [], ◌∷◌, None, IfOk};
+ghost use Rattle.std.specs.Prelude.{◌≡◌, [], ◌∷◌, IfOk, OnOk};
 ghost use Rattle.rp_raftstep.specs.Step.{nothing};
-ghost use Rattle.rp_raft.specs.Plans.{quiet_draft, answered_draft};
+ghost use Rattle.rp_raft.specs.Plans.{quiet_draft, with_message};
 
 use crate::plans::{LogEdit, RaftDraft};
 use rp_base::{Bytes, NoMemory, NodeId, Seq};
@@ -11,11 +11,11 @@ use rp_raftstep::{Due, Head, Message};
 use std::alloc::Global;
 
 /// Nothing is sent. It takes no memory.
-pub(crate) fn quiet<S>(alloc: Global, head: Head) -> RaftDraft<S>
-    ensures { result ≡ quiet_draft head }
+pub(crate) fn quiet<S>(alloc: Global, head: &Head) -> RaftDraft<S>
+    ensures { result ≡ quiet_draft head.now }
 {
     RaftDraft {
-        head,
+        head: *head,
         edit: LogEdit::Stays,
         messages: Seq::new(alloc),
         due: Due::Nobody,
@@ -23,21 +23,15 @@ pub(crate) fn quiet<S>(alloc: Global, head: Head) -> RaftDraft<S>
     }
 }
 
-/// One message is sent.
-pub(crate) fn answered<S: Drop>(
-    alloc: Global,
-    head: Head,
+/// One message more is sent.
+pub(crate) fn answer<S: Drop>(
+    draft: &mut RaftDraft<S>,
     to: NodeId,
     message: Message<S>,
-) -> Result<RaftDraft<S>, NoMemory>
-    ensures { IfOk result (λ d. d ≡ answered_draft head to message) }
+) -> Result<(), NoMemory>
+    ensures { OnOk result (draft.new ≡ with_message draft.old to message) }
 {
-    let mut messages = Seq::new(alloc);
-    messages.push((to, message))?;
-    Ok(RaftDraft {
-        messages,
-        ..quiet(alloc, head)
-    })
+    draft.messages.push((to, message))
 }
 
 /// One entry.

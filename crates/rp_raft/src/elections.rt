@@ -5,11 +5,10 @@ ghost use Rattle.rp_raftlog.specs.LogState.{last_index, last_term};
 ghost use Rattle.rp_raftstep.specs.RaftState.{nodes_to};
 ghost use Rattle.rp_raftstep.specs.Conditions.{CanRise};
 ghost use Rattle.rp_raftstep.specs.Step.{elected, is_up_to_date, on_vote, on_vote_reply, requests, stand, tick, tick_leading};
-ghost use Rattle.rp_raft.specs.Held.{IsSound};
-ghost use Rattle.rp_raft.specs.Plans.{Drafts, with_head};
+ghost use Rattle.rp_raft.specs.Plans.{Drafts, IsBegun, with_head};
 
-use crate::drafts::{answered, nothing, one_entry, quiet};
-use crate::heads::{candidate, is_elected, may_vote, patience, place};
+use crate::drafts::{answer, nothing, one_entry};
+use crate::heads::{is_elected, may_vote, patience, place, stand};
 use crate::plans::{LogEdit, Messages, RaftDraft};
 use crate::rafts::Raft;
 use rp_base::{NoMemory, NodeId, Seq};
@@ -45,37 +44,34 @@ pub(crate) fn others(alloc: Global, own: NodeId, nodes: u8) -> Result<Seq<NodeId
 
 impl<S: Drop> Raft<S> {
     /// A candidate leads where a majority has voted, and appends an entry Nothing.
-    fn elected(&self, head: Head) -> Result<RaftDraft<S>, NoMemory>
-        requires sound { IsSound (with_head self.now.raft head) }
+    #[cold]
+    #[inline(never)]
+    fn elect(&self, draft: &mut RaftDraft<S>) -> Result<(), NoMemory>
+        requires begun { IsBegun self.now.raft draft.old }
         requires last { last_index self.now.raft.log + 1 < 2 ^ 64 }
-        ensures { IfOk result (λ d. Drafts self.now.raft.log d
-            (elected (with_head self.now.raft head))) }
+        ensures { OnOk result (Drafts self.now.raft.log draft.new
+            (elected (with_head self.now.raft draft.old.head))) }
     {
-        if !is_elected(head) {
-            return Ok(quiet(self.alloc, head));
+        if !is_elected(&draft.head) {
+            return Ok(());
         }
         let next = self.log.last().0 + 1;
-        let head = Head {
-            role: Role::Leader,
-            leader: Some(head.node),
-            next: [next; 5],
-            matched: [0; 5],
-            silent: 0,
-            beat: 0,
-            ..head
-        };
-        let entries = one_entry(self.alloc, head.term, nothing(self.alloc)?)?;
-        Ok(RaftDraft {
-            edit: LogEdit::Appends { entries },
-            due: Due::Everyone,
-            ..quiet(self.alloc, head)
-        })
+        let entries = one_entry(self.alloc, draft.head.term, nothing(self.alloc)?)?;
+        draft.head.role = Role::Leader;
+        draft.head.leader = Some(draft.head.node);
+        draft.head.next = [next; 5];
+        draft.head.matched = [0; 5];
+        draft.head.silent = 0;
+        draft.head.beat = 0;
+        draft.edit = LogEdit::Appends { entries };
+        draft.due = Due::Everyone;
+        Ok(())
     }
 
     /// The requests for votes, to all others.
-    fn requests(&self, head: Head) -> Result<Messages<S>, NoMemory>
-        requires { head.nodes ≤ 5 }
-        ensures { IfOk result (λ sent. sent ≡ requests (with_head self.now.raft head)) }
+    fn requests(&self, head: &Head) -> Result<Messages<S>, NoMemory>
+        requires { head.now.nodes ≤ 5 }
+        ensures { IfOk result (λ sent. sent ≡ requests (with_head self.now.raft head.now)) }
     {
         let (last_index, last_term) = self.log.last();
         let term = head.term;
@@ -94,58 +90,52 @@ impl<S: Drop> Raft<S> {
     }
 
     /// A node stands for election. Its own vote may be a majority.
-    fn stand(&self) -> Result<RaftDraft<S>, NoMemory>
-        requires { CanRise self.now.raft }
-        ensures { IfOk result (λ d. Drafts self.now.raft.log d (stand self.now.raft)) }
+    #[cold]
+    #[inline(never)]
+    fn stand(&self, draft: &mut RaftDraft<S>) -> Result<(), NoMemory>
+        requires begun { IsBegun self.now.raft draft.old }
+        requires rise { CanRise (with_head self.now.raft draft.old.head) }
+        ensures { OnOk result (Drafts self.now.raft.log draft.new
+            (stand (with_head self.now.raft draft.old.head))) }
     {
-        let head = candidate(self.head);
-        let messages = self.requests(head)?;
-        Ok(RaftDraft {
-            messages,
-            ..self.elected(head)?
-        })
+        stand(&mut draft.head);
+        let messages = self.requests(&draft.head)?;
+        self.elect(draft)?;
+        draft.messages = messages;
+        Ok(())
     }
 
     /// Tick, as leader.
-    fn tick_leading(&self) -> RaftDraft<S>
-        ensures { Drafts self.now.raft.log result (tick_leading self.now.raft) }
+    fn tick_leading(&self, draft: &mut RaftDraft<S>)
+        requires { IsBegun self.now.raft draft.old }
+        ensures { Drafts self.now.raft.log draft.new
+            (tick_leading (with_head self.now.raft draft.old.head)) }
     {
-        let beat = self.head.beat + 1;
-        if beat == 2 {
-            return RaftDraft {
-                due: Due::Everyone,
-                ..quiet(
-                    self.alloc,
-                    Head {
-                        beat: 0,
-                        ..self.head
-                    },
-                )
-            };
+        draft.head.beat += 1;
+        if draft.head.beat == 2 {
+            draft.head.beat = 0;
+            draft.due = Due::Everyone;
         }
-        quiet(self.alloc, Head { beat, ..self.head })
     }
 
     /// Tick.
-    pub(crate) fn plan_tick(&self) -> Result<RaftDraft<S>, NoMemory>
-        requires { CanRise self.now.raft }
-        ensures { IfOk result (λ d. Drafts self.now.raft.log d (tick self.now.raft)) }
+    pub(crate) fn plan_tick(&self, draft: &mut RaftDraft<S>) -> Result<(), NoMemory>
+        requires begun { IsBegun self.now.raft draft.old }
+        requires rise { CanRise (with_head self.now.raft draft.old.head) }
+        ensures { OnOk result (Drafts self.now.raft.log draft.new
+            (tick (with_head self.now.raft draft.old.head))) }
     {
-        if self.head.role == Role::Leader {
-            return Ok(self.tick_leading());
+        if draft.head.role == Role::Leader {
+            self.tick_leading(draft);
+            return Ok(());
         }
-        let most = patience(self.head.node);
-        let silent = self.head.silent + 1;
+        let most = patience(draft.head.node);
+        let silent = draft.head.silent + 1;
         if silent == most {
-            return self.stand();
+            return self.stand(draft);
         }
-        Ok(quiet(
-            self.alloc,
-            Head {
-                silent,
-                ..self.head
-            },
-        ))
+        draft.head.silent = silent;
+        Ok(())
     }
 
     /// Whether a log that ends so is at least as up to date as the replica's own.
@@ -157,55 +147,54 @@ impl<S: Drop> Raft<S> {
     }
 
     /// `Vote`.
+    #[cold]
+    #[inline(never)]
     pub(crate) fn plan_vote(
         &self,
-        head: Head,
+        draft: &mut RaftDraft<S>,
         from: NodeId,
         term: u64,
         index: u64,
         index_term: u64,
-    ) -> Result<RaftDraft<S>, NoMemory>
-        requires { IsSound (with_head self.now.raft head) }
-        ensures { IfOk result (λ d. Drafts self.now.raft.log d
-            (on_vote (with_head self.now.raft head) from term index index_term)) }
+    ) -> Result<(), NoMemory>
+        requires { IsBegun self.now.raft draft.old }
+        ensures { OnOk result (Drafts self.now.raft.log draft.new
+            (on_vote (with_head self.now.raft draft.old.head) from term index index_term)) }
     {
-        let is_free = may_vote(&head, from);
+        let is_free = may_vote(&draft.head, from);
         let is_recent = self.is_up_to_date(index, index_term);
-        let present = head.term;
+        let present = draft.head.term;
         let granted = term == present && is_free && is_recent;
+        if granted {
+            draft.head.vote = Some(from);
+            draft.head.silent = 0;
+        }
         let message = Message::VoteReply {
             term: present,
             granted,
         };
-        if !granted {
-            return answered(self.alloc, head, from, message);
-        }
-        let head = Head {
-            vote: Some(from),
-            silent: 0,
-            ..head
-        };
-        answered(self.alloc, head, from, message)
+        answer(draft, from, message)
     }
 
     /// `VoteReply`.
+    #[cold]
+    #[inline(never)]
     pub(crate) fn plan_vote_reply(
         &self,
-        head: Head,
+        draft: &mut RaftDraft<S>,
         from: NodeId,
         term: u64,
         granted: bool,
-    ) -> Result<RaftDraft<S>, NoMemory>
-        requires sound { IsSound (with_head self.now.raft head) }
+    ) -> Result<(), NoMemory>
+        requires begun { IsBegun self.now.raft draft.old }
         requires last { last_index self.now.raft.log + 1 < 2 ^ 64 }
-        ensures { IfOk result (λ d. Drafts self.now.raft.log d
-            (on_vote_reply (with_head self.now.raft head) from term granted)) }
+        ensures { OnOk result (Drafts self.now.raft.log draft.new
+            (on_vote_reply (with_head self.now.raft draft.old.head) from term granted)) }
     {
-        if granted && term == head.term && head.role == Role::Candidate {
-            let mut votes = head.votes;
-            votes[place(from)] = true;
-            return self.elected(Head { votes, ..head });
+        if granted && term == draft.head.term && draft.head.role == Role::Candidate {
+            draft.head.votes[place(from)] = true;
+            return self.elect(draft);
         }
-        Ok(quiet(self.alloc, head))
+        Ok(())
     }
 }

@@ -16,49 +16,38 @@ pub(crate) fn place(node: NodeId) -> usize
 }
 
 /// Any message but `Forward` with a higher term: that term comes first.
-pub(crate) fn observed(head: Head, term: u64) -> Head
-    ensures { result ≡ observed head term }
+pub(crate) fn observe(head: &mut Head, term: u64)
+    ensures { head.new ≡ observed head.old term }
 {
     if head.term < term {
-        return Head {
-            term,
-            vote: None,
-            role: Role::Follower,
-            leader: None,
-            ..head
-        };
+        head.term = term;
+        head.vote = None;
+        head.role = Role::Follower;
+        head.leader = None;
     }
-    head
 }
 
 /// The sender leads the present term.
-pub(crate) fn following(head: Head, from: NodeId) -> Head
-    ensures { result ≡ following head from }
+pub(crate) fn follow(head: &mut Head, from: NodeId)
+    ensures { head.new ≡ following head.old from }
 {
-    Head {
-        role: Role::Follower,
-        leader: Some(from),
-        silent: 0,
-        ..head
-    }
+    head.role = Role::Follower;
+    head.leader = Some(from);
+    head.silent = 0;
 }
 
 /// It stands for election in the next term.
-pub(crate) fn candidate(head: Head) -> Head
-    requires { head.term + 1 < 2 ^ 64 }
-    ensures { result ≡ candidate head }
+pub(crate) fn stand(head: &mut Head)
+    requires { head.old.term + 1 < 2 ^ 64 }
+    ensures { head.new ≡ candidate head.old }
 {
-    let mut votes = [false; 5];
-    votes[place(head.node)] = true;
-    Head {
-        term: head.term + 1,
-        vote: Some(head.node),
-        role: Role::Candidate,
-        leader: None,
-        votes,
-        silent: 0,
-        ..head
-    }
+    head.term += 1;
+    head.vote = Some(head.node);
+    head.role = Role::Candidate;
+    head.leader = None;
+    head.votes = [false; 5];
+    head.votes[place(head.node)] = true;
+    head.silent = 0;
 }
 
 /// How many ticks a node waits for a leader (this project).
@@ -80,17 +69,17 @@ pub(crate) fn may_vote(head: &Head, node: NodeId) -> bool
 }
 
 /// Whether so many are more than half of the nodes.
-pub(crate) fn is_majority(head: Head, count: usize) -> bool
+pub(crate) fn is_majority(head: &Head, count: usize) -> bool
     requires { count ≤ 5 }
-    ensures { result ≡ is_majority head count }
+    ensures { result ≡ is_majority head.now count }
 {
     usize::from(head.nodes) < 2 * count
 }
 
 /// Whether a majority has voted for the candidate.
-pub(crate) fn is_elected(head: Head) -> bool
-    requires { head.nodes ≤ 5 }
-    ensures { result ≡ is_elected head }
+pub(crate) fn is_elected(head: &Head) -> bool
+    requires { head.now.nodes ≤ 5 }
+    ensures { result ≡ is_elected head.now }
 {
     let voted = head.votes[..usize::from(head.nodes)]
         .iter()

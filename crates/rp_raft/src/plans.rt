@@ -1,6 +1,6 @@
 //! What an event will do: a change of the head, an edit of the log, and messages made already.
 
-ghost use Rattle.std.specs.Prelude.{◌≡◌, ℕ, length, option_copied, take};
+ghost use Rattle.std.specs.Prelude.{◌≡◌, ℕ, length, option_copied};
 ghost use Rattle.std.specs.Option.{option_map};
 ghost use Rattle.rp_raft.specs.Plans.{behind_of, head_after, is_no_cut, room_of, sends_of, snapshot_out, taken_in, PlanFits};
 ghost use Rattle.rp_raftstep.specs.RaftState.{RaftState};
@@ -53,8 +53,8 @@ pub(crate) struct RaftDraft<S> {
 pub struct RaftPlan<S> {
     /// The draft, with the messages that are made last behind the replies.
     pub(crate) draft: RaftDraft<S>,
-    /// The head that the event leaves.
-    pub(crate) after: Head,
+    /// The commit index that the event leaves.
+    pub(crate) commit: u64,
     /// How many of the messages are replies.
     pub(crate) replies: usize,
 }
@@ -87,32 +87,19 @@ pub(crate) fn is_no_cut(edit: &LogEdit) -> bool
     !matches!(edit, LogEdit::Cuts { .. })
 }
 
-/// The draft of a plan: without the messages that were made last.
-pub(crate) fn draft_back<S: Drop>(plan: RaftPlan<S>) -> RaftDraft<S>
-    ensures { result ≡ record plan.draft { messages = take plan.replies plan.draft.messages } }
-{
-    let RaftPlan {
-        mut draft,
-        replies,
-        ..
-    } = plan;
-    draft.messages.truncate(replies);
-    draft
-}
-
 impl<S> RaftPlan<S> {
     /// The term that the event leaves.
     pub fn term(&self) -> u64
         ensures { result ≡ (head_after self.now).term }
     {
-        self.after.term
+        self.draft.head.term
     }
 
     /// The leader that the event leaves, if one is known.
     pub fn leader(&self) -> Option<NodeId>
         ensures { result ≡ (head_after self.now).leader }
     {
-        self.after.leader
+        self.draft.head.leader
     }
 
     /// The snapshot that the event takes in.

@@ -5,10 +5,9 @@ ghost use Rattle.rp_raftstep.specs.declared.messages.Message.TheVariants.{Forwar
 ghost use Rattle.rp_raftstep.specs.declared.heads.Due.TheVariants.{Everyone};
 ghost use Rattle.rp_raftstep.specs.RaftState.{is_leader};
 ghost use Rattle.rp_raftstep.specs.Conditions.{CanAppend};
-ghost use Rattle.rp_raftstep.specs.Step.{propose, then_proposed};
+ghost use Rattle.rp_raftstep.specs.Step.{then_proposed};
 ghost use Rattle.rp_raft.specs.Plans.{DraftFits, Drafts, draft_of, edit_behind, leads_to};
 
-use crate::drafts::quiet;
 use crate::plans::{LogEdit, Messages, RaftDraft};
 use crate::rafts::Raft;
 use rp_base::{NoMemory, NodeId, Seq};
@@ -21,11 +20,11 @@ fn entries_of(alloc: Global, term: u64, payloads: Payloads) -> Result<Entries, N
     ensures { IfOk result (λ entries. entries
         ≡ map (λ payload. record { term = term; payload = payload }) payloads) }
 {
-    let mut entries = Seq::new(alloc);
+    let mut entries = Vec::with_capacity(alloc, payloads.len())?;
     for payload in payloads.into_vec() {
         entries.push(Entry { term, payload })?;
     }
-    Ok(entries)
+    Ok(Seq::from_vec(entries))
 }
 
 /// Puts a `Forward` for each payload behind other messages.
@@ -53,92 +52,67 @@ fn due_behind(due: Due, payloads: usize) -> Due
     due
 }
 
-/// The edit with more entries behind, where it leaves the log or puts entries behind it.
-fn edit_behind(edit: LogEdit, more: Entries) -> Result<LogEdit, NoMemory>
-    ensures { IfOk result (λ e. e ≡ edit_behind edit more) }
+/// Puts more entries behind, where the edit leaves the log or puts entries behind it.
+fn edit_behind(edit: &mut LogEdit, more: Entries) -> Result<(), NoMemory>
+    ensures { OnOk result (edit.new ≡ edit_behind edit.old more) }
 {
     match edit {
-        LogEdit::Stays => Ok(LogEdit::Appends { entries: more }),
-        LogEdit::Appends { mut entries } => {
-            entries.append(more)?;
-            Ok(LogEdit::Appends { entries })
+        LogEdit::Stays => {
+            *edit = LogEdit::Appends { entries: more };
+            Ok(())
         }
-        edit => Ok(edit),
+        LogEdit::Appends { entries } => entries.append(more),
+        _ => Ok(()),
     }
 }
 
 impl<S: Drop> Raft<S> {
     /// A leader appends the payloads, and all are sent to.
-    fn append_behind(
-        &self,
-        draft: RaftDraft<S>,
-        payloads: Payloads,
-    ) -> Result<RaftDraft<S>, NoMemory>
-        requires fits { DraftFits self.now.raft.log draft }
-        requires room { CanAppend (leads_to draft.head self.now.raft.log draft.edit) payloads }
-        requires leads { is_leader draft.head.role ≡ true }
-        ensures { IfOk result (λ d. Drafts self.now.raft.log d
-            (then_proposed (draft_of self.now.raft.log draft) payloads)) }
+    fn append_behind(&self, draft: &mut RaftDraft<S>, payloads: Payloads) -> Result<(), NoMemory>
+        requires fits { DraftFits self.now.raft.log draft.old }
+        requires room { CanAppend (leads_to draft.old.head self.now.raft.log draft.old.edit)
+            payloads }
+        requires leads { is_leader draft.old.head.role ≡ true }
+        ensures { OnOk result (Drafts self.now.raft.log draft.new
+            (then_proposed (draft_of self.now.raft.log draft.old) payloads)) }
     {
-        let RaftDraft {
-            head,
-            edit,
-            messages,
-            due,
-            taken,
-        } = draft;
-        let due = due_behind(due, payloads.len());
-        let entries = entries_of(self.alloc, head.term, payloads)?;
-        let edit = edit_behind(edit, entries)?;
-        Ok(RaftDraft {
-            head,
-            edit,
-            messages,
-            due,
-            taken,
-        })
+        let due = due_behind(draft.due, payloads.len());
+        let entries = entries_of(self.alloc, draft.head.term, payloads)?;
+        edit_behind(&mut draft.edit, entries)?;
+        draft.due = due;
+        Ok(())
     }
 
     /// One that knows the leader forwards the payloads to it. Else they are lost.
-    fn forward_behind(
-        &self,
-        mut draft: RaftDraft<S>,
-        payloads: Payloads,
-    ) -> Result<RaftDraft<S>, NoMemory>
-        requires fits { DraftFits self.now.raft.log draft }
-        requires follows { is_leader draft.head.role ≡ false }
-        ensures { IfOk result (λ d. Drafts self.now.raft.log d
-            (then_proposed (draft_of self.now.raft.log draft) payloads)) }
+    #[cold]
+    #[inline(never)]
+    fn forward_behind(&self, draft: &mut RaftDraft<S>, payloads: Payloads) -> Result<(), NoMemory>
+        requires fits { DraftFits self.now.raft.log draft.old }
+        requires follows { is_leader draft.old.head.role ≡ false }
+        ensures { OnOk result (Drafts self.now.raft.log draft.new
+            (then_proposed (draft_of self.now.raft.log draft.old) payloads)) }
     {
-        if let Some(leader) = draft.head.leader {
-            push_forwards(&mut draft.messages, leader, payloads)?;
+        match draft.head.leader {
+            Some(leader) => push_forwards(&mut draft.messages, leader, payloads),
+            None => Ok(()),
         }
-        Ok(draft)
     }
 
     /// A Propose of these payloads, in one event with what came before it.
-    pub(crate) fn behind(
+    pub(crate) fn propose_behind(
         &self,
-        draft: RaftDraft<S>,
+        draft: &mut RaftDraft<S>,
         payloads: Payloads,
-    ) -> Result<RaftDraft<S>, NoMemory>
-        requires fits { DraftFits self.now.raft.log draft }
-        requires room { is_leader draft.head.role ≡ true
-            → CanAppend (leads_to draft.head self.now.raft.log draft.edit) payloads }
-        ensures { IfOk result (λ d. Drafts self.now.raft.log d
-            (then_proposed (draft_of self.now.raft.log draft) payloads)) }
+    ) -> Result<(), NoMemory>
+        requires fits { DraftFits self.now.raft.log draft.old }
+        requires room { is_leader draft.old.head.role ≡ true
+            → CanAppend (leads_to draft.old.head self.now.raft.log draft.old.edit) payloads }
+        ensures { OnOk result (Drafts self.now.raft.log draft.new
+            (then_proposed (draft_of self.now.raft.log draft.old) payloads)) }
     {
         if draft.head.role == Role::Leader {
             return self.append_behind(draft, payloads);
         }
         self.forward_behind(draft, payloads)
-    }
-
-    /// A Propose alone.
-    pub(crate) fn plan_propose(&self, payloads: Payloads) -> Result<RaftDraft<S>, NoMemory>
-        requires { CanAppend self.now.raft payloads }
-        ensures { IfOk result (λ d. Drafts self.now.raft.log d (propose self.now.raft payloads)) }
-    {
-        self.behind(quiet(self.alloc, self.head), payloads)
     }
 }

@@ -4,17 +4,16 @@ ghost use Rattle.std.specs.Prelude.{◌≡◌, ◌+◌, ◌<◌, ◌≤◌, ◌+
 ghost use Rattle.rp_raftlog.specs.LogState.{last_index};
 ghost use Rattle.rp_raftstep.specs.Conditions.{Allows, CanRise};
 ghost use Rattle.rp_raftstep.specs.Step.{advanced, cut_away, due_peers, sends_among, sent, step_then, then_proposed};
-ghost use Rattle.rp_raft.specs.Plans.{CanExtend, DraftFits, EditFits, IsMadeIn, Makes, PlanFits, Plans, ahead, behind_of, done_by, draft_of, drafted_by, edited, room_of};
+ghost use Rattle.rp_raft.specs.Plans.{BeginsAt, CanExtend, DraftFits, EditFits, IsMadeIn, Makes, PlanFits, Plans, ahead, behind_of, done_by, draft_of, drafted_by, edited, room_of, with_commit};
 
 use crate::ahead::last_in;
-use crate::commits::advanced;
+use crate::commits::commit_after;
 use crate::drafts::quiet;
-use crate::plans::{LogEdit, RaftDraft, RaftPlan, behind_of, draft_back, is_no_cut, room_of};
+use crate::plans::{LogEdit, RaftDraft, RaftPlan, behind_of, is_no_cut, room_of};
 use crate::rafts::Raft;
-use crate::sends::due_peers;
 use rp_base::NoMemory;
 use rp_raftlog::Log;
-use rp_raftstep::{Head, MakeSnap, Payloads, RaftEvent, RaftOut, Role};
+use rp_raftstep::{MakeSnap, Payloads, RaftEvent, RaftOut, Role};
 
 /// Makes the edit, without memory.
 fn make_edit(log: &mut Log, edit: LogEdit)
@@ -38,84 +37,104 @@ fn make_edit(log: &mut Log, edit: LogEdit)
 }
 
 impl<S: Drop> Raft<S> {
-    /// A Cut: the base becomes this index. It takes no memory.
-    fn plan_cut(&self, to: u64) -> RaftPlan<S>
-        requires rise { CanRise self.now.raft }
-        requires behind { self.now.raft.log.base ≤ to }
-        requires within { to ≤ last_index self.now.raft.log }
-        ensures does { done_by self.now.raft result ≡ cut_away self.now.raft to }
-        ensures made { IsMadeIn self.now.raft result }
+    /// Puts the messages that are made last behind the replies. The answer is the commit index
+    /// that the event leaves.
+    fn finish<M: MakeSnap<S>>(&self, draft: &mut RaftDraft<S>, snap: &M) -> Result<u64, NoMemory>
+        requires { DraftFits self.now.raft.log draft.old }
+        ensures state { IfOk result (λ commit. ahead (with_commit draft.old.head commit)
+            self.now.raft.log (behind_of draft.old.edit)
+            ≡ advanced (ahead draft.old.head self.now.raft.log (behind_of draft.old.edit))) }
+        ensures draft { IfOk result (λ commit. draft.new ≡ record draft.old {
+          messages = draft.old.messages
+              ++ sends_among (M.index snap.now) (M.snapshot snap.now)
+              (ahead (with_commit draft.old.head commit) self.now.raft.log
+              (behind_of draft.old.edit))
+              (due_peers (with_commit draft.old.head commit) draft.old.due);
+        }) }
+    {
+        let RaftDraft {
+            head,
+            edit,
+            messages,
+            due,
+            ..
+        } = draft;
+        let added = behind_of(edit);
+        let commit = commit_after(head, &self.log, added);
+        self.push_sends(messages, *due, head, commit, added, snap)?;
+        Ok(commit)
+    }
+
+    /// The plan of a draft: the messages that are made last come from the state that the event
+    /// leaves.
+    fn fill<M: MakeSnap<S>>(&self, plan: &mut RaftPlan<S>, snap: &M) -> Result<(), NoMemory>
+        requires { DraftFits self.now.raft.log plan.old.draft }
+        ensures plan { OnOk result (Makes self.now.raft plan.new
+            (draft_of self.now.raft.log plan.old.draft)
+            (sent (M.index snap.now) (M.snapshot snap.now)
+            (draft_of self.now.raft.log plan.old.draft))) }
+        ensures made { OnOk result (IsMadeIn self.now.raft plan.new) }
+    {
+        plan.replies = plan.draft.messages.len();
+        plan.commit = self.finish(&mut plan.draft, snap)?;
+        Ok(())
+    }
+
+    /// A plan that does nothing yet.
+    fn begin(&self) -> RaftPlan<S>
+        ensures { BeginsAt self.now.raft result }
     {
         RaftPlan {
-            draft: RaftDraft {
-                edit: LogEdit::Cuts { to },
-                ..quiet(self.alloc, self.head)
-            },
-            after: self.head,
+            draft: quiet(self.alloc, &self.head),
+            commit: self.head.commit,
             replies: 0,
         }
     }
 
-    /// The head that the event leaves. The messages that are made last come behind the replies.
-    fn finish<M: MakeSnap<S>>(&self, draft: &mut RaftDraft<S>, snap: &M) -> Result<Head, NoMemory>
-        requires { DraftFits self.now.raft.log draft.old }
-        ensures same { IfOk result (λ after. after
-            ≡ record draft.old.head { commit = after.commit }) }
-        ensures state { IfOk result (λ after. ahead after self.now.raft.log
-            (behind_of draft.old.edit)
-            ≡ advanced (ahead draft.old.head self.now.raft.log (behind_of draft.old.edit))) }
-        ensures draft { IfOk result (λ after. draft.new ≡ record draft.old {
-          messages = draft.old.messages
-              ++ sends_among (M.index snap.now) (M.snapshot snap.now)
-              (ahead after self.now.raft.log (behind_of draft.old.edit))
-              (due_peers after draft.old.due);
-        }) }
+    /// A Cut: the base becomes this index.
+    #[cold]
+    #[inline(never)]
+    fn plan_cut(&self, plan: &mut RaftPlan<S>, to: u64)
+        requires begun { BeginsAt self.now.raft plan.old }
+        requires rise { CanRise self.now.raft }
+        requires behind { self.now.raft.log.base ≤ to }
+        requires within { to ≤ last_index self.now.raft.log }
+        ensures does { done_by self.now.raft plan.new ≡ cut_away self.now.raft to }
+        ensures made { IsMadeIn self.now.raft plan.new }
     {
-        let added = behind_of(&draft.edit);
-        let after = advanced(draft.head, &self.log, added);
-        let peers = due_peers(self.alloc, &after, draft.due)?;
-        self.push_sends(&mut draft.messages, peers.as_slice(), &after, added, snap)?;
-        Ok(after)
-    }
-
-    /// A draft with the messages that are made last, from the state that the event leaves.
-    fn fill<M: MakeSnap<S>>(
-        &self,
-        mut draft: RaftDraft<S>,
-        snap: &M,
-    ) -> Result<RaftPlan<S>, NoMemory>
-        requires { DraftFits self.now.raft.log draft }
-        ensures plan { IfOk result (λ p. Makes self.now.raft p (draft_of self.now.raft.log draft)
-            (sent (M.index snap.now) (M.snapshot snap.now) (draft_of self.now.raft.log draft))) }
-        ensures made { IfOk result (λ p. IsMadeIn self.now.raft p) }
-    {
-        let replies = draft.messages.len();
-        let after = self.finish(&mut draft, snap)?;
-        Ok(RaftPlan {
-            draft,
-            after,
-            replies,
-        })
+        plan.draft.edit = LogEdit::Cuts { to };
     }
 
     /// The plan of an event, but for the room in the log.
     fn planned<M: MakeSnap<S>>(
         &self,
+        plan: &mut RaftPlan<S>,
         event: RaftEvent<S>,
         snap: &M,
-    ) -> Result<RaftPlan<S>, NoMemory>
-        requires { Allows self.now.raft event }
-        ensures plan { IfOk result (λ p. Plans (M.index snap.now) (M.snapshot snap.now)
-            self.now.raft event p) }
-        ensures made { IfOk result (λ p. IsMadeIn self.now.raft p) }
+    ) -> Result<(), NoMemory>
+        requires begun { BeginsAt self.now.raft plan.old }
+        requires event { Allows self.now.raft event }
+        ensures plan { OnOk result (Plans (M.index snap.now) (M.snapshot snap.now)
+            self.now.raft event plan.new) }
+        ensures made { OnOk result (IsMadeIn self.now.raft plan.new) }
     {
         match event {
-            RaftEvent::Tick => self.fill(self.plan_tick()?, snap),
-            RaftEvent::Receive { from, message } => {
-                self.fill(self.plan_message(from, message)?, snap)
+            RaftEvent::Tick => {
+                self.plan_tick(&mut plan.draft)?;
+                self.fill(plan, snap)
             }
-            RaftEvent::Propose { payloads } => self.fill(self.plan_propose(payloads)?, snap),
-            RaftEvent::Cut { to } => Ok(self.plan_cut(to)),
+            RaftEvent::Receive { from, message } => {
+                self.plan_message(&mut plan.draft, from, message)?;
+                self.fill(plan, snap)
+            }
+            RaftEvent::Propose { payloads } => {
+                self.propose_behind(&mut plan.draft, payloads)?;
+                self.fill(plan, snap)
+            }
+            RaftEvent::Cut { to } => {
+                self.plan_cut(plan, to);
+                Ok(())
+            }
         }
     }
 
@@ -132,7 +151,8 @@ impl<S: Drop> Raft<S> {
             self.old.raft event p) }
         ensures fits { IfOk result (λ p. PlanFits self.new.raft self.new.spare p) }
     {
-        let plan = self.planned(event, snap)?;
+        let mut plan = self.begin();
+        self.planned(&mut plan, event, snap)?;
         self.log.make_room(room_of(&plan.draft.edit))?;
         Ok(plan)
     }
@@ -170,7 +190,7 @@ impl<S: Drop> Raft<S> {
     /// The plan of that event and of a Propose of these payloads, as one event.
     pub fn extend<M: MakeSnap<S>>(
         &mut self,
-        plan: RaftPlan<S>,
+        mut plan: RaftPlan<S>,
         payloads: Payloads,
         snap: &M,
     ) -> Result<RaftPlan<S>, NoMemory>
@@ -184,8 +204,9 @@ impl<S: Drop> Raft<S> {
             payloads)) }
         ensures fits { IfOk result (λ p. PlanFits self.new.raft self.new.spare p) }
     {
-        let draft = self.behind(draft_back(plan), payloads)?;
-        let plan = self.fill(draft, snap)?;
+        plan.draft.messages.truncate(plan.replies);
+        self.propose_behind(&mut plan.draft, payloads)?;
+        self.fill(&mut plan, snap)?;
         self.log.make_room(room_of(&plan.draft.edit))?;
         Ok(plan)
     }
@@ -195,15 +216,20 @@ impl<S: Drop> Raft<S> {
         requires { PlanFits self.old.raft self.old.spare plan }
         ensures { record { state = self.new.raft; out = result } ≡ done_by self.old.raft plan }
     {
-        let RaftPlan { draft, after, .. } = plan;
-        let RaftDraft {
-            edit,
-            messages,
-            taken,
+        let RaftPlan {
+            draft: RaftDraft {
+                head,
+                edit,
+                messages,
+                taken,
+                ..
+            },
+            commit,
             ..
-        } = draft;
+        } = plan;
         make_edit(&mut self.log, edit);
-        self.head = after;
+        self.head = head;
+        self.head.commit = commit;
         RaftOut { messages, taken }
     }
 }

@@ -1,8 +1,8 @@
 -- What attempts were told can be shown.
-use Rattle.std.proofs.Common.{◌≡◌, ℕ, suc, Some, Bool, true, false, cond, List, [], ◌∷◌, refl, sym, ap, subst, ◌∙◌}
+use Rattle.std.proofs.Common.{◌≡◌, ℕ, suc, Option, None, Some, Bool, true, false, cond, List, [], ◌∷◌, refl, sym, ap, subst, ◌∙◌}
 use Rattle.std.specs.Prelude.{All, map, slice_get}
 use Rattle.std.specs.List.{find, AllByRecursion}
-use Rattle.std.specs.Option.{option_map, option_map_or}
+use Rattle.std.specs.Option.{option_and_then, option_map, option_map_or}
 use Rattle.std.specs.BTreeMap.{insert_entry}
 use Rattle.std.specs.Ordering.{match_ordering}
 use Rattle.std.specs.declared.cmp.Ordering.{Ordering}
@@ -20,7 +20,7 @@ use Rattle.rp_events.specs.declared.journals.JournalEntry.{JournalEntry}
 use Rattle.rp_events.specs.declared.journals.PastEvent.{PastEvent}
 use Rattle.rp_events.specs.declared.journals.PastEvent.TheVariants as past
 use Rattle.rp_events.specs.Nodes.{Node}
-use Rattle.rp_events.specs.Worlds.{World, outcome_by, taken_in}
+use Rattle.rp_events.specs.Worlds.{World, asked_at, is_admission_of, outcome_at, outcome_by, outcome_of, taken_in}
 use Rattle.rp_events.specs.Lawful.{IsReached}
 use Rattle.rp_events.specs.Lists.{history_in, IsWritten}
 use Rattle.rp_lines.specs.Views.{Ends, with_end, ends_in, ends_of, reply_of, replies_of}
@@ -120,6 +120,31 @@ by_place : {X : Type 0} (P : X → Type 0) (xs : List X) → ((place : ℕ) (x :
 by_place P [] h = tt
 by_place P (x ∷ xs) h = (h 0 x refl, by_place P xs (λ place y e. h (suc place) y e))
 
+-- what is found stands somewhere, and passes
+found_in : {X : Type 0} (test : X → Bool) (xs : List X) (x : X) → find test xs ≡ Some x → (place : ℕ) × (slice_get xs place ≡ Some x) × (test x ≡ true)
+found_in test [] x e = absurd cc
+found_in {X} test (y ∷ xs) x e = go (test y) refl e (λ e'. found_in test xs x e') where
+  some_is : (a b : X) → ◌≡◌ {A = Option X} (Some a) (Some b) → a ≡ b
+  some_is a b e' = cc
+
+  go : (b : Bool) → test y ≡ b → cond b (Some y) (find test xs) ≡ Some x → (find test xs ≡ Some x → (place : ℕ) × (slice_get xs place ≡ Some x) × (test x ≡ true))
+      → (place : ℕ) × (slice_get (y ∷ xs) place ≡ Some x) × (test x ≡ true)
+  go true is e' more = let same : y ≡ x = some_is y x e' in (0, ap Some same, ap test (sym same) ∙ is)
+  go false is e' more = let k = more e' in (suc k.0, k.1, k.2)
+
+none_not_some : (outcome : Outcome) → ◌≡◌ {A = Option Outcome} None (Some outcome) → ⊥
+none_not_some outcome e = absurd cc
+
+same_outcome : (a b : Outcome) → ◌≡◌ {A = Option Outcome} (Some a) (Some b) → a ≡ b
+same_outcome a b e = cc
+
+-- an entry that admits an attempt
+admits_shown : (id : CmdId) (e : JournalEntry) → EntryShown e.event e.answer → is_admission_of id e ≡ true → IsShownIn e.answer
+admits_shown id e shown is = go e.event refl shown where
+  go : (event : PastEvent) → e.event ≡ event → EntryShown event e.answer → IsShownIn e.answer
+  go (past.Admit range other place) same shown = shown
+  go event same shown = absurd (let no : is_admission_of id (record { event = event; answer = e.answer }) ≡ true = sym (ap (λ v. is_admission_of id (record { event = v; answer = e.answer })) same) ∙ is in cc)
+
 module _ (nodes : ℕ) (w : World) (reached : IsReached nodes w) where
   as_admission : (node place : ℕ) (e : JournalEntry) → IsWritten w node place e → (range : ℕ) (id : CmdId) (at : ℕ) → e.event ≡ past.Admit range id at → IsShownIn e.answer
   as_admission node place e is range id at event =
@@ -154,3 +179,21 @@ module _ (nodes : ℕ) (w : World) (reached : IsReached nodes w) where
 
   pub replies_are_shown : All IsShownAnswer (replies_of w)
   replies_are_shown = All-from_recursion IsShownAnswer (replies_of w) (replies_shown (ends_of [] w) (ends_of_shown w [] tt (by_place IsShownNode w node_shown)))
+
+  -- so can the outcome of each attempt that some journal names
+  pub outcome_is_shown : (id : CmdId) (outcome : Outcome) → outcome_of w id ≡ Some outcome → IsShownOutcome outcome
+  outcome_is_shown id outcome is = by_node (find (asked_at id) w) refl where
+    by_entry : (place : ℕ) (n : Node) → slice_get w place ≡ Some n → outcome_at id n ≡ Some outcome → (o : Option JournalEntry) → find (is_admission_of id) n.journal ≡ o → IsShownOutcome outcome
+    by_entry place n has told None none = absurd (none_not_some outcome (sym (ap (option_map (λ (e : JournalEntry). outcome_by n id e.answer)) none) ∙ told))
+    by_entry place n has told (Some e) found =
+        let at = found_in (is_admission_of id) n.journal e found in
+        let so : ◌≡◌ {A = Option Outcome} (Some (outcome_by n id e.answer)) (Some outcome) = sym (ap (option_map (λ (e : JournalEntry). outcome_by n id e.answer)) found) ∙ told in
+        subst IsShownOutcome (same_outcome (outcome_by n id e.answer) outcome so)
+        (told_shown n id e.answer (reached_ends nodes w reached (suc place) n has)
+        (admits_shown id e (entry_is_shown (suc place) at.0 e (record { n = n; has = has; here = at.1 })) at.2))
+
+    by_node : (o : Option Node) → find (asked_at id) w ≡ o → IsShownOutcome outcome
+    by_node None none = absurd (none_not_some outcome (sym (ap (option_and_then (outcome_at id)) none) ∙ is))
+    by_node (Some n) found =
+        let at = found_in (asked_at id) w n found in
+        by_entry at.0 n at.1 (sym (ap (option_and_then (outcome_at id)) found) ∙ is) (find (is_admission_of id) n.journal) refl

@@ -1,13 +1,15 @@
 //! Laws of what a reached world has recorded. No program calls these functions.
-ghost use Rattle.std.specs.Prelude.{◌≡◌, ℕ, ◌≤◌, ◌⊎◌, List, [], All};
+ghost use Rattle.std.specs.Prelude.{◌≡◌, ℕ, ◌≤◌, ◌⊎◌, List, [], All, Some};
+ghost use Rattle.rp_base.specs.declared.ids.CmdId.{CmdId};
 ghost use Rattle.rp_request.specs.History.{History};
 ghost use Rattle.rp_request.specs.declared.items.Record.{Record};
 ghost use Rattle.rp_request.specs.declared.notes.Note.{Note};
-ghost use Rattle.rp_report.specs.Shown.{IsShownAnswer, IsShownView};
+ghost use Rattle.rp_request.specs.declared.outcomes.Outcome.{Outcome};
+ghost use Rattle.rp_report.specs.Shown.{IsShownAnswer, IsShownOutcome, IsShownView};
 ghost use Rattle.rp_report.specs.declared.views.View.{View};
 ghost use Rattle.rp_events.specs.Lawful.{IsReached};
 ghost use Rattle.rp_events.specs.Lists.{HasApplied, IsOneList};
-ghost use Rattle.rp_events.specs.Worlds.{World};
+ghost use Rattle.rp_events.specs.Worlds.{World, outcome_of};
 ghost use Rattle.rp_lines.specs.Views.{replies_of, IsViewOf};
 ghost use Rattle.rp_recorded.specs.Recorded.{HasOneList, IsAllApplied, IsNumbered};
 
@@ -33,7 +35,9 @@ pub fn what_was_applied_is_numbered()
 
 /// What attempts were told can be shown: a refusal names a description that some node had.
 pub fn each_outcome_can_be_shown()
-    ensures { (nodes : ℕ) (w : World) → IsReached nodes w → All IsShownAnswer (replies_of w) }
+    ensures replies { (nodes : ℕ) (w : World) → IsReached nodes w → All IsShownAnswer (replies_of w) }
+    ensures attempt { (nodes : ℕ) (w : World) → IsReached nodes w → (id : CmdId) (outcome : Outcome)
+        → outcome_of w id ≡ Some outcome → IsShownOutcome outcome }
 {}
 
 /// So what a reached world shows can be written.

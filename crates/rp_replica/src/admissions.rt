@@ -7,6 +7,7 @@ ghost use Rattle.rp_pending.specs.Proposals.{proposal_of};
 ghost use Rattle.rp_events.specs.Admissions.{admitted, guarded, may_admit, proposal, with_proposal};
 ghost use Rattle.rp_replica.specs.Plans.{AdmitFits, IsPlan};
 
+use crate::boxed::Boxed;
 use crate::plans::ReplicaPlan;
 use crate::replicas::Replica;
 use rp_base::{CmdId, LeaseIndex, LeaseSeq, NoMemory, Tick};
@@ -57,6 +58,7 @@ impl Replica {
     }
 
     /// What the guards let through: the lease, the bounds, the latches, and then the evaluation.
+    #[inline(never)]
     fn guarded(&self, request: &Request) -> Result<Result<Evaluated, Refusal>, NoMemory>
         ensures { IfOk result (λ g. g ≡ guarded self.now.replica request.now) }
     {
@@ -80,6 +82,7 @@ impl Replica {
     }
 
     /// An attempt asks to be admitted.
+    #[inline(never)]
     pub(crate) fn plan_admission(
         &self,
         id: CmdId,
@@ -97,17 +100,19 @@ impl Replica {
             }
         };
         let seq = self.source.state.lease().seq;
-        let proposal = proposal(id, request, evaluated, seq);
+        let proposal = Boxed::new(self.source.alloc, proposal(id, request, evaluated, seq))?;
         Ok(ReplicaPlan::Admits { proposal })
     }
 
     /// The attempt takes its latches and waits. It takes no memory.
-    pub(crate) fn admit(&mut self, proposal: Proposal)
+    #[inline(never)]
+    pub(crate) fn admit(&mut self, proposal: Boxed<Proposal>)
         requires fits { AdmitFits self.old.replica proposal }
         requires latches { 1 ≤ self.old.room.latches }
         requires pending { 1 ≤ self.old.room.pending }
         ensures { self.new.replica ≡ with_proposal self.old.replica proposal }
     {
+        let proposal = proposal.into_inner();
         let spans = proposal.request.spans();
         self.latches.hold_clear(proposal.id, spans);
         self.pending.add(proposal);

@@ -10,6 +10,7 @@ ghost use Rattle.rp_events.specs.Allows.{MayApply};
 ghost use Rattle.rp_replica.specs.Plans.{ApplicationFits, IsKnown, IsPlan, places_of, recorded, turned};
 ghost use Rattle.rp_replica.specs.Turns.{payload_told, payload_turn, told, told_of, turn, turn_by};
 
+use crate::boxed::Boxed;
 use crate::plans::{Application, ReplicaPlan, Turn};
 use crate::replicas::Replica;
 use rp_apply::check;
@@ -23,12 +24,13 @@ use rp_split::{RightStart, trigger};
 use std::alloc::Global;
 
 /// The payload that an entry of the log carries.
-fn payload_of(alloc: Global, entry: &Entry) -> Result<Payload, NoMemory>
+#[inline(never)]
+fn payload_of(alloc: Global, entry: &Entry) -> Result<Boxed<Payload>, NoMemory>
     requires { (p : Payload) × (payload_of (Some entry.now) ≡ Some p) }
     ensures { IfOk result (λ p. payload_of (Some entry.now) ≡ Some p) }
 {
     match decode(alloc, entry.payload.as_slice()) {
-        Ok(payload) => Ok(payload),
+        Ok(payload) => Boxed::new(alloc, payload),
         Err(DecodeFault::NoMemory) => Err(NoMemory),
         Err(DecodeFault::Bad { .. }) => unreachable!(),
     }
@@ -95,6 +97,7 @@ impl Replica {
     }
 
     /// What a command makes of the proposal that it came of, and what its attempt is told.
+    #[inline(never)]
     fn turn_and_end(
         &self,
         command: &Command,
@@ -116,7 +119,8 @@ impl Replica {
     }
 
     /// What the right range of a request starts with: only a split has one.
-    fn right_of(&self, request: &Request) -> Result<Option<RightStart>, NoMemory>
+    #[cold]
+    fn right_of(&self, request: &Request) -> Result<Option<Boxed<RightStart>>, NoMemory>
         requires { MaySplit self.now.replica.applied.state.desc request.now }
         ensures { IfOk result
             (λ o. o ≡ right_by_request self.now.replica.applied.state request.now) }
@@ -126,12 +130,17 @@ impl Replica {
         };
         let alloc = self.source.alloc;
         let state = &self.source.state;
-        let right = trigger(alloc, state.table(), state.desc(), state.lease(), key)?;
+        let start = trigger(alloc, state.table(), state.desc(), state.lease(), key)?;
+        let right = Boxed::new(alloc, start)?;
         Ok(Some(right))
     }
 
     /// What the right range starts with, where the command is a split that is taken.
-    fn right(&self, command: &Command, verdict: &Verdict) -> Result<Option<RightStart>, NoMemory>
+    fn right(
+        &self,
+        command: &Command,
+        verdict: &Verdict,
+    ) -> Result<Option<Boxed<RightStart>>, NoMemory>
         requires { verdict.now ≡ verdicts.Took
             → MaySplit self.now.replica.applied.state.desc command.now.request }
         ensures { IfOk result
@@ -147,7 +156,7 @@ impl Replica {
     }
 
     /// What the application of a payload will do, from one verdict on it.
-    fn application(&self, payload: Payload) -> Result<Application, NoMemory>
+    fn application(&self, payload: Boxed<Payload>) -> Result<Application, NoMemory>
         requires { Fits self.now.replica.applied.state payload }
         ensures payload { IfOk result (λ a. a.payload ≡ payload) }
         ensures turn { IfOk result (λ a. a.turn ≡ payload_turn self.now.replica payload) }
@@ -156,7 +165,7 @@ impl Replica {
             (λ a. a.right ≡ right_of self.now.replica.applied.state payload) }
         ensures known { IfOk result (λ a. IsKnown self.now.replica.pending a.turn) }
     {
-        let Payload::Write(command) = &payload else {
+        let Payload::Write(command) = payload.get() else {
             return Ok(Application {
                 payload,
                 turn: Turn::Stays,
@@ -164,7 +173,7 @@ impl Replica {
                 right: None,
             });
         };
-        let verdict = check(&self.source.state, &payload);
+        let verdict = check(&self.source.state, payload.get());
         let (turn, outcomes) = self.turn_and_end(command, &verdict)?;
         let right = self.right(command, &verdict)?;
         Ok(Application {
@@ -176,6 +185,7 @@ impl Replica {
     }
 
     /// The next committed entry is checked and applied.
+    #[inline(never)]
     pub(crate) fn plan_application(&self) -> Result<ReplicaPlan, NoMemory>
         requires { MayApply self.now.replica }
         ensures { IfOk result
@@ -211,6 +221,7 @@ impl Replica {
     }
 
     /// The payload is applied, its record is kept, and its proposal turns. It takes no memory.
+    #[inline(never)]
     pub(crate) fn apply(&mut self, application: &Application)
         requires fits { ApplicationFits self.old.replica application.now }
         requires applied { IsWithin (needed application.now.payload) self.old.room.applied }
@@ -218,7 +229,7 @@ impl Replica {
         ensures { self.new.replica
             ≡ turned (recorded self.old.replica application.now) application.now.turn }
     {
-        self.source.state.commit_one(&application.payload);
+        self.source.state.commit_one(application.payload.get());
         self.turn_so(application.turn);
     }
 }

@@ -83,6 +83,7 @@ impl Replica {
     }
 
     /// The node asks for the lease.
+    #[cold]
     pub(crate) fn plan_ask(&self, ticks: Tick) -> ReplicaPlan
         requires { ticks + lease_ticks < 2 ^ 64 }
         ensures { IsPlan self.now.replica None result (asked self.now.replica ticks) }
@@ -98,6 +99,7 @@ impl Replica {
     }
 
     /// The holder asks for the lease to go to another node.
+    #[cold]
     pub(crate) fn plan_transfer(&self, to: NodeId, ticks: Tick) -> ReplicaPlan
         requires { ticks + lease_ticks < 2 ^ 64 }
         ensures { IsPlan self.now.replica None result (transferred self.now.replica to ticks) }
@@ -129,6 +131,7 @@ impl Replica {
     }
 
     /// What the buffer gave joins the inbox. It takes no memory.
+    #[inline(never)]
     pub(crate) fn join_all(&mut self, taken: &[Item])
         requires { length taken.now ≤ self.old.room.inbox }
         ensures { self.new.replica ≡ joined_all self.old.replica taken.now }

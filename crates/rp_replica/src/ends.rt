@@ -85,6 +85,7 @@ fn ends_of(alloc: Global, cause: &Cause, standings: &[Standing]) -> Result<Outco
 
 impl Replica {
     /// How the pending proposals end for this cause, in order of admission.
+    #[cold]
     pub(crate) fn ends(&self, cause: &Cause) -> Result<Outcomes, NoMemory>
         ensures { IfOk result
             (λ o. o ≡ filter_map (end_of (ends_by cause.now)) self.now.replica.pending) }
@@ -94,6 +95,7 @@ impl Replica {
     }
 
     /// The replica is taken down for good.
+    #[cold]
     pub(crate) fn plan_removal(&self) -> Result<ReplicaPlan, NoMemory>
         ensures { IfOk result (λ p. IsPlan self.now.replica None p (removed self.now.replica)) }
     {
@@ -102,6 +104,7 @@ impl Replica {
     }
 
     /// All that is pending has ended, and its latches are free. It takes no memory.
+    #[cold]
     pub(crate) fn remove(&mut self, ended: &[Ended])
         ensures { self.new.replica ≡ record self.old.replica {
           latches = held_by_others ended.now self.old.replica.latches;
@@ -113,6 +116,7 @@ impl Replica {
     }
 
     /// The node starts again with what it keeps.
+    #[cold]
     pub(crate) fn plan_restart(&self) -> Result<ReplicaPlan, NoMemory>
         ensures { IfOk result (λ p. IsPlan self.now.replica None p (restarts self.now.replica)) }
     {
@@ -122,6 +126,7 @@ impl Replica {
     }
 
     /// What a restart leaves. It takes no memory.
+    #[cold]
     pub(crate) fn restart(&mut self)
         ensures { self.new.replica ≡ (restarted_as self.old.replica []).replica }
     {

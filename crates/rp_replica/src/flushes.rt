@@ -11,6 +11,7 @@ ghost use Rattle.rp_replica.specs.Rooms.{IsRoomWithin};
 
 use crate::payloads::{push_asks, push_moves, told};
 use crate::plans::{HandOver, ReplicaPlan};
+use crate::rafts::plan;
 use crate::replicas::Replica;
 use crate::waits::assign_inbox;
 use rp_base::{CmdId, LeaseAsk, LeaseIndex, NoMemory, Seq, Tick};
@@ -65,6 +66,7 @@ struct FlushDraft {
 
 impl Replica {
     /// What a flush will do, but for Raft.
+    #[inline(never)]
     fn draft_flush(&self) -> Result<FlushDraft, NoMemory>
         requires { MayFlush self.now.replica }
         ensures moves { IfOk result
@@ -102,6 +104,7 @@ impl Replica {
     }
 
     /// The inbox goes to Raft: lease asks first, then commands, each with a lease index.
+    #[inline(never)]
     pub(crate) fn plan_flush(&mut self, ticks: Tick, round: u64) -> Result<ReplicaPlan, NoMemory>
         requires { MayFlush self.old.replica }
         ensures replica { self.new.replica ≡ self.old.replica }
@@ -120,7 +123,7 @@ impl Replica {
             last,
         } = draft;
         let propose = RaftEvent::Propose { payloads: bytes };
-        let raft = self.raft.plan(propose, &self.source)?;
+        let raft = plan(&mut self.raft, propose, &self.source)?;
         Ok(ReplicaPlan::HandsOver {
             hand: HandOver {
                 raft,

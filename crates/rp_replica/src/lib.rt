@@ -23,12 +23,14 @@
 mod admissions;
 mod applications;
 mod asks;
+mod boxed;
 mod ends;
 mod flushes;
 mod messages;
 mod moves;
 mod payloads;
 mod plans;
+mod rafts;
 mod refreshes;
 mod replicas;
 mod snapshots;
@@ -36,6 +38,7 @@ mod sources;
 mod steps;
 mod waits;
 
+pub use boxed::Boxed;
 pub use messages::copy_message;
 pub use plans::{Application, HandOver, ReplicaPlan, Turn};
 pub use replicas::Replica;

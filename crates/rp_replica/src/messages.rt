@@ -8,6 +8,7 @@ use rp_snapshot::Snapshot;
 use std::alloc::Global;
 
 /// An equal message.
+#[inline(never)]
 pub fn copy_message(
     alloc: Global,
     message: &Message<Snapshot>,

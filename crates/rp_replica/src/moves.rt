@@ -11,6 +11,7 @@ use rp_events::Move;
 impl Replica {
     /// Makes a move of one proposal, which stays as it is where it stands otherwise. It takes no
     /// memory.
+    #[inline(never)]
     fn make_move(&mut self, one: Move, ticks: Tick, round: u64)
         requires { items_by one ≤ self.old.room.inbox }
         ensures replica { self.new.replica

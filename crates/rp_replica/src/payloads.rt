@@ -29,6 +29,7 @@ fn write_under(proposal: &Proposal, max: LeaseIndex) -> Result<Payload, NoMemory
 
 /// Puts the bytes of a payload at the end.
 #[tactic(auto, using(crate::proofs::Reading::reads_more))]
+#[inline(never)]
 fn push_payload(alloc: Global, bytes: &mut Payloads, payload: &Payload) -> Result<(), NoMemory>
     requires { EachReads bytes.old }
     ensures bytes { OnOk result (bytes.new ≡ bytes.old ++ spelling payload.now ∷ []) }
@@ -72,6 +73,7 @@ fn payload_by(pending: &Pending, one: Move) -> Result<Option<Payload>, NoMemory>
 }
 
 /// Puts the bytes of what a move hands to Raft at the end.
+#[inline(never)]
 fn push_move(
     alloc: Global,
     bytes: &mut Payloads,
@@ -108,6 +110,7 @@ pub(crate) fn push_moves(
 }
 
 /// Puts the end of an attempt at the end, where the move gives it up: the present lease.
+#[inline(never)]
 fn push_told(ends: &mut Vec<Ended>, lease: &Lease, one: &Move) -> Result<(), NoMemory>
     ensures { OnOk result (ends.new.items
         ≡ ends.old.items ++ filter_map (told_by lease.now) (one.now ∷ [])) }

@@ -7,6 +7,7 @@ ghost use Rattle.rp_replica.specs.declared.plans.ReplicaPlan.TheVariants.{Collec
 ghost use Rattle.rp_replica.specs.Plans.{HasRoom, IsCollect, IsPlan, Makes, PlanFits, planned, right_in, without_right};
 ghost use Rattle.rp_replica.specs.Rooms.{Room};
 
+use crate::boxed::Boxed;
 use rp_base::{CmdId, Items, LeaseAsk, LeaseIndex, Seq, Tick};
 use rp_events::{EventAnswer, Move, Outcomes};
 use rp_pending::Proposal;
@@ -30,18 +31,18 @@ pub enum Turn {
 #[derive(Drop)]
 pub struct Application {
     /// What the entry carries.
-    pub payload: Payload,
+    pub payload: Boxed<Payload>,
     pub turn: Turn,
     /// The end of the proposal, where the entry ends one.
     pub outcomes: Outcomes,
     /// What the right range starts with, where the entry is a split that is taken.
-    pub right: Option<RightStart>,
+    pub right: Option<Boxed<RightStart>>,
 }
 
 /// What an event of Raft will do with payloads behind it, and what becomes of proposals before.
 #[derive(Drop)]
 pub struct HandOver {
-    pub raft: RaftPlan<Snapshot>,
+    pub raft: Boxed<RaftPlan<Snapshot>>,
     pub moves: Seq<Move>,
     /// The tick and the round of the node.
     pub ticks: Tick,
@@ -59,7 +60,7 @@ pub enum ReplicaPlan {
     /// Nothing changes.
     Answers { answer: EventAnswer },
     /// The proposal takes its latches and waits.
-    Admits { proposal: Proposal },
+    Admits { proposal: Boxed<Proposal> },
     /// The ask is to be put in the buffer, and stands among those that a collect lets through.
     Asks { ask: LeaseAsk },
     /// What the buffer gave, at most 16 items, which are handed in last.
@@ -69,7 +70,7 @@ pub enum ReplicaPlan {
     /// A flush, a tick or a message: an event of Raft with payloads behind it.
     HandsOver { hand: HandOver },
     /// The log is cut.
-    Cuts { raft: RaftPlan<Snapshot> },
+    Cuts { raft: Boxed<RaftPlan<Snapshot>> },
     /// All that is pending ends, and the replica is taken down.
     Removes { outcomes: Outcomes },
     /// All that is pending ends, and the replica starts again.
@@ -88,8 +89,8 @@ impl ReplicaPlan {
             | ReplicaPlan::Asks { .. }
             | ReplicaPlan::Collects { .. } => (0, 0),
             ReplicaPlan::Applies { application } => (0, application.outcomes.len()),
-            ReplicaPlan::HandsOver { hand } => (hand.raft.sends(), hand.outcomes.len()),
-            ReplicaPlan::Cuts { raft } => (raft.sends(), 0),
+            ReplicaPlan::HandsOver { hand } => (hand.raft.get().sends(), hand.outcomes.len()),
+            ReplicaPlan::Cuts { raft } => (raft.get().sends(), 0),
             ReplicaPlan::Removes { outcomes } => (0, outcomes.len()),
             ReplicaPlan::Restarts { outcomes } => (0, outcomes.len()),
         }
@@ -106,7 +107,9 @@ impl ReplicaPlan {
         ensures room { (room : Room) → HasRoom room self.old → HasRoom room self.new }
     {
         match self {
-            ReplicaPlan::Applies { application } => application.right.take(),
+            ReplicaPlan::Applies { application } => {
+                application.right.take().map(Boxed::into_inner)
+            }
             _ => None,
         }
     }

@@ -13,9 +13,11 @@ ghost use Rattle.rp_replica.specs.Plans.{IsPlan};
 ghost use Rattle.rp_replica.specs.Refreshing.{IsRefresh, after_taken, draft_in, refresh_behind};
 ghost use Rattle.rp_replica.specs.Rooms.{IsRoomWithin};
 
+use crate::boxed::Boxed;
 use crate::ends::Cause;
 use crate::payloads::push_moves;
 use crate::plans::{HandOver, ReplicaPlan};
+use crate::rafts::{extend, plan};
 use crate::replicas::Replica;
 use rp_base::{CmdId, NoMemory, NodeId, Seq, Tick};
 use rp_events::{Move, Outcomes};
@@ -46,6 +48,7 @@ fn push_again(moves: &mut Vec<Move>, ids: &[CmdId]) -> Result<(), NoMemory>
 }
 
 /// The moves of a refresh.
+#[inline(never)]
 fn moves_of(alloc: Global, refresh: &Refresh) -> Result<Seq<Move>, NoMemory>
     ensures { IfOk result (λ m. m ≡ refresh_moves refresh.now) }
 {
@@ -57,18 +60,19 @@ fn moves_of(alloc: Global, refresh: &Refresh) -> Result<Seq<Move>, NoMemory>
 
 impl Replica {
     /// Whether a planned event of Raft leaves another term or leader, and the leader is known.
-    fn has_new_leader(&self, raft: &RaftPlan<Snapshot>) -> bool
+    fn has_new_leader(&self, raft: &Boxed<RaftPlan<Snapshot>>) -> bool
         ensures { result ≡ has_new_leader self.now.replica.raft.head (head_after raft.now) }
     {
+        let raft = raft.get();
         let leader = raft.leader();
         leader.is_some() && !(raft.term() == self.raft.term() && leader == self.raft.leader())
     }
 
     /// The ends of what a snapshot overtakes that the planned event takes in.
-    fn overtaken(&self, raft: &RaftPlan<Snapshot>) -> Result<Outcomes, NoMemory>
+    fn overtaken(&self, raft: &Boxed<RaftPlan<Snapshot>>) -> Result<Outcomes, NoMemory>
         ensures { IfOk result (λ o. o ≡ (after_taken self.now.replica raft.now).ended) }
     {
-        match raft.taken() {
+        match raft.get().taken() {
             None => Ok(Outcomes::new(self.source.alloc)),
             Some(snapshot) => {
                 let lai = snapshot.lai();
@@ -78,11 +82,16 @@ impl Replica {
     }
 
     /// A refresh of all behind a planned event. What a snapshot overtakes is not there any more.
-    fn refresh_all(&self, raft: &RaftPlan<Snapshot>, ticks: Tick) -> Result<Refresh, NoMemory>
+    #[cold]
+    fn refresh_all(
+        &self,
+        raft: &Boxed<RaftPlan<Snapshot>>,
+        ticks: Tick,
+    ) -> Result<Refresh, NoMemory>
         ensures { IfOk result (λ f. f
             ≡ refreshing (after_taken self.now.replica raft.now).replica ticks true) }
     {
-        match raft.taken() {
+        match raft.get().taken() {
             None => self
                 .pending
                 .to_refresh(self.source.state.lai(), ticks, true),
@@ -98,7 +107,11 @@ impl Replica {
     }
 
     /// A refresh behind a message: of all where it makes a new leader known, and else of nothing.
-    fn refresh_behind(&self, raft: &RaftPlan<Snapshot>, ticks: Tick) -> Result<Refresh, NoMemory>
+    fn refresh_behind(
+        &self,
+        raft: &Boxed<RaftPlan<Snapshot>>,
+        ticks: Tick,
+    ) -> Result<Refresh, NoMemory>
         ensures { IfOk result (λ f. f ≡ refresh_behind self.now.replica raft.now ticks) }
     {
         if self.has_new_leader(raft) {
@@ -114,9 +127,9 @@ impl Replica {
     /// The planned event of Raft with these payloads behind it.
     fn extended(
         &mut self,
-        raft: RaftPlan<Snapshot>,
+        raft: Boxed<RaftPlan<Snapshot>>,
         bytes: Payloads,
-    ) -> Result<RaftPlan<Snapshot>, NoMemory>
+    ) -> Result<Boxed<RaftPlan<Snapshot>>, NoMemory>
         requires made { IsMadeIn self.old.replica.raft raft }
         requires more { CanExtend self.old.replica.raft raft bytes }
         requires does { done_by self.old.replica.raft raft
@@ -133,13 +146,13 @@ impl Replica {
         if bytes.len() == 0 {
             return Ok(raft);
         }
-        self.raft.extend(raft, bytes, &self.source)
+        extend(&mut self.raft, raft, bytes, &self.source)
     }
 
     /// A planned event of Raft, and behind it a refresh.
     fn plan_refresh(
         &mut self,
-        raft: RaftPlan<Snapshot>,
+        raft: Boxed<RaftPlan<Snapshot>>,
         refresh: Refresh,
         ticks: Tick,
         round: u64,
@@ -185,6 +198,7 @@ impl Replica {
     }
 
     /// Time goes on to this tick.
+    #[inline(never)]
     pub(crate) fn plan_tick(&mut self, ticks: Tick, round: u64) -> Result<ReplicaPlan, NoMemory>
         requires { MayRefresh self.old.replica (tick self.old.replica.raft) }
         ensures replica { self.new.replica ≡ self.old.replica }
@@ -193,7 +207,7 @@ impl Replica {
             (Some (tick self.old.replica.raft)) p (ticked self.old.replica ticks round)) }
         ensures read { OnOk result (EachReads (ticked self.old.replica ticks round).proposed) }
     {
-        let raft = self.raft.plan(RaftEvent::Tick, &self.source)?;
+        let raft = plan(&mut self.raft, RaftEvent::Tick, &self.source)?;
         let all = self.has_new_leader(&raft);
         let lai = self.source.state.lai();
         let refresh = self.pending.to_refresh(lai, ticks, all)?;
@@ -201,6 +215,7 @@ impl Replica {
     }
 
     /// A message of another node's replica comes.
+    #[inline(never)]
     pub(crate) fn plan_delivery(
         &mut self,
         from: NodeId,
@@ -218,7 +233,7 @@ impl Replica {
             (EachReads (delivered self.old.replica from message ticks round).proposed) }
     {
         let receive = RaftEvent::Receive { from, message };
-        let raft = self.raft.plan(receive, &self.source)?;
+        let raft = plan(&mut self.raft, receive, &self.source)?;
         let refresh = self.refresh_behind(&raft, ticks)?;
         self.plan_refresh(raft, refresh, ticks, round)
     }

@@ -20,6 +20,7 @@ pub(crate) fn free_all(latches: &mut Latches, ended: &[Ended])
 
 impl Replica {
     /// The snapshot's state becomes the applied one, and what it overtook ends. It takes no memory.
+    #[cold]
     pub(crate) fn take_in(&mut self, index: u64, snapshot: Snapshot, ended: &[Ended])
         requires room { 1 ≤ self.old.room.applied.pieces }
         requires ended { ended.now

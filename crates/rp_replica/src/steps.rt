@@ -12,7 +12,9 @@ ghost use Rattle.rp_raft.specs.Plans.{IsMadeIn};
 ghost use Rattle.rp_replica.specs.declared.plans.ReplicaPlan.TheVariants.{Cuts, HandsOver};
 ghost use Rattle.rp_replica.specs.Rooms.{IsRoomWithin};
 
+use crate::boxed::Boxed;
 use crate::plans::{HandOver, ReplicaPlan};
+use crate::rafts;
 use crate::replicas::Replica;
 use rp_base::{Items, Key, LeaseAsk, LeaseIndex, NoMemory, Seq, Tick};
 use rp_events::{Effects, EventAnswer, Outcomes, ReplicaEvent};
@@ -22,6 +24,7 @@ use rp_snapshot::Snapshot;
 
 impl Replica {
     /// The applied value of a key, and the applied index.
+    #[cold]
     fn plan_peek(&self, key: Key) -> ReplicaPlan
         ensures { IsPlan self.now.replica None result (peeked self.now.replica key) }
     {
@@ -35,6 +38,7 @@ impl Replica {
     }
 
     /// The log is cut up to the applied index.
+    #[cold]
     fn plan_cut(&mut self) -> Result<ReplicaPlan, NoMemory>
         requires { MayCut self.old.replica }
         ensures replica { self.new.replica ≡ self.old.replica }
@@ -42,7 +46,7 @@ impl Replica {
         ensures plan { IfOk result (λ p. IsPlan self.old.replica None p (cut self.old.replica)) }
     {
         let to = self.source.state.index();
-        let raft = self.raft.plan(RaftEvent::Cut { to }, &self.source)?;
+        let raft = rafts::plan(&mut self.raft, RaftEvent::Cut { to }, &self.source)?;
         Ok(ReplicaPlan::Cuts { raft })
     }
 
@@ -87,15 +91,16 @@ impl Replica {
     }
 
     /// Makes the room of a plan for Raft.
+    #[inline(never)]
     fn make_hand_over_room(&mut self, hand: &HandOver) -> Result<(), NoMemory>
         requires { HandOverFits self.old.replica hand.now }
         ensures replica { self.new.replica ≡ self.old.replica }
         ensures kept { IsRoomWithin self.old.room self.new.room }
         ensures room { OnOk result (HandOverRoom self.new.room hand.now) }
     {
-        self.raft.make_room(&hand.raft)?;
+        self.raft.make_room(hand.raft.get())?;
         self.inbox.make_room(hand.back)?;
-        if hand.raft.taken().is_some() {
+        if hand.raft.get().taken().is_some() {
             self.source.state.plan_reset()?;
         }
         Ok(())
@@ -123,11 +128,11 @@ impl Replica {
             }
             ReplicaPlan::Collects { .. } => self.inbox.make_room(16),
             ReplicaPlan::Applies { application } => {
-                self.source.state.plan_one(&application.payload)?;
+                self.source.state.plan_one(application.payload.get())?;
                 self.inbox.make_room(1)
             }
             ReplicaPlan::HandsOver { hand } => self.make_hand_over_room(hand),
-            ReplicaPlan::Cuts { raft } => self.raft.make_room(raft),
+            ReplicaPlan::Cuts { raft } => self.raft.make_room(raft.get()),
         }
     }
 
@@ -157,6 +162,7 @@ impl Replica {
 
     /// The event of Raft is done, a snapshot is taken in, and the moves are made. It takes no
     /// memory.
+    #[inline(never)]
     fn hand_over(&mut self, hand: HandOver) -> Effects<Snapshot>
         requires fits { HandOverFits self.old.replica hand }
         requires room { HandOverRoom self.old.room hand }
@@ -171,7 +177,7 @@ impl Replica {
             outcomes,
             ..
         } = hand;
-        let RaftOut { messages, taken } = self.raft.commit(raft);
+        let RaftOut { messages, taken } = rafts::commit(&mut self.raft, raft);
         self.open(last);
         self.take_in_where(taken, outcomes.as_slice());
         self.make_moves(moves.as_slice(), ticks, round);
@@ -183,12 +189,13 @@ impl Replica {
     }
 
     /// The log is cut. It takes no memory.
-    fn cut(&mut self, raft: RaftPlan<Snapshot>) -> Effects<Snapshot>
+    #[cold]
+    fn cut(&mut self, raft: Boxed<RaftPlan<Snapshot>>) -> Effects<Snapshot>
         requires made { IsMadeIn self.old.replica.raft raft }
         requires room { entries_of raft ≤ self.old.room.log }
         ensures { left_by self.new.replica result ≡ planned self.old.replica (Cuts raft) }
     {
-        let out = self.raft.commit(raft);
+        let out = rafts::commit(&mut self.raft, raft);
         Effects {
             answer: EventAnswer::Done,
             messages: out.messages,

@@ -12,6 +12,12 @@ use std::marker::Model;
 /// the applied state.
 #[derive(Drop)]
 pub struct Snapshot {
+    parts: Box<Parts>,
+}
+
+/// What a snapshot holds. It stands apart, so that a message moves as eight bytes what few carry.
+#[derive(Drop)]
+struct Parts {
     desc: Desc,
     lease: Lease,
     lai: LeaseIndex,
@@ -28,16 +34,17 @@ impl Model for Snapshot {
     ghost coded = { Prim.hlevel (codes, table_code) };
 
     ghost view = { λ s. record {
-      desc = s.desc;
-      lease = s.lease;
-      lai = s.lai;
-      table = s.table.map;
+      desc = s.parts.value.desc;
+      lease = s.parts.value.lease;
+      lai = s.parts.value.lai;
+      table = s.parts.value.table.map;
     } };
 }
 
 /// A snapshot of this applied state. The copy of the table has that table's allocator.
+#[cold]
 pub fn make(
-    _alloc: Global,
+    alloc: Global,
     desc: Desc,
     lease: Lease,
     lai: LeaseIndex,
@@ -51,24 +58,35 @@ pub fn make(
     }) }
 {
     let table = table.copy()?;
-    Ok(Snapshot {
+    let parts = Parts {
         desc,
         lease,
         lai,
         table,
+    };
+    Ok(Snapshot {
+        parts: Box::new(alloc, parts)?,
     })
 }
 
 impl Snapshot {
     /// A copy.
+    #[cold]
     pub fn copy(&self) -> Result<Snapshot, NoMemory>
         ensures { IfOk result (λ s. s ≡ self.now) }
     {
-        let table = self.table.copy()?;
-        Ok(Snapshot { table, ..*self })
+        let alloc = *Box::allocator(&self.parts);
+        let Parts {
+            desc,
+            lease,
+            lai,
+            ..
+        } = *self.parts;
+        make(alloc, desc, lease, lai, &self.parts.table)
     }
 
     /// The parts, as an applied state takes them in. It takes no memory, and nothing is copied.
+    #[cold]
     pub fn into_parts(self) -> (Desc, Lease, LeaseIndex, Table)
         ensures { self ≡ record {
           desc = result.0;
@@ -77,12 +95,13 @@ impl Snapshot {
           table = result.3.map;
         } }
     {
-        let Snapshot {
+        let Snapshot { parts } = self;
+        let Parts {
             desc,
             lease,
             lai,
             table,
-        } = self;
+        } = Box::into_inner(parts);
         (desc, lease, lai, table)
     }
 
@@ -90,34 +109,34 @@ impl Snapshot {
     pub fn desc(&self) -> Desc
         ensures { result ≡ self.now.desc }
     {
-        self.desc
+        self.parts.desc
     }
 
     /// The range's lease.
     pub fn lease(&self) -> Lease
         ensures { result ≡ self.now.lease }
     {
-        self.lease
+        self.parts.lease
     }
 
     /// The lease applied index.
     pub fn lai(&self) -> LeaseIndex
         ensures { result ≡ self.now.lai }
     {
-        self.lai
+        self.parts.lai
     }
 
     /// The rows.
     pub fn table(&self) -> &Table
         ensures { result.now.map ≡ self.now.table }
     {
-        &self.table
+        &self.parts.table
     }
 
     /// The number of the table's rows.
     pub fn rows(&self) -> usize
         ensures { result ≡ len self.now.table }
     {
-        self.table.len()
+        self.parts.table.len()
     }
 }

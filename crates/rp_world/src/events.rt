@@ -78,6 +78,7 @@ impl World {
 
     /// An event of a node that asks for no admission happens, and what it ended is told to the book.
     /// At want of memory nothing happens.
+    #[inline(never)]
     pub(crate) fn happen(&mut self, event: &WorldEvent) -> Result<EventAnswer, NoMemory>
         requires reached { IsReached (length self.old.world.nodes) self.old.world.nodes }
         requires comes { Comes self.old.world event.now }
@@ -120,6 +121,7 @@ impl World {
 
     /// An attempt that was not asked before asks to be admitted, and stands in the book. At want of
     /// memory nothing happens.
+    #[inline(never)]
     pub(crate) fn admit(&mut self, id: CmdId, booked: &Booked) -> Result<EventAnswer, NoMemory>
         requires reached { IsReached (length self.old.world.nodes) self.old.world.nodes }
         requires comes { Comes self.old.world (admission id booked.now) }

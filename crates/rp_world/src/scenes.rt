@@ -56,6 +56,7 @@ pub(crate) fn behind<T>(list: &[T], count: usize) -> &[T]
 }
 
 /// The message with this number, as an event of its receiver.
+#[inline(never)]
 fn delivery_of(
     alloc: Global,
     from: NodeId,
@@ -76,6 +77,7 @@ fn delivery_of(
 }
 
 /// The event as its node takes it.
+#[inline(never)]
 fn event_of(
     alloc: Global,
     nodes: &Nodes<PlainEnd>,

@@ -126,6 +126,7 @@ impl Stage {
     }
 
     /// An event of a node. At want of memory nothing happens.
+    #[inline(never)]
     pub(crate) fn step(&mut self, event: &WorldEvent) -> Result<EventAnswer, NoMemory>
         requires { Comes self.old event.now }
         ensures stage { OnOk result (self.new ≡ buffered_step self.old event.now) }

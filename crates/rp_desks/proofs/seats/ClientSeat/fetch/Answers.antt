@@ -8,7 +8,7 @@ invariant_of-self g c =
     let s = c.args.self.now in
     let is = s.seated in
     let told = hears (known_by s.seat) (known_by c.try_fetch.new.seat) s.client c.try_fetch.result is.onward.idle
-        (has g.K.Origin.from s.switch.now s.seat s.client s.client_is is) c.try_fetch.ensures.told in
+    (has g.K.Origin.from s.switch.now s.seat s.client s.client_is is) c.try_fetch.ensures.told in
     record {
       seated = seated_on g.K.Origin.from s.switch.now s.seat s.client s.client_is is c.try_fetch.new.seat c.try_fetch.ensures.same.0 told.onward;
       client_is = s.client_is;

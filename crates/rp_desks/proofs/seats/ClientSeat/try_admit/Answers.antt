@@ -104,7 +104,7 @@ invariant_of-self-2 g c =
     let own = has g.K.Origin.from s.switch.now s.seat s.client s.client_is is in
     let w = known_by c.try_take.new.seat in
     let told = tried g.E.BufferEnd.gives v w s.client c.args.node c.args.range c.args.id c.args.request.now c.in-Ok.taken s.served.0 own c.node_fits.ensures.from_one low c.in-Ok.ensures.told c.requires
-        (sym c.is_full.ensures ∙ c.if-is_full.false) c.id_fits.ensures c.request_fits.ensures c.step-answer.new.self (known_by c.give-2.new.seat) c.step-answer.result c.step-answer.ensures.ok c.step-answer.ensures.err c.give-2.ensures.told in
+    (sym c.is_full.ensures ∙ c.if-is_full.false) c.id_fits.ensures c.request_fits.ensures c.step-answer.new.self (known_by c.give-2.new.seat) c.step-answer.result c.step-answer.ensures.ok c.step-answer.ensures.err c.give-2.ensures.told in
     record {
       seated = seated_on g.K.Origin.from s.switch.now s.seat s.client s.client_is is c.give-2.new.seat (c.give-2.ensures.same.0 ∙ c.try_take.ensures.same.0) told.onward;
       client_is = s.client_is;
@@ -122,5 +122,5 @@ returns-clause-told g c =
     let own = has g.K.Origin.from s.switch.now s.seat s.client s.client_is is in
     let w = known_by c.try_take.new.seat in
     let told = tried g.E.BufferEnd.gives v w s.client c.args.node c.args.range c.args.id c.args.request.now c.in-Ok.taken s.served.0 own c.node_fits.ensures.from_one low c.in-Ok.ensures.told c.requires
-        (sym c.is_full.ensures ∙ c.if-is_full.false) c.id_fits.ensures c.request_fits.ensures c.step-answer.new.self (known_by c.give-2.new.seat) c.step-answer.result c.step-answer.ensures.ok c.step-answer.ensures.err c.give-2.ensures.told in
+    (sym c.is_full.ensures ∙ c.if-is_full.false) c.id_fits.ensures c.request_fits.ensures c.step-answer.new.self (known_by c.give-2.new.seat) c.step-answer.result c.step-answer.ensures.ok c.step-answer.ensures.err c.give-2.ensures.told in
     subst (λ r. Admits s.client v c.args.node c.args.range c.args.id r (known_by c.give-2.new.seat)) (sym c.answered.ensures) told

@@ -15,9 +15,9 @@ invariant_of-self-2 g c =
     let s = c.args.self.now in
     let is = s.seated in
     let visit = visited (known_by s.seat) (known_by c.try_take.new.seat) (known_by c.give.new.seat) c.args.node c.in-Ok.taken c.in-Ok.taken.node.node
-        c.node_fits.ensures.from_one c.requires c.in-Ok.ensures.told c.give.ensures.told in
+    c.node_fits.ensures.from_one c.requires c.in-Ok.ensures.told c.give.ensures.told in
     let looks = visit_looks (known_by s.seat) (known_by c.give.new.seat) c.args.node c.in-Ok.ensures.told.0 c.in-Ok.taken.node.node s.client visit s.served.0
-        (has g.K.Origin.from s.switch.now s.seat s.client s.client_is is) in
+    (has g.K.Origin.from s.switch.now s.seat s.client s.client_is is) in
     record {
       seated = seated_on g.K.Origin.from s.switch.now s.seat s.client s.client_is is c.give.new.seat (c.give.ensures.same.0 ∙ c.try_take.ensures.same.0) looks.stays.onward;
       client_is = s.client_is;
@@ -29,7 +29,7 @@ pub returns-clause-told : goal.returns-clause-told
 returns-clause-told g c =
     let s = c.args.self.now in
     let visit = visited (known_by s.seat) (known_by c.try_take.new.seat) (known_by c.give.new.seat) c.args.node c.in-Ok.taken c.in-Ok.taken.node.node
-        c.node_fits.ensures.from_one c.requires c.in-Ok.ensures.told c.give.ensures.told in
+    c.node_fits.ensures.from_one c.requires c.in-Ok.ensures.told c.give.ensures.told in
     let looks = visit_looks (known_by s.seat) (known_by c.give.new.seat) c.args.node c.in-Ok.ensures.told.0 c.in-Ok.taken.node.node s.client visit s.served.0
-        (has g.K.Origin.from s.switch.now s.seat s.client s.client_is s.seated) in
+    (has g.K.Origin.from s.switch.now s.seat s.client s.client_is s.seated) in
     subst (λ rounds. Looks s.client (known_by s.seat) c.args.node rounds (known_by c.give.new.seat)) (sym c.rounds-rounds.ensures) looks

@@ -4,7 +4,7 @@ use Rattle.rp_raft.specs.Plans.{CanHold, behind_of}
 use Rattle.rp_raft.proofs.Fills.{behind_fits}
 use Rattle.rp_raft.proofs.rafts.Raft.finish.Goals as goal
 
-pub advanced-after-requires-clause-hold : goal.advanced-after-requires-clause-hold
-advanced-after-requires-clause-hold g c =
+pub commit_after-commit-requires-clause-hold : goal.commit_after-commit-requires-clause-hold
+commit_after-commit-requires-clause-hold g c =
     subst (λ (z : List Entry). CanHold c.self.inside.log.log z) (sym c.behind_of-added.ensures)
     (subst (λ h. CanHold h.raft.log (behind_of c.args.draft.now.edit)) (sym c.self.view_is) (behind_fits c.args.self.now.raft.log c.args.draft.now.edit c.requires.edit))

@@ -22,5 +22,5 @@ returns c =
       inbox = c.self.inside.inbox.list;
       asks = c.self.inside.asks.items;
       barrier = c.self.inside.barrier;
-    }) c.args.hand c.commit-messages.new.self.raft _ _ c.open.new.self.replica c.take_in_where.new.self.replica _ _
+    }) c.args.hand c.commit-messages.new.raft.raft _ _ c.open.new.self.replica c.take_in_where.new.self.replica _ _
     c.commit-messages.ensures c.open.ensures.replica c.take_in_where.ensures.replica c.as_slice-2.ensures c.make_moves.ensures)

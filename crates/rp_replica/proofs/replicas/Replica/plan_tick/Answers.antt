@@ -10,7 +10,7 @@ use Rattle.rp_replica.proofs.replicas.Replica.plan_tick.Goals as goal
 pub plan_refresh-requires-clause-refresh : goal.plan_refresh-requires-clause-refresh
 plan_refresh-requires-clause-refresh c =
     tick_refresh (record {
-      raft = c.plan.new.self.raft;
+      raft = c.plan.new.raft.raft;
       applied = c.self.inside.source.state.history;
       latches = c.self.inside.latches.list;
       pending = c.self.inside.pending.list;
@@ -25,7 +25,7 @@ plan_refresh-requires-clause-refresh c =
 pub returns-clause-plan : goal.returns-clause-plan
 returns-clause-plan c =
     planned_as c.plan_refresh.result c.args.ticks c.args.round (record {
-      raft = c.plan.new.self.raft;
+      raft = c.plan.new.raft.raft;
       applied = c.self.inside.source.state.history;
       latches = c.self.inside.latches.list;
       pending = c.self.inside.pending.list;
@@ -60,7 +60,7 @@ returns-clause-plan c =
 pub returns-clause-read : goal.returns-clause-read
 returns-clause-read c =
     reads_as c.plan_refresh.result c.args.ticks c.args.round (record {
-      raft = c.plan.new.self.raft;
+      raft = c.plan.new.raft.raft;
       applied = c.self.inside.source.state.history;
       latches = c.self.inside.latches.list;
       pending = c.self.inside.pending.list;

@@ -1,0 +1,5 @@
+pub mod Rules
+pub mod Latest
+pub mod Replies
+pub mod Verdicts
+pub mod Judging

@@ -1,0 +1,11 @@
+pub mod Onward
+pub mod Lettered
+pub mod Went
+pub mod Asking
+pub mod Stages
+pub mod Rounded
+pub mod Stepping
+pub mod Halfway
+pub mod Ranging
+pub mod Copying
+pub mod Rounding

@@ -1,0 +1,5 @@
+pub mod Letters
+pub mod Inside
+pub mod Mails
+pub mod Playing
+pub mod Turns
