@@ -4,6 +4,5 @@ mod Named
 mod Visits
 mod Admitting
 mod Fetching
-mod Standing
 mod Seated
 mod Trying

@@ -13,6 +13,7 @@ use rp_bufcore::BufferEnd;
 use rp_clients::{AdmitFault, Answer, Empty};
 use rp_events::{Event, EventAnswer};
 use rp_request::Request;
+use rp_snapshot::Snapshot;
 use rp_switch::{Seat, Switch};
 use std::marker::PhantomData;
 use std::sync::Wait;
@@ -65,8 +66,8 @@ impl<'a, E: BufferEnd + Drop, K: Origin> ClientSeat<'a, E, K> {
         ensures told { Looks self.old.client (known_by self.old.seat) node result (known_by self.new.seat) }
     {
         for _ in rt.forever() {
-            if let Some(rounds) = self.try_rounds(node) {
-                return rounds;
+            if let Some(had) = self.try_rounds(node) {
+                return had;
             }
             yield_now();
         }
@@ -95,11 +96,12 @@ impl<'a, E: BufferEnd + Drop, K: Origin> ClientSeat<'a, E, K> {
             self.switch.give(&mut self.seat, taken);
             return None;
         }
-        let answer = taken.node.step(Event::Admit {
+        let event: Event<Snapshot> = Event::Admit {
             range,
             id,
             request: *request,
-        });
+        };
+        let answer = taken.node.step(event);
         self.switch.give(&mut self.seat, taken);
         Some(answered(answer))
     }
