@@ -1,0 +1,20 @@
+//! The threads of a race: one for each client that has requests and one for each worker, over one
+//! switch, its buffers and a quota. All that was handed out to them is joined again at the end.
+//!
+//! ```text
+//! let (switch, seat) = Switch::new(alloc, nodes, rules)?;
+//! let (quota, share) = Quota::new(alloc, capacity)?;
+//! let shared = Shared { switch: &switch, buffers: &buffers, quota: &quota, capacity };
+//! let back = run(rt, alloc, &shared, Rights { seat, pass, share }, gate, workers);
+//! if back.is_short { .. }                     // memory was refused to some thread
+//! let nodes = switch.close(alloc, back.rights.seat)?;
+//! ```
+#![tactic(auto)]
+
+mod backs;
+mod clients;
+mod runs;
+mod workers;
+
+pub use backs::Back;
+pub use runs::run;
