@@ -9,6 +9,10 @@
 //! if back.is_short { .. }                     // memory was refused to some thread
 //! let nodes = switch.close(alloc, back.rights.seat)?;
 //! ```
+//!
+//! The workers are started first, then the clients. Where no thread can be made for a client, it runs
+//! in the caller's thread once the others have ended; no answer tells of that. Where none can be made
+//! for a worker, the clients wait for the rounds of its nodes.
 #![tactic(auto)]
 
 mod backs;

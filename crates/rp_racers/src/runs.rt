@@ -18,10 +18,10 @@ use std::alloc::Global;
 use std::sync::Wait;
 use std::thread::Threads;
 
-/// Runs a race to its end: a thread for each client that has requests, and for each of so many workers.
-/// Gives the rights back with all that they had, and whether memory was refused to any of the threads.
-/// Where it was not, and no client heard that no more is to be waited for, each client has done all its
-/// requests.
+/// Runs a race to its end, over a switch that is new, by one thread for each client that has requests and
+/// one for each of so many workers. It hands out parts of the rights, joins them all again, and gives the
+/// rights back with what they had. `is_short` where memory was refused to one of the threads; where it was
+/// not, and no client heard that no more is to be waited for, each client has done all its requests.
 pub fn run<'a, R: Threads + Wait + Sync, E: BufferEnd + Drop + Send, G: Gate + Sync>(
     rt: &R,
     alloc: Global,
