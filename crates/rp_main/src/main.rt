@@ -24,13 +24,6 @@ fn main(rt: HostRuntime) -> ExitCode {
     };
     let mut source = StdSource::new(rt.reader());
     let mut sink = StdSink::new(io::writer(&rt));
-    let code = top_call(
-        &rt,
-        rt.alloc(),
-        &words,
-        &mut source,
-        &mut sink,
-        &PlainGate,
-    );
+    let code = top_call(&rt, rt.alloc(), &words, &mut source, &mut sink, &PlainGate);
     ExitCode::from(code)
 }

@@ -136,7 +136,16 @@ fn scripts_that_are_refused(rt: HostRuntime) -> Result<(), Fail> {
         ),
         ("cluster 1\nsettle 0\n", "refused 2 2 out-of-range\n"),
     ] {
-        assert!(rt; gives(&rt, rt.alloc(), "run", script.as_bytes(), 3, output.as_bytes())?);
+        assert!(rt;
+            gives(
+                &rt,
+                rt.alloc(),
+                "run",
+                script.as_bytes(),
+                3,
+                output.as_bytes()
+            )?
+        );
     }
     Ok(())
 }

@@ -1,5 +1,5 @@
 -- What a call answers and writes.
-use Rattle.std.specs.Prelude.{◌≡◌, ℕ, ◌++◌, List, [], ◌∷◌, Option, None, Some, Result, Ok, Err, codes}
+use Rattle.std.specs.Prelude.{◌≡◌, ℕ, ◌++◌, List, [], Option, Result, Ok, Err, codes}
 use Rattle.rp_base.specs.declared.Which.{Which}
 use Rattle.rp_base.specs.declared.Which.TheVariants.{Lines, LineBytes, Commands, Events, Weight, ReportBytes, DiskBytes}
 use Rattle.rp_outside.specs.Devices.{Adds, AddsFront}

@@ -1,5 +1,5 @@
 //! What is written: a view in a form, or why a script was not played to its end.
-ghost use Rattle.std.specs.Prelude.{◌≡◌, ◌≢◌, ◌≤◌, ◌++◌, IfOk, OnOk};
+ghost use Rattle.std.specs.Prelude.{◌≡◌, ◌≢◌, ℕ, ◌≤◌, ◌++◌, IfOk, OnOk};
 ghost use Rattle.rp_outside.specs.Devices.{Rose};
 ghost use Rattle.rp_report.specs.Shown.{IsShownView};
 ghost use Rattle.rp_top.specs.Answers.{Writes, kind_text, which_text, fault_line, fault_status, written};
@@ -105,6 +105,7 @@ pub fn put_fault<K: Sink>(alloc: Global, sink: &mut K, fault: ScriptFault) -> St
     ensures calm { result ≢ Status.WriteFault → K.faults sink.new ≡ K.faults sink.old }
     ensures reads { result ≢ Status.ReadFault }
     ensures fails { result ≢ Status.Ok }
+    ensures ended { (unended : ℕ) → result ≢ Status.Unfinished unended }
 {
     let Ok(text) = fault_text(alloc, fault) else {
         return Status::NoMemory;

@@ -10,9 +10,10 @@ ghost use Rattle.rp_report.specs.Shown.{IsShownAnswer};
 ghost use Rattle.rp_report.specs.declared.views.View.{View};
 ghost use Rattle.rp_script.specs.Bounds.{IsScript};
 ghost use Rattle.rp_script.specs.declared.faults.LineKind.{LineKind};
+ghost use Rattle.rp_script.specs.declared.faults.ScriptFault.{ScriptFault};
 ghost use Rattle.rp_script.specs.declared.faults.ScriptFault.TheVariants.{Refused, Limit};
 ghost use Rattle.rp_switch.specs.Openings.{bare};
-ghost use Rattle.rp_top.specs.Answers.{written};
+ghost use Rattle.rp_top.specs.Answers.{fault_status, written};
 ghost use Rattle.rp_top.specs.Races.{race_script, EndsRaceEarly, IsRaceDue, IsShownRace, MayEnd, RaceAnswers};
 ghost use Rattle.rp_words.specs.Asked.{IsPlan};
 
@@ -132,6 +133,41 @@ fn put_race<R: Threads + Wait + Sync, K: Sink, G: Gate + Sync>(
     }
 }
 
+/// Reads a script of a race to its end, plays it, and writes how it ended, each with the causes of its
+/// answers.
+fn call<R: Threads + Wait + Sync, S: Source, K: Sink, G: Gate + Sync>(
+    rt: &R,
+    alloc: Global,
+    source: &mut S,
+    sink: &mut K,
+    plan: RacePlan,
+    gate: &G,
+) -> Status
+    requires { IsPlan plan }
+    ensures answers { (bytes : List ℕ) × IsAll (S.left source.old) bytes
+        × RaceAnswers result plan (race_script bytes) (K.held sink.old) (K.held sink.new) }
+    ensures early { (fault : ScriptFault) → result ≡ fault_status fault
+        → EndsRaceEarly fault (S.left source.old) (S.left source.new) }
+    ensures end { result ≡ Status.Ok → IsAtEnd (S.left source.new) }
+    ensures open_end { (unended : ℕ) → result ≡ Status.Unfinished unended
+        → IsAtEnd (S.left source.new) }
+    ensures source { S.faults source.old ≤ S.faults source.new }
+    ensures sink { K.faults sink.old ≤ K.faults sink.new }
+    ensures read_fault { result ≡ Status.ReadFault
+        → Rose (S.faults source.old) (S.faults source.new) }
+    ensures write_fault { result ≡ Status.WriteFault
+        → Rose (K.faults sink.old) (K.faults sink.new) }
+    ensures source_calm { result ≢ Status.ReadFault → S.faults source.new ≡ S.faults source.old }
+    ensures sink_calm { result ≢ Status.WriteFault → K.faults sink.new ≡ K.faults sink.old }
+{
+    match read_script(alloc, source, true) {
+        Ok(lines) => put_race(rt, alloc, sink, lines.as_slice(), plan, gate),
+        Err(Stop::Judged { fault }) => put_fault(alloc, sink, fault),
+        Err(Stop::ReadFault) => Status::ReadFault,
+        Err(Stop::NoMemory) => Status::NoMemory,
+    }
+}
+
 /// Reads a script of a race from the source, plays it by clients and workers on threads of their own,
 /// and writes what the nodes show at the close to the sink. It waits for these threads; what is said
 /// here holds where it returns.
@@ -190,10 +226,5 @@ pub fn race_call<R: Threads + Wait + Sync, S: Source, K: Sink, G: Gate + Sync>(
         → (bytes : List ℕ) × IsAll (S.left source.old) bytes
         × ((result ≡ Status.NoMemory) ⊎ MayEnd (race_script bytes) result) }
 {
-    match read_script(alloc, source, true) {
-        Ok(lines) => put_race(rt, alloc, sink, lines.as_slice(), plan, gate),
-        Err(Stop::Judged { fault }) => put_fault(alloc, sink, fault),
-        Err(Stop::ReadFault) => Status::ReadFault,
-        Err(Stop::NoMemory) => Status::NoMemory,
-    }
+    call(rt, alloc, source, sink, plan, gate)
 }
