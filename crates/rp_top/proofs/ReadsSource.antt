@@ -8,7 +8,7 @@ use Rattle.rp_script.specs.declared.faults.ScriptFault.{ScriptFault}
 use Rattle.rp_script.specs.declared.lines.NumberedLine.{NumberedLine}
 use Rattle.rp_script.proofs.ReadsLines.{append-nil, reads_meaning, reads_pieces}
 use Rattle.rp_base.specs.declared.lists.Seq.{Seq}
-use Rattle.rp_top.specs.Gives.{Gives, HasCome, HasStopped}
+use Rattle.rp_top.specs.Gives.{Gives, HasCome, HasStopped, LeadsOn}
 use Rattle.rp_top.specs.declared.stops.Stop.{Stop}
 use Rattle.rp_top.specs.declared.stops.Stop.TheVariants as stops
 
@@ -89,3 +89,7 @@ came_no_further race a b c r piece (stops.Judged first) h came few gives fault s
     judged e = cc
 came_no_further race a b c r piece stops.NoMemory h came few gives fault same = absurd (cc)
 came_no_further race a b c r piece stops.ReadFault h came few gives fault same = absurd (cc)
+
+-- the source failed: what had come leads on
+pub came_so_far : (race : Bool) (a b c : Option (List ℕ)) (r : Reading) → HasCome race a b r → c ≡ b → LeadsOn race a c
+came_so_far race a b c r h same = (r, subst (λ (left : Option (List ℕ)). HasCome race a left r) (sym same) h)

@@ -1,5 +1,5 @@
 -- What the words of the program ask for, and what the calls answer to it.
-use Rattle.std.proofs.Common.{◌≡◌, ℕ, ◌⊎◌, inl, inr, List, Option, None, Some, Result, Ok, Err, refl, ap, ◌∙◌, sym, subst}
+use Rattle.std.proofs.Common.{◌≡◌, ℕ, ◌⊎◌, inl, inr, true, false, List, Option, None, Some, Result, Ok, Err, refl, ap, ◌∙◌, sym, subst}
 use Rattle.rp_base.specs.declared.Which.{Which}
 use Rattle.rp_gen.specs.Scripts.{script_of as generated}
 use Rattle.rp_lines.specs.Players.{Player}
@@ -10,11 +10,12 @@ use Rattle.rp_script.specs.declared.faults.LineKind.{LineKind}
 use Rattle.rp_script.specs.declared.faults.ScriptFault.{ScriptFault}
 use Rattle.rp_script.specs.declared.faults.ScriptFault.TheVariants as faults
 use Rattle.rp_top.specs.Answers.{Answers, Writes, IsOutput, fault_status, status_of}
+use Rattle.rp_top.specs.Gives.{LeadsOn}
 use Rattle.rp_top.specs.Races.{EndsRaceEarly, IsShownRace, MayEnd, RaceAnswers, race_script}
 use Rattle.rp_top.specs.Runs.{EndsEarly, IsShownRun}
 use Rattle.rp_top.specs.Scripts.{run_of}
 use Rattle.rp_top.specs.Status.{code_of}
-use Rattle.rp_top.specs.Tops.{EndsAsked, EndsAskedEarly, EndsOpen, EndsUnfinished, EndsWell, IsDue, IsStatusDue, IsStatusFor, IsTextDue, StopsEarly, usage_line}
+use Rattle.rp_top.specs.Tops.{EndsAsked, EndsAskedEarly, EndsOpen, EndsUnfinished, EndsWell, FailsReading, IsDue, IsStatusDue, IsStatusFor, IsTextDue, LeadsOnFor, StopsEarly, usage_line}
 use Rattle.rp_top.specs.declared.statuses.Status.{Status}
 use Rattle.rp_top.specs.declared.statuses.Status.TheVariants as statuses
 use Rattle.rp_top.proofs.RaceProof.{some_script, writes_map}
@@ -70,6 +71,16 @@ coded_fault statuses.NoMemory n (inl three) e = absurd (cc)
 coded_fault statuses.NoMemory n (inr four) e = absurd (cc)
 coded_fault (statuses.Unfinished unended) n (inl three) e = absurd (cc)
 coded_fault (statuses.Unfinished unended) n (inr four) e = absurd (cc)
+
+coded_read : (s : Status) → code_of s ≡ 5 → s ≡ statuses.ReadFault
+coded_read statuses.Ok e = absurd (cc)
+coded_read statuses.Usage e = absurd (cc)
+coded_read (statuses.Refused line word kind) e = absurd (cc)
+coded_read (statuses.Limit which count) e = absurd (cc)
+coded_read statuses.ReadFault e = refl
+coded_read statuses.WriteFault e = absurd (cc)
+coded_read statuses.NoMemory e = absurd (cc)
+coded_read (statuses.Unfinished unended) e = absurd (cc)
 
 -- what the answers of the whole program say
 abbrev pub TopAnswers : Option (List ℕ) → List (List ℕ) → ℕ → (old new : Option (List ℕ)) → Type 0
@@ -144,7 +155,17 @@ pub run_complete : (left : Option (List ℕ)) (words : List (List ℕ)) (status 
     → ((x : List ℕ) × IsAll left x × ((status ≡ statuses.NoMemory) ⊎ (status ≡ status_of (run_of x)))) → TopComplete left words code
 run_complete left words status code form asked coded h = (h.0, h.1, run_complete_by words status code form h.0 asked coded h.2)
 
+pub run_fails : (left now : Option (List ℕ)) (words : List (List ℕ)) (status : Status) (code : ℕ) (form : Form)
+    → asked_of words ≡ Some (asks.Run form) → code ≡ code_of status → (status ≡ statuses.ReadFault → LeadsOn false left now) → code ≡ 5 → FailsReading words left now
+run_fails left now words status code form asked coded leads five =
+    let P : Option Asked → Type 0 = λ o. LeadsOnFor o left now in subst P (sym asked) (leads (coded_read status (sym coded ∙ five)))
+
 -- a race was asked for
+pub race_fails : (left now : Option (List ℕ)) (words : List (List ℕ)) (status : Status) (code : ℕ) (plan : RacePlan)
+    → asked_of words ≡ Some (asks.Race plan) → code ≡ code_of status → (status ≡ statuses.ReadFault → LeadsOn true left now) → code ≡ 5 → FailsReading words left now
+race_fails left now words status code plan asked coded leads five =
+    let P : Option Asked → Type 0 = λ o. LeadsOnFor o left now in subst P (sym asked) (leads (coded_read status (sym coded ∙ five)))
+
 pub race_answers : (left : Option (List ℕ)) (words : List (List ℕ)) (status : Status) (code : ℕ) (old new : Option (List ℕ)) (plan : RacePlan)
     → asked_of words ≡ Some (asks.Race plan) → code ≡ code_of status → ((x : List ℕ) × IsAll left x × RaceAnswers status plan (race_script x) old new)
     → TopAnswers left words code old new

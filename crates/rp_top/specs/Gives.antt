@@ -39,6 +39,10 @@ pub record HasCome (race : Bool) (old new : Option (List ℕ)) (reading : Readin
   pub comes : Comes old bytes new
   pub leads : fed_all (unread race) bytes ≡ Ok reading
 
+-- what came of the source so far leads on: no refusal and no limit stands in it
+abbrev pub LeadsOn : (race : Bool) → (old new : Option (List ℕ)) → Type 0
+LeadsOn race old new = (reading : Reading) × HasCome race old new reading
+
 -- the piece holds what ends the reading; or the source ends, and that does
 abbrev pub EndsIn : Reading → (piece : List ℕ) → (left : Option (List ℕ)) → ScriptFault → Type 0
 EndsIn reading piece left fault =

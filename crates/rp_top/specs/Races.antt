@@ -32,9 +32,10 @@ rules_by plan ls = rules_of plan.loss plan.salt ls
 
 -- the text shows how a race of these lines ended. There is one lawful list of events, and one world, to
 -- which it leads from the start of the nodes that the lines name. Clients and workers played it by the
--- rules: each client sent its requests in order, as its tries went, and each round heard what it was owed.
--- The promise holds of this world, and in it the race ended by this verdict. The text is what this world
--- shows in the form, with a reply line for each command of the lines and no notes
+-- rules: each client's commands are its requests by number, each try at the node and in the range that it
+-- is to aim at after the ends of those before it, and each round heard what it was owed. The promise holds
+-- of this world, and in it the race ended by this verdict. The text is what this world shows in the form,
+-- with a reply line for each command of the lines and no notes
 pub record ShowsRace (plan : RacePlan) (ls : List NumberedLine) (verdict : Verdict) (text : List ℕ)
     : Type 0 where
   pub world : World

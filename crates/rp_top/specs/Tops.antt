@@ -1,11 +1,12 @@
 -- What is due for the words of the program (this project).
-use Rattle.std.specs.Prelude.{◌≡◌, ℕ, ◌++◌, List, Option, None, Some, codes}
+use Rattle.std.specs.Prelude.{◌≡◌, ℕ, ◌++◌, true, false, List, Option, None, Some, codes}
 use Rattle.rp_gen.specs.Scripts.{script_of as generated}
 use Rattle.rp_outside.specs.Devices.{Adds, IsAtEnd}
 use Rattle.rp_racelines.specs.declared.verdicts.Verdict.TheVariants as verdicts
 use Rattle.rp_report.specs.Words.{newline}
 use Rattle.rp_script.specs.declared.faults.ScriptFault.{ScriptFault}
 use Rattle.rp_top.specs.Answers.{IsOutput, status_of}
+use Rattle.rp_top.specs.Gives.{LeadsOn}
 use Rattle.rp_top.specs.Races.{race_script, EndsRaceEarly, IsRaceDue, IsShownRace, MayEnd}
 use Rattle.rp_top.specs.Runs.{EndsEarly, IsShownRun}
 use Rattle.rp_top.specs.Scripts.{run_of}
@@ -85,3 +86,13 @@ EndsAskedEarly (Some (asks.Gen number size)) fault old new = ⊥
 
 abbrev pub StopsEarly : List (List ℕ) → ScriptFault → (old new : Option (List ℕ)) → Type 0
 StopsEarly words fault old new = EndsAskedEarly (asked_of words) fault old new
+
+-- a script was asked for, and what had come of its source when that failed leads on, as a run's or a race's
+abbrev pub LeadsOnFor : Option Asked → (old new : Option (List ℕ)) → Type 0
+LeadsOnFor None old new = ⊥
+LeadsOnFor (Some (asks.Run form)) old new = LeadsOn false old new
+LeadsOnFor (Some (asks.Race plan)) old new = LeadsOn true old new
+LeadsOnFor (Some (asks.Gen number size)) old new = ⊥
+
+abbrev pub FailsReading : List (List ℕ) → (old new : Option (List ℕ)) → Type 0
+FailsReading words old new = LeadsOnFor (asked_of words) old new

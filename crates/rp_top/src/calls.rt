@@ -1,5 +1,5 @@
 //! The calls of one thread: a script is read, played and shown, or made.
-ghost use Rattle.std.specs.Prelude.{◌≡◌, ◌≢◌, ℕ, ◌≤◌, ◌⊎◌, List, length, Ok};
+ghost use Rattle.std.specs.Prelude.{◌≡◌, ◌≢◌, ℕ, ◌≤◌, ◌⊎◌, false, List, length, Ok};
 ghost use Rattle.rp_events.specs.Lawful.{IsReached};
 ghost use Rattle.rp_gen.specs.Scripts.{script_of as generated};
 ghost use Rattle.rp_lines.specs.Players.{Player};
@@ -11,6 +11,7 @@ ghost use Rattle.rp_script.specs.declared.faults.LineKind.{LineKind};
 ghost use Rattle.rp_script.specs.declared.faults.ScriptFault.{ScriptFault};
 ghost use Rattle.rp_script.specs.declared.faults.ScriptFault.TheVariants.{Refused, Limit};
 ghost use Rattle.rp_top.specs.Answers.{Answers, Writes, fault_status, status_of};
+ghost use Rattle.rp_top.specs.Gives.{LeadsOn};
 ghost use Rattle.rp_top.specs.Runs.{EndsEarly, IsShownRun};
 ghost use Rattle.rp_top.specs.Scripts.{by_play, play_of, run_of};
 
@@ -78,6 +79,8 @@ fn call<S: Source, K: Sink>(alloc: Global, source: &mut S, sink: &mut K, form: F
     ensures sink { K.faults sink.old ≤ K.faults sink.new }
     ensures read_fault { result ≡ Status.ReadFault
         → Rose (S.faults source.old) (S.faults source.new) }
+    ensures fails { result ≡ Status.ReadFault
+        → LeadsOn false (S.left source.old) (S.left source.new) }
     ensures write_fault { result ≡ Status.WriteFault
         → Rose (K.faults sink.old) (K.faults sink.new) }
     ensures source_calm { result ≢ Status.ReadFault → S.faults source.new ≡ S.faults source.old }
@@ -111,7 +114,7 @@ pub fn run_call<S: Source, K: Sink>(
     ensures end { result ≡ Status.Ok → IsAtEnd (S.left source.new) }
 
     // Each other answer has its cause, and a fault has its answer. Nothing was read behind the piece
-    // with the refusal or the limit.
+    // with the refusal or the limit; where the source failed, none stands in what had come.
     ensures usage { result ≢ Status.Usage }
     ensures refused { (line word : ℕ) (kind : LineKind) → result ≡ Status.Refused line word kind
         → EndsEarly (Refused line word kind) (S.left source.old) (S.left source.new) }
@@ -121,6 +124,8 @@ pub fn run_call<S: Source, K: Sink>(
     ensures sink { K.faults sink.old ≤ K.faults sink.new }
     ensures read_fault { result ≡ Status.ReadFault
         → Rose (S.faults source.old) (S.faults source.new) }
+    ensures fails { result ≡ Status.ReadFault
+        → LeadsOn false (S.left source.old) (S.left source.new) }
     ensures write_fault { result ≡ Status.WriteFault
         → Rose (K.faults sink.old) (K.faults sink.new) }
     ensures source_calm { result ≢ Status.ReadFault → S.faults source.new ≡ S.faults source.old }

@@ -1,6 +1,6 @@
 //! A race: its script is read, clients and workers play it on threads of their own, and what the nodes
 //! show at the close is written.
-ghost use Rattle.std.specs.Prelude.{◌≡◌, ◌≢◌, ℕ, ◌≤◌, ◌⊎◌, List, [], length, All, IfOk, Ok};
+ghost use Rattle.std.specs.Prelude.{◌≡◌, ◌≢◌, ℕ, ◌≤◌, ◌⊎◌, true, List, [], length, All, IfOk, Ok};
 ghost use Rattle.rp_base.specs.declared.Which.{Which};
 ghost use Rattle.rp_events.specs.Lawful.{IsReached};
 ghost use Rattle.rp_lines.specs.Views.{IsViewWith};
@@ -14,6 +14,7 @@ ghost use Rattle.rp_script.specs.declared.faults.ScriptFault.{ScriptFault};
 ghost use Rattle.rp_script.specs.declared.faults.ScriptFault.TheVariants.{Refused, Limit};
 ghost use Rattle.rp_switch.specs.Openings.{bare};
 ghost use Rattle.rp_top.specs.Answers.{fault_status, written};
+ghost use Rattle.rp_top.specs.Gives.{LeadsOn};
 ghost use Rattle.rp_top.specs.Races.{race_script, EndsRaceEarly, IsRaceDue, IsShownRace, MayEnd, RaceAnswers};
 ghost use Rattle.rp_words.specs.Asked.{IsPlan};
 
@@ -155,6 +156,8 @@ fn call<R: Threads + Wait + Sync, S: Source, K: Sink, G: Gate + Sync>(
     ensures sink { K.faults sink.old ≤ K.faults sink.new }
     ensures read_fault { result ≡ Status.ReadFault
         → Rose (S.faults source.old) (S.faults source.new) }
+    ensures fails { result ≡ Status.ReadFault
+        → LeadsOn true (S.left source.old) (S.left source.new) }
     ensures write_fault { result ≡ Status.WriteFault
         → Rose (K.faults sink.old) (K.faults sink.new) }
     ensures source_calm { result ≢ Status.ReadFault → S.faults source.new ≡ S.faults source.old }
@@ -204,7 +207,7 @@ pub fn race_call<R: Threads + Wait + Sync, S: Source, K: Sink, G: Gate + Sync>(
         → IsAtEnd (S.left source.new) }
 
     // Each other answer has its cause, and a fault has its answer. Nothing was read behind the piece
-    // with the refusal or the limit.
+    // with the refusal or the limit; where the source failed, none stands in what had come.
     ensures usage { result ≢ Status.Usage }
     ensures refused { (line word : ℕ) (kind : LineKind) → result ≡ Status.Refused line word kind
         → EndsRaceEarly (Refused line word kind) (S.left source.old) (S.left source.new) }
@@ -214,6 +217,8 @@ pub fn race_call<R: Threads + Wait + Sync, S: Source, K: Sink, G: Gate + Sync>(
     ensures sink { K.faults sink.old ≤ K.faults sink.new }
     ensures read_fault { result ≡ Status.ReadFault
         → Rose (S.faults source.old) (S.faults source.new) }
+    ensures fails { result ≡ Status.ReadFault
+        → LeadsOn true (S.left source.old) (S.left source.new) }
     ensures write_fault { result ≡ Status.WriteFault
         → Rose (K.faults sink.old) (K.faults sink.new) }
     ensures source_calm { result ≢ Status.ReadFault → S.faults source.new ≡ S.faults source.old }

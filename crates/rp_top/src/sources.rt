@@ -5,7 +5,7 @@ ghost use Rattle.rp_script.specs.Bounds.{IsScript};
 ghost use Rattle.rp_script.specs.Meaning.{meaning};
 ghost use Rattle.rp_script.specs.Reading.{fed_all, finished, weight};
 ghost use Rattle.rp_script.specs.declared.faults.ScriptFault.{ScriptFault};
-ghost use Rattle.rp_top.specs.Gives.{Gives, HasStopped};
+ghost use Rattle.rp_top.specs.Gives.{Gives, HasStopped, LeadsOn};
 
 use crate::stops::{Stop, stop_of};
 use rp_base::Seq;
@@ -51,6 +51,7 @@ pub fn read_script<S: Source>(
     ensures end { OnOk result (IsAtEnd (S.left source.new)) }
     ensures stops { (fault : ScriptFault) → result ≡ Err (Stop.Judged fault)
         → HasStopped race (S.left source.old) (S.left source.new) fault }
+    ensures fails { result ≡ Err Stop.ReadFault → LeadsOn race (S.left source.old) (S.left source.new) }
     ensures few { IfOk result (λ lines. length lines ≤ 65536) }
     ensures is_script { IfOk result IsScript }
     ensures faults { S.faults source.old ≤ S.faults source.new }

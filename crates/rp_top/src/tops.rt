@@ -4,7 +4,7 @@ ghost use Rattle.rp_outside.specs.Devices.{Rose, Adds, IsAll};
 ghost use Rattle.rp_script.specs.declared.faults.ScriptFault.{ScriptFault};
 ghost use Rattle.rp_top.specs.Answers.{Writes, fault_status};
 ghost use Rattle.rp_top.specs.Status.{code_of};
-ghost use Rattle.rp_top.specs.Tops.{EndsUnfinished, EndsWell, IsScriptAsked, IsStatusDue, IsTextDue, StopsEarly, usage_line};
+ghost use Rattle.rp_top.specs.Tops.{EndsUnfinished, EndsWell, FailsReading, IsScriptAsked, IsStatusDue, IsTextDue, StopsEarly, usage_line};
 ghost use Rattle.rp_words.specs.Asked.{asked_of};
 
 use crate::calls::{gen_call, run_call};
@@ -77,6 +77,8 @@ pub fn top_call<R: Threads + Wait + Sync, S: Source, K: Sink, G: Gate + Sync>(
     ensures source { S.faults source.old ≤ S.faults source.new }
     ensures sink { K.faults sink.old ≤ K.faults sink.new }
     ensures read_fault { result ≡ 5 → Rose (S.faults source.old) (S.faults source.new) }
+    ensures fails { result ≡ 5
+        → FailsReading (map string_bytes words.now) (S.left source.old) (S.left source.new) }
     ensures write_fault { result ≡ 6 → Rose (K.faults sink.old) (K.faults sink.new) }
     ensures source_calm { result ≢ 5 → S.faults source.new ≡ S.faults source.old }
     ensures sink_calm { result ≢ 6 → K.faults sink.new ≡ K.faults sink.old }

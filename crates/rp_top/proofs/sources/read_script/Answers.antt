@@ -1,5 +1,5 @@
 use Rattle.std.proofs.Common.{arith, length-take, ◌∙◌}
-use Rattle.rp_top.proofs.ReadsSource.{any_script, came_further, came_no_further, came_stopped, came_whole}
+use Rattle.rp_top.proofs.ReadsSource.{any_script, came_further, came_so_far, came_no_further, came_stopped, came_whole}
 use Rattle.rp_top.proofs.sources.read_script.Goals as goal
 
 pub returns-in_default-clause-script : goal.returns-in_default-clause-script
@@ -22,3 +22,6 @@ loop-n-preserved g c = record {
   came = came_further _ _ _ _ _ _ _ c.loop-n.invariant.came c.in-Ok.ensures.comes c.in-Ok-feed.ensures.gives;
   calm = c.in-Ok.ensures.calm ∙ c.loop-n.invariant.calm;
 }
+
+pub returns-in_default-clause-fails : goal.returns-in_default-clause-fails
+returns-in_default-clause-fails g c = λ failed. came_so_far _ _ _ _ _ c.loop-n.invariant.came c.in_default.ensures.failed

@@ -1,5 +1,5 @@
 use Rattle.std.specs.Prelude.{map, string_bytes}
-use Rattle.rp_top.proofs.TopProof.{made_answers, made_complete, made_well, race_answers, race_complete, race_early, race_open, race_well, refused_answers, refused_complete, run_answers, run_complete, run_early, run_open, run_usage, run_well, unused_answers, unused_complete}
+use Rattle.rp_top.proofs.TopProof.{made_answers, made_complete, made_well, race_answers, race_complete, race_early, race_fails, race_open, race_well, refused_answers, refused_complete, run_answers, run_complete, run_early, run_fails, run_open, run_usage, run_well, unused_answers, unused_complete}
 use Rattle.rp_top.proofs.tops.top_call.Goals as goal
 
 pub returns-in-Ok-Run-clause-answers : goal.returns-in-Ok-Run-clause-answers
@@ -85,3 +85,12 @@ pub returns-in-Err-Usage-clause-complete : goal.returns-in-Err-Usage-clause-comp
 returns-in-Err-Usage-clause-complete g c = λ read write.
     unused_complete _ (map string_bytes c.args.words.now) c.put_usage.result _ _ (c.in-Err-Usage.ensures.err c.in-Err-Usage.field-0-is) c.code-in-Err-Usage.ensures
     c.put_usage.ensures.known c.put_usage.ensures.cause write
+
+pub returns-in-Ok-Run-clause-fails : goal.returns-in-Ok-Run-clause-fails
+returns-in-Ok-Run-clause-fails g c =
+    run_fails _ _ (map string_bytes c.args.words.now) c.run_call.result _ _ (rw c.in-Ok-Run.field-0-is at c.in-Ok-Run.ensures.ok) c.code.ensures c.run_call.ensures.fails
+
+pub returns-in-Ok-Race-clause-fails : goal.returns-in-Ok-Race-clause-fails
+returns-in-Ok-Race-clause-fails g c =
+    race_fails _ _ (map string_bytes c.args.words.now) c.race_call.result _ _ (rw c.in-Ok-Race.field-0-is at c.in-Ok-Race.ensures.ok) c.code-in-Ok-Race.ensures
+    c.race_call.ensures.fails
