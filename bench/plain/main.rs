@@ -89,9 +89,15 @@ fn main() -> ExitCode {
                 _ => (2, "usage\n".to_string()),
             }
         }
-        ["race", number, nodes, clients, commands, kind @ ("mixed" | "adds")] => {
-            match (number.parse(), nodes.parse(), clients.parse(), commands.parse()) {
-                (Ok(n), Ok(nodes @ 1..=5), Ok(clients @ 1..=64), Ok(count)) => (0, races::script(n, nodes, clients, count, *kind == "mixed")),
+        ["race", number, nodes, clients, commands, kind] => {
+            let kind = match *kind {
+                "adds" => Some(races::Kind::Adds),
+                "mixed" => Some(races::Kind::Mixed),
+                "wide" => Some(races::Kind::Wide),
+                _ => None,
+            };
+            match (number.parse(), nodes.parse(), clients.parse(), commands.parse(), kind) {
+                (Ok(n), Ok(nodes @ 1..=5), Ok(clients @ 1..=64), Ok(count), Some(kind)) => (0, races::script(n, nodes, clients, count, kind)),
                 _ => (2, "usage\n".to_string()),
             }
         }
