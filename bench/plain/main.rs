@@ -1,11 +1,13 @@
 //! A plain, unproved program for the same rules as `rp run` and `rp gen`: the measure of speed, and a
 //! second reading of the rules. It reads well-formed scripts; any other is refused without a reason.
+mod audit;
 mod base;
 mod draws;
 mod large;
 mod lines;
 mod payload;
 mod raft;
+mod races;
 mod random;
 mod replica;
 mod report;
@@ -32,6 +34,24 @@ fn play(source: &str) -> Result<World, (u8, String)> {
     }
     world.ended().map_err(limit)?;
     Ok(world)
+}
+
+/// The verdict on the report at standard input: of a race, whose script and status these are, or of a run.
+fn audited(race: Option<(&str, u8)>) -> (u8, String) {
+    let mut text = String::new();
+    if std::io::stdin().read_to_string(&mut text).is_err() {
+        return (5, String::new());
+    }
+    let lines = match race.map(|(source, status)| (script::read(source), status)) {
+        None => None,
+        Some((Ok(lines), status)) => Some((lines, status)),
+        Some((Err(line), _)) => return (3, format!("refused at line {line}\n")),
+    };
+    let race = lines.as_ref().map(|(lines, status)| (lines.as_slice(), *status));
+    match audit::Report::read(&text).and_then(|report| audit::audit(race, &report)) {
+        Ok((ended, open)) => (0, format!("{ended} ended, {open} open\n")),
+        Err(wrong) => (1, format!("{wrong}\n")),
+    }
 }
 
 fn main() -> ExitCode {
@@ -69,6 +89,24 @@ fn main() -> ExitCode {
                 _ => (2, "usage\n".to_string()),
             }
         }
+        ["race", number, nodes, clients, commands, kind] => {
+            let kind = match *kind {
+                "adds" => Some(races::Kind::Adds),
+                "mixed" => Some(races::Kind::Mixed),
+                "wide" => Some(races::Kind::Wide),
+                _ => None,
+            };
+            match (number.parse(), nodes.parse(), clients.parse(), commands.parse(), kind) {
+                (Ok(n), Ok(nodes @ 1..=5), Ok(clients @ 1..=64), Ok(count), Some(kind)) => (0, races::script(n, nodes, clients, count, kind)),
+                _ => (2, "usage\n".to_string()),
+            }
+        }
+        ["sends", count] => count.parse().map_or_else(|_| (2, "usage\n".to_string()), |count| (0, races::sends(count))),
+        ["audit"] => audited(None),
+        ["audit", script, status] => match (std::fs::read_to_string(script), status.parse()) {
+            (Ok(script), Ok(status)) => audited(Some((&script, status))),
+            _ => (2, "usage\n".to_string()),
+        },
         ["run", form @ ..] => {
             let mut source = String::new();
             if std::io::stdin().read_to_string(&mut source).is_err() {

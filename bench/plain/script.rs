@@ -107,6 +107,14 @@ impl<'a> Words<'a> {
     }
 }
 
+/// The request that the next words spell.
+pub fn request_of(words: &mut std::str::SplitAsciiWhitespace) -> Option<Request> {
+    let mut at = Words(words.clone());
+    let request = at.request();
+    *words = at.0;
+    request
+}
+
 /// The lines that are not skipped, with their numbers; the number of the first that cannot be read.
 pub fn read(text: &str) -> Result<Vec<(u32, Line)>, u32> {
     let mut lines = vec![];
