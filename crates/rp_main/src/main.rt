@@ -1,6 +1,7 @@
 //! The program `rp`.
 #![tactic(auto)]
 
+use rp_clients::PlainGate;
 use rp_outside::{StdSink, StdSource};
 use rp_top::top_call;
 use std::alloc::Global;
@@ -23,5 +24,6 @@ fn main(rt: HostRuntime) -> ExitCode {
     };
     let mut source = StdSource::new(rt.reader());
     let mut sink = StdSink::new(io::writer(&rt));
-    ExitCode::from(top_call(rt.alloc(), &words, &mut source, &mut sink))
+    let code = top_call(&rt, rt.alloc(), &words, &mut source, &mut sink, &PlainGate);
+    ExitCode::from(code)
 }

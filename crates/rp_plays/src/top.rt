@@ -8,10 +8,13 @@ use crate::scripts::{
     WIPES, WIPES_SHOWN,
 };
 use rp_base::{Bytes, Seq};
+use rp_clients::PlainGate;
 use rp_outside::{MemorySink, MemorySource, SoundSink, SoundSource};
 use rp_top::{Form, Status, run_call, top_call};
 use std::alloc::Global;
+use std::sync::Wait;
 use std::test::Fail;
+use std::thread::Threads;
 
 const USAGE: &str =
     "usage: rp run [--form F] | rp race [--workers W] [--loss P] [--salt S] [--quota U] [--form F] | rp gen NUMBER SIZE\n";
@@ -38,7 +41,8 @@ fn is_held(sink: &SoundSink, text: &[u8]) -> bool {
 
 /// Whether the words and the script give this status and this output, with ample memory and no
 /// fault.
-fn gives(
+fn gives<R: Threads + Wait + Sync>(
+    rt: &R,
     alloc: Global,
     text: &str,
     script: &[u8],
@@ -49,7 +53,7 @@ fn gives(
     let mut source = SoundSource::new(bytes(alloc, script)?, 7);
     let mut sink = SoundSink::new(alloc, 64);
     sink.make_room(4096)?;
-    let code = top_call(alloc, &words, &mut source, &mut sink);
+    let code = top_call(rt, alloc, &words, &mut source, &mut sink, &PlainGate);
     Ok(code == status && is_held(&sink, output))
 }
 
@@ -68,7 +72,7 @@ fn worked_scripts(rt: HostRuntime) -> Result<(), Fail> {
         (NOTES, NOTES_SHOWN),
     ] {
         let (script, report) = (script.as_bytes(), report.as_bytes());
-        assert!(rt; gives(rt.alloc(), "run", script, 0, report)?);
+        assert!(rt; gives(&rt, rt.alloc(), "run", script, 0, report)?);
     }
     Ok(())
 }
@@ -84,12 +88,14 @@ fn words_of_the_program(rt: HostRuntime) -> Result<(), Fail> {
         ("run run", 2, USAGE),
         ("run --form", 2, USAGE),
         ("run --form=list", 2, USAGE),
-        ("race", 2, USAGE),
+        ("race", 3, "refused 3 1 not-in-race\n"),
+        ("race --workers 9", 2, USAGE),
         ("gen 7 0", 2, USAGE),
         ("gen 7 20001", 2, USAGE),
     ] {
         assert!(rt;
             gives(
+                &rt,
                 rt.alloc(),
                 words,
                 ONE_PUT.as_bytes(),
@@ -104,7 +110,7 @@ fn words_of_the_program(rt: HostRuntime) -> Result<(), Fail> {
 #[test]
 fn a_report_as_json(rt: HostRuntime) -> Result<(), Fail> {
     let (script, report) = (NO_LINE.as_bytes(), NO_LINE_JSON.as_bytes());
-    assert!(rt; gives(rt.alloc(), "run --form=json", script, 0, report)?);
+    assert!(rt; gives(&rt, rt.alloc(), "run --form=json", script, 0, report)?);
     Ok(())
 }
 
@@ -130,7 +136,16 @@ fn scripts_that_are_refused(rt: HostRuntime) -> Result<(), Fail> {
         ),
         ("cluster 1\nsettle 0\n", "refused 2 2 out-of-range\n"),
     ] {
-        assert!(rt; gives(rt.alloc(), "run", script.as_bytes(), 3, output.as_bytes())?);
+        assert!(rt;
+            gives(
+                &rt,
+                rt.alloc(),
+                "run",
+                script.as_bytes(),
+                3,
+                output.as_bytes()
+            )?
+        );
     }
     Ok(())
 }
@@ -140,6 +155,7 @@ fn scripts_past_a_limit(rt: HostRuntime) -> Result<(), Fail> {
     let lines = vec![in rt.alloc(); b'\n'; 65537]?;
     assert!(rt;
         gives(
+            &rt,
             rt.alloc(),
             "run",
             &[b'#'; 257],
@@ -147,7 +163,7 @@ fn scripts_past_a_limit(rt: HostRuntime) -> Result<(), Fail> {
             b"limit line-bytes 257\n"
         )?
     );
-    assert!(rt; gives(rt.alloc(), "run", &lines, 4, b"limit lines 65537\n")?);
+    assert!(rt; gives(&rt, rt.alloc(), "run", &lines, 4, b"limit lines 65537\n")?);
     Ok(())
 }
 

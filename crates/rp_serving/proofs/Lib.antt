@@ -9,3 +9,4 @@ pub mod Halfway
 pub mod Ranging
 pub mod Copying
 pub mod Rounding
+pub mod Giving

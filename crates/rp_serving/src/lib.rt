@@ -1,14 +1,19 @@
-//! A worker's work in a race: one round of one node, and the bench at which a worker serves its
-//! nodes, over a switch.
+//! A worker's part in a race: what it copies of other nodes for one of its own, and one round of that
+//! node, over a switch.
 //!
 //! ```text
-//! let ends = Ends::new(alloc, clients)?;                  // shared: which clients have ended
-//! let seat = switch.split_worker(&mut first, 0, 2);       // worker 0 of two
-//! let inserts = SlotInserts::new(rt, &table, pass);       // where the asks of its handovers go
-//! let mut bench = Workbench::new(rt, alloc, &switch, seat, &rules, &ends, &gate, inserts, 0, 2);
-//! let served = serve(rt, &mut bench, 0, 2, nodes);        // until all clients have ended
-//! let refused = bench.is_refused();                       // whether memory was refused to it
-//! switch.join(&mut first, bench.into_seat());
+//! let mut mail = Mail::new(alloc, two);                    // nothing has happened to node 2 yet
+//! let mut inserts = SlotInserts::new(rt, &table, pass);    // where the asks of its handovers go
+//! // each other node is taken for as long as it is copied from
+//! let taken = switch.try_take(&mut seat, one)?;
+//! let copied = mail.copy_from(&rules, one, &taken.node);
+//! switch.give(&mut seat, taken);
+//! // then a round, unless another node is more than two rounds behind
+//! let mut taken = switch.try_take(&mut seat, two)?;
+//! if !mail.is_behind(nodes, taken.node.rounds()) {
+//!     let played = play(&seat, &rules, nodes, two, &mut taken.node, &mut mail, &mut inserts);
+//! }
+//! switch.give(&mut seat, taken);                           // whole, or broken off
 //! ```
 //!
 //! A round: what was copied of the other nodes is delivered, by sender and number; a tick; a collect
@@ -24,6 +29,7 @@ mod flushes;
 mod handovers;
 mod inserts;
 mod lanes;
+pub mod laws;
 mod letters;
 mod mails;
 mod plays;

@@ -59,9 +59,9 @@ impl Mail {
         sender: &Node<E>,
     ) -> Result<(), NoMemory>
         requires { (lane : Lane) → lane_in self.old from ≡ Some lane → lane.copied ≤ length sender.now.node.sent }
-        ensures lane { (old : Lane) (new : Lane) → lane_in self.old from ≡ Some old
-            → lane_in self.new from ≡ Some new
-            → IsCopied rules.now from self.old.node sender.now.node old result new }
+        ensures lane { (old : Lane) × (new : Lane) × (lane_in self.old from ≡ Some old)
+            × (lane_in self.new from ≡ Some new)
+            × IsCopied rules.now from self.old.node sender.now.node old result new }
         ensures others { (k : ℕ) → k ≢ from - 1
             → slice_get self.new.lanes k ≡ slice_get self.old.lanes k }
         ensures node { self.new.node ≡ self.old.node }

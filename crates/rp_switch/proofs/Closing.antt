@@ -190,6 +190,7 @@ module _ {E : Type 0} where
         });
         past = subst (λ (u : Terms). AllSeen u.nodes v.seen k.world) (sym terms) full_.seen;
         heard = subst (λ (u : Terms). AllHeard u.nodes v.joined k.world) (sym terms) full_.heard;
+        admitted = full_.admitted;
         carries = λ client first last.
             carried_there t k.tries k.broken (v.terms.nodes + client - 1) (right_at v.rights (v.terms.nodes + client - 1)) (omega (arith, nodes, first))
             (has_each t s k id v at all (v.terms.nodes + client - 1) (omega (arith, nodes, clients, first, last))) (known.rights (v.terms.nodes + client - 1));

@@ -16,7 +16,7 @@ use Rattle.rp_switch.specs.declared.switch.Taken.{Taken}
 use Rattle.rp_switch.specs.declared.faults.Busy.{Busy}
 use Rattle.rp_switch.specs.declared.faults.CellBusy.{CellBusy}
 use Rattle.rp_switch.specs.declared.terms.Terms.{Terms}
-use Rattle.rp_switch.specs.Rules.{AllHeard, IsNow, IsTrueOf, clients_of}
+use Rattle.rp_switch.specs.Rules.{AllHeard, IsNow, IsTrueOf, OnlyAdmittedSince, clients_of}
 use Rattle.rp_switch.specs.Views.{Right, Lacks, Tries, Rounds, BrokenOff, Found, Knowledge, right_at, noting, taking, reaching, fetching, posting, at_rest}
 use Rattle.rp_switch.specs.Gifts.{CarriesClient, tries_known}
 use Rattle.rp_switch.specs.Plays.{giving}
@@ -88,13 +88,14 @@ is_broken BrokenOff = true
 -- What the last seat knows of the nodes at the close: they are those of a reached world, which is that of
 -- a race, but for a last round of each node whose right says that one was broken off; and what it keeps of
 -- each client's tries is all that the journals have.
--- All that it saw and heard of, and that each seat did that was joined to it, is past there. Each client made
--- its tries as it may.
+-- All that it saw and heard of, and that each seat did that was joined to it, is past there; and a node of which
+-- no round was broken off has only admitted since. Each client made its tries as it may.
 pub record Closes (v : Knowledge) (nodes : List Node) : Type 0 where
   pub reached : IsReached v.terms.nodes nodes
   pub race : IsRace v.terms.rules (λ node. is_broken (right_at v.rights (node - 1))) nodes
   pub past : AllSeen v.terms.nodes v.seen nodes
   pub heard : AllHeard v.terms.nodes v.joined nodes
+  pub admitted : OnlyAdmittedSince v.rights v.seen nodes
   pub carries : (client : ℕ) → 1 ≤ client → client ≤ clients_of v.terms → CarriesClient v client
   pub tries : (client : ℕ) → CarriesClient v client → IsTriesOf v.terms.rules nodes client (tries_known v client)
   pub each_client : (client : ℕ) → (tries : List Try) × IsTriesOf v.terms.rules nodes client tries

@@ -1,9 +1,9 @@
 -- The lines of a script, played one after another.
-use Rattle.std.proofs.Common.{◌≡◌, ℕ, suc, ◌+◌, ◌<◌, ◌≤◌, false, List, [], ◌∷◌, ◌++◌, length, take, drop, Option, Some, Result, Ok, Err, refl, ap, ◌∙◌, sym, subst, arith, length-append, append_assoc}
+use Rattle.std.proofs.Common.{◌≡◌, ℕ, suc, ◌+◌, ◌<◌, ◌≤◌, false, List, [], ◌∷◌, ◌++◌, length, take, drop, Some, Ok, Err, refl, ap, ◌∙◌, sym, subst, arith, length-append, append_assoc}
 use Rattle.std.proofs.lemmas.List.{take-append-drop}
 use Rattle.std.proofs.Math.Seq.{take-suc}
-use Rattle.std.specs.Prelude.{get_or, IsTrue}
-use Rattle.rp_script.specs.Bounds.{IsFirst, IsFromTo, Follows, AllFollow, IsScript, seen_after}
+use Rattle.std.specs.Prelude.{get_or}
+use Rattle.rp_script.specs.Bounds.{IsFirst, IsFromTo, AllFollow, IsScript}
 use Rattle.rp_script.specs.Seen.{Seen, unseen, after}
 use Rattle.rp_script.specs.declared.lines.NumberedLine.{NumberedLine}
 use Rattle.rp_script.specs.declared.lines.ScriptLine.{ScriptLine}
@@ -15,7 +15,8 @@ use Rattle.rp_events.specs.Lawful.{IsReached}
 use Rattle.rp_lawful.specs.Playable.{CanPlay, IsFront, cluster_at}
 use Rattle.rp_lawful.proofs.Playing.{can_size, script_reached, script_sound}
 use Rattle.rp_top.specs.Gives.{fault_of, stop_by}
-use Rattle.rp_top.specs.Scripts.{behind_first, by_play, nodes_in, play_of}
+use Rattle.rp_racelines.specs.Rules.{nodes_in}
+use Rattle.rp_top.specs.Scripts.{behind_first, by_play, play_of}
 use Rattle.rp_world.specs.Plays.{limit_of}
 use Rattle.rp_world.specs.declared.faults.PlayFault.{PlayFault}
 use Rattle.rp_world.specs.declared.faults.PlayFault.TheVariants as plays

@@ -1,5 +1,5 @@
 -- What a call answers and writes.
-use Rattle.std.specs.Prelude.{◌≡◌, ℕ, ◌++◌, List, [], ◌∷◌, Option, None, Some, Result, Ok, Err, codes}
+use Rattle.std.specs.Prelude.{◌≡◌, ℕ, ◌++◌, List, [], Option, Result, Ok, Err, codes}
 use Rattle.rp_base.specs.declared.Which.{Which}
 use Rattle.rp_base.specs.declared.Which.TheVariants.{Lines, LineBytes, Commands, Events, Weight, ReportBytes, DiskBytes}
 use Rattle.rp_outside.specs.Devices.{Adds, AddsFront}
@@ -12,13 +12,8 @@ use Rattle.rp_script.specs.declared.faults.ScriptFault.{ScriptFault}
 use Rattle.rp_script.specs.declared.faults.ScriptFault.TheVariants as faults
 use Rattle.rp_lines.specs.Players.{Player}
 use Rattle.rp_lines.specs.Views.{IsViewOf}
-use Rattle.rp_gen.specs.Scripts.{script_of as generated}
 use Rattle.rp_report.specs.Summary.{summary}
 use Rattle.rp_report.specs.declared.views.View.{View}
-use Rattle.rp_top.specs.Scripts.{run_of}
-use Rattle.rp_words.specs.Asked.{asked_of}
-use Rattle.rp_words.specs.declared.asks.Asked.{Asked}
-use Rattle.rp_words.specs.declared.asks.Asked.TheVariants as asks
 use Rattle.rp_words.specs.declared.asks.Form.{Form}
 use Rattle.rp_words.specs.declared.asks.Form.TheVariants as forms
 use Rattle.rp_top.specs.declared.statuses.Status.{Status}
@@ -99,43 +94,3 @@ abbrev pub Answers : Status → Form → Result Player ScriptFault
     → Option (List ℕ) → Option (List ℕ) → Type 0
 Answers status form meaning old new =
     Writes status (status_of meaning) (IsOutput form meaning) old new
-
--- what is written where the words ask for nothing
-abbrev pub usage_line : List ℕ
-usage_line = codes "usage: rp run [--form F] | rp race [--workers W] [--loss P] [--salt S] [--quota U] [--form F] | rp gen NUMBER SIZE" ++ newline
-
--- the words ask for nothing that is done
-abbrev pub IsUnused : Option Asked → Type 0
-IsUnused None = Unit {0}
-IsUnused (Some (asks.Run form)) = ⊥
-IsUnused (Some (asks.Race plan)) = Unit {0}
-IsUnused (Some (asks.Gen number size)) = ⊥
-
--- the words ask for a run
-abbrev pub IsRunAsked : Option Asked → Type 0
-IsRunAsked None = ⊥
-IsRunAsked (Some (asks.Run form)) = Unit {0}
-IsRunAsked (Some (asks.Race plan)) = ⊥
-IsRunAsked (Some (asks.Gen number size)) = ⊥
-
--- the status that is due for what is asked and a source of these bytes; a race is not played yet
-abbrev pub status_where : Option Asked → List ℕ → Status
-status_where None bytes = statuses.Usage
-status_where (Some (asks.Run form)) bytes = status_of (run_of bytes)
-status_where (Some (asks.Race plan)) bytes = statuses.Usage
-status_where (Some (asks.Gen number size)) bytes = statuses.Ok
-
--- and for these words
-abbrev pub status_due : List (List ℕ) → List ℕ → Status
-status_due words bytes = status_where (asked_of words) bytes
-
--- the text that is due for what is asked
-abbrev pub IsDue : Option Asked → List ℕ → List ℕ → Type 0
-IsDue None bytes text = text ≡ usage_line
-IsDue (Some (asks.Run form)) bytes text = IsOutput form (run_of bytes) text
-IsDue (Some (asks.Race plan)) bytes text = text ≡ usage_line
-IsDue (Some (asks.Gen number size)) bytes text = text ≡ generated number size
-
--- and for these words
-abbrev pub IsTextDue : List (List ℕ) → List ℕ → List ℕ → Type 0
-IsTextDue words bytes text = IsDue (asked_of words) bytes text

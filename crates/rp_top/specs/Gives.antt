@@ -1,6 +1,6 @@
 -- A result of the code against what the bytes mean: want of memory and a fault of the source are
 -- free.
-use Rattle.std.specs.Prelude.{◌≡◌, ◌⊎◌, ℕ, ◌≤◌, ◌++◌, false, List, [], length, Option, None, Some, Result, Ok, Err}
+use Rattle.std.specs.Prelude.{◌≡◌, ◌⊎◌, ℕ, ◌≤◌, ◌++◌, Bool, List, [], length, Option, None, Some, Result, Ok, Err}
 use Rattle.rp_base.specs.Gives as results
 use Rattle.rp_outside.specs.Devices.{Comes, IsAtEnd}
 use Rattle.rp_script.specs.Reading.{Reading, unread, fed_all, finished}
@@ -33,11 +33,15 @@ stop_by plays.NoMemory = stops.NoMemory
 abbrev pub Gives : {X : Type 0} → Result X Stop → Result X ScriptFault → Type 0
 Gives result meant = results.Gives (λ x. x) fault_of result meant
 
--- what came of the source so far led to this reading
-pub record HasCome (old new : Option (List ℕ)) (reading : Reading) : Type 0 where
+-- what came of the source so far led to this reading of a script, a race's or another
+pub record HasCome (race : Bool) (old new : Option (List ℕ)) (reading : Reading) : Type 0 where
   pub bytes : List ℕ
   pub comes : Comes old bytes new
-  pub leads : fed_all (unread false) bytes ≡ Ok reading
+  pub leads : fed_all (unread race) bytes ≡ Ok reading
+
+-- what came of the source so far leads on: no refusal and no limit stands in it
+abbrev pub LeadsOn : (race : Bool) → (old new : Option (List ℕ)) → Type 0
+LeadsOn race old new = (reading : Reading) × HasCome race old new reading
 
 -- the piece holds what ends the reading; or the source ends, and that does
 abbrev pub EndsIn : Reading → (piece : List ℕ) → (left : Option (List ℕ)) → ScriptFault → Type 0
@@ -45,12 +49,14 @@ EndsIn reading piece left fault =
     (fed_all reading piece ≡ Err fault)
     ⊎ ((piece ≡ []) × IsAtEnd left × (finished reading reading.line ≡ Err fault))
 
--- the source was read no further than the piece of up to 4,096 bytes in which the reading ended
-pub record HasStopped (old new : Option (List ℕ)) (fault : ScriptFault) : Type 0 where
+-- the source was read no further than the piece of up to 4,096 bytes in which the reading of the
+-- script, a race's or another, ended
+pub record HasStopped (race : Bool) (old new : Option (List ℕ)) (fault : ScriptFault)
+    : Type 0 where
   pub before : List ℕ
   pub piece : List ℕ
   pub few : length piece ≤ 4096
   pub comes : Comes old (before ++ piece) new
   pub reading : Reading
-  pub goes_on : fed_all (unread false) before ≡ Ok reading
+  pub goes_on : fed_all (unread race) before ≡ Ok reading
   pub ends : EndsIn reading piece new fault

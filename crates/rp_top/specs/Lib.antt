@@ -3,3 +3,5 @@ pub mod Gives
 pub mod Status
 pub mod Answers
 pub mod Runs
+pub mod Races
+pub mod Tops

@@ -1,20 +1,17 @@
 -- A run that ended well.
-use Rattle.std.specs.Prelude.{◌≡◌, ℕ, List, Option, None, Some, Result, Ok, Err}
+use Rattle.std.specs.Prelude.{◌≡◌, ℕ, false, List, Option, Result, Ok, Err}
 use Rattle.rp_events.specs.Lawful.{IsReached}
 use Rattle.rp_events.specs.Promises.{Promise}
 use Rattle.rp_lines.specs.Players.{Player}
 use Rattle.rp_lines.specs.Views.{IsViewOf}
-use Rattle.rp_gen.specs.Scripts.{script_of as generated}
 use Rattle.rp_outside.specs.Devices.{Adds, IsAll, IsAtEnd}
 use Rattle.rp_report.specs.declared.views.View.{View}
 use Rattle.rp_script.specs.declared.lines.NumberedLine.{NumberedLine}
 use Rattle.rp_script.specs.declared.faults.ScriptFault.{ScriptFault}
 use Rattle.rp_top.specs.Answers.{written}
 use Rattle.rp_top.specs.Gives.{HasStopped}
-use Rattle.rp_top.specs.Scripts.{script_of, run_of, nodes_in, play_of}
-use Rattle.rp_words.specs.Asked.{asked_of}
-use Rattle.rp_words.specs.declared.asks.Asked.{Asked}
-use Rattle.rp_words.specs.declared.asks.Asked.TheVariants as asks
+use Rattle.rp_top.specs.Scripts.{script_of, run_of, play_of}
+use Rattle.rp_racelines.specs.Rules.{nodes_in}
 use Rattle.rp_words.specs.declared.asks.Form.{Form}
 
 -- one script, one lawful list of events and one world: the bytes are the script of these lines, they
@@ -31,24 +28,12 @@ pub record IsShownRun (form : Form) (bytes : List ℕ) (old new : Option (List �
   pub shows : IsViewOf player.world.nodes player.notes view
   pub written : Adds old (written form view) new
 
--- what was asked for and ended well: a run, whose source was read to its end; or a script, which was
--- written
-abbrev pub EndsAsked : Option Asked → List ℕ → (old new left : Option (List ℕ)) → Type 0
-EndsAsked None bytes old new left = ⊥
-EndsAsked (Some (asks.Run form)) bytes old new left =
-    IsShownRun form bytes old new × IsAtEnd left
-EndsAsked (Some (asks.Race plan)) bytes old new left = ⊥
-EndsAsked (Some (asks.Gen number size)) bytes old new left = Adds old (generated number size) new
-
-abbrev pub EndsWell : List (List ℕ) → List ℕ → (old new left : Option (List ℕ)) → Type 0
-EndsWell words bytes old new left = EndsAsked (asked_of words) bytes old new left
-
 -- how far the source was read of a script that was not played to its end: where its lines were read, it
 -- was the play that ended, behind the whole source; else nothing was read behind the piece with the
 -- refusal or the limit
 abbrev pub StopsAs : Result (List NumberedLine) ScriptFault → (old new : Option (List ℕ)) → ScriptFault → Type 0
 StopsAs (Ok lines) old new fault = IsAtEnd new
-StopsAs (Err first) old new fault = HasStopped old new fault
+StopsAs (Err first) old new fault = HasStopped false old new fault
 
 -- this refusal or limit is the first of the bytes, or that of their play
 pub record EndsEarly (fault : ScriptFault) (old new : Option (List ℕ)) : Type 0 where

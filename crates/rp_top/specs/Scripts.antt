@@ -2,25 +2,15 @@
 use Rattle.std.specs.Prelude.{ℕ, false, List, [], ◌∷◌, Result, Ok, Err}
 use Rattle.rp_lines.specs.Players.{Limit, Played, Player, first_player}
 use Rattle.rp_lines.specs.Scripts.{played_all}
+use Rattle.rp_racelines.specs.Rules.{nodes_in}
 use Rattle.rp_script.specs.Meaning.{meaning}
 use Rattle.rp_script.specs.declared.faults.ScriptFault.{ScriptFault}
 use Rattle.rp_script.specs.declared.faults.ScriptFault.TheVariants as faults
 use Rattle.rp_script.specs.declared.lines.NumberedLine.{NumberedLine}
-use Rattle.rp_script.specs.declared.lines.ScriptLine.{ScriptLine}
-use Rattle.rp_script.specs.declared.lines.ScriptLine.TheVariants as lines
 
 -- the lines of a script, or the first limit or refusal
 abbrev pub script_of : List ℕ → Result (List NumberedLine) ScriptFault
 script_of bytes = meaning false bytes
-
--- how many nodes the first line names
-abbrev pub nodes_by : ScriptLine → ℕ
-nodes_by (lines.Cluster nodes) = nodes
-nodes_by line = 0
-
-abbrev pub nodes_in : List NumberedLine → ℕ
-nodes_in [] = 0
-nodes_in (l ∷ ls) = nodes_by l.line
 
 -- the lines behind the first
 abbrev pub behind_first : List NumberedLine → List NumberedLine

@@ -4,11 +4,15 @@
 mod calls;
 mod outputs;
 mod plays;
+mod races;
 mod sources;
 mod statuses;
 mod stops;
+mod tops;
 
-pub use calls::{gen_call, run_call, top_call};
+pub use calls::{gen_call, run_call};
+pub use races::race_call;
 pub use rp_script::LineKind;
-pub use rp_words::Form;
+pub use rp_words::{Form, RacePlan};
 pub use statuses::Status;
+pub use tops::top_call;

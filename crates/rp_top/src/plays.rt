@@ -6,23 +6,24 @@ ghost use Rattle.rp_lines.specs.Players.{first_player};
 ghost use Rattle.rp_lines.specs.Scripts.{played_all};
 ghost use Rattle.rp_lines.specs.Views.{IsViewOf};
 ghost use Rattle.rp_script.specs.Bounds.{IsScript};
-ghost use Rattle.rp_top.specs.Answers.{IsOutput, written};
+ghost use Rattle.rp_top.specs.Answers.{IsOutput};
 ghost use Rattle.rp_top.specs.Gives.{Gives, stop_by};
-ghost use Rattle.rp_top.specs.Scripts.{behind_first, by_play, nodes_in, play_of};
-ghost use Rattle.rp_report.specs.Shown.{IsShownView};
+ghost use Rattle.rp_racelines.specs.Rules.{nodes_in};
+ghost use Rattle.rp_top.specs.Scripts.{behind_first, by_play, play_of};
 ghost use Rattle.rp_world.specs.Plays.{Does};
 
+use crate::outputs::written;
 use crate::stops::Stop;
 use rp_base::{NoMemory, Text};
 use rp_chronicle::view;
-use rp_report::{View, write_json, write_summary, write_text};
+use rp_report::View;
 use rp_script::{NumberedLine, ScriptFault, ScriptLine};
 use rp_words::Form;
 use rp_world::{PlayFault, World};
 use std::alloc::Global;
 
 /// How many nodes the first line names.
-fn nodes_named(lines: &[NumberedLine]) -> u8
+pub fn nodes_named(lines: &[NumberedLine]) -> u8
     ensures { result ≡ nodes_in lines.now }
 {
     match lines {
@@ -87,20 +88,6 @@ pub fn play_script(alloc: Global, lines: &[NumberedLine]) -> Result<World, Stop>
         Ok(()) => Ok(world),
         Err(fault) => Err(stop_of_play(fault)),
     }
-}
-
-/// A view in a form.
-fn written(alloc: Global, view: &View, form: Form) -> Result<Text, NoMemory>
-    requires { IsShownView view.now }
-    ensures { IfOk result (λ text. text ≡ written form view.now) }
-{
-    let mut text = Text::new(alloc);
-    match form {
-        Form::Text => write_text(view, &mut text)?,
-        Form::Json => write_json(view, &mut text)?,
-        Form::Summary => write_summary(view, &mut text)?,
-    }
-    Ok(text)
 }
 
 /// What a world shows: its nodes and notes are moved out of it.

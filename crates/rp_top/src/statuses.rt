@@ -29,6 +29,10 @@ pub enum Status {
     WriteFault,
     /// Memory was refused. Nothing was written.
     NoMemory,
+    /// A race in which no more is waited for, with so many commands open. The report was written.
+    Unfinished {
+        unended: u32,
+    },
 }
 
 impl Status {
@@ -44,6 +48,7 @@ impl Status {
             Status::ReadFault => 5,
             Status::WriteFault => 6,
             Status::NoMemory => 7,
+            Status::Unfinished { .. } => 8,
         }
     }
 }

@@ -1,0 +1,5 @@
+mod Ending
+mod Fitting
+mod Handing
+mod Judging
+mod Running
