@@ -1,0 +1,11 @@
+mod Onward
+mod Changing
+mod Visited
+mod Kept
+mod Working
+mod Playing
+mod Posting
+mod Telling
+mod Waiting
+mod Dueing
+mod Beginning
