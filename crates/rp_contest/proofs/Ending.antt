@@ -20,6 +20,7 @@ run_played nodes rules w run whole = record {
     heard = run.race.heard;
     whole = λ node n has kept. whole node n has;
     owed = run.race.owed;
+    in_turn = run.race.in_turn;
   };
   tries = run.tries;
   each = run.each;

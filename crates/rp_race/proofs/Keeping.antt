@@ -31,6 +31,7 @@ use Rattle.rp_race.specs.declared.rules.RaceRules.{RaceRules}
 use Rattle.rp_race.specs.Rounds.{between, stage_of, stage_after, may_come}
 use Rattle.rp_race.specs.Owed.{heard_from, carried, is_round, RoundsOwed}
 use Rattle.rp_race.specs.Played.{IsTriesOf}
+use Rattle.rp_race.specs.InTurn.{CameInTurn}
 use Rattle.rp_race.specs.Race.{IsRace}
 use Rattle.rp_race.specs.Gives.{Tried, with_try, try_at, tried_after, after_admission, admitted_after, MayTry, AllMayTry, kept_as, is_within_round, MayHappen, AllMayHappen, WasSeen, AllSeen, HeardSome, HeardAll, NoneBehind, IsPart, MayEnd, after_round, AdmitsWell, GoesWell}
 use Rattle.rp_race.proofs.Ahead.{node_there, WasThere, was_there}
@@ -40,6 +41,7 @@ use Rattle.rp_race.proofs.Nexts.{lawful_try, unasked}
 use Rattle.rp_race.proofs.Ordered.{Ordered, ordered_scene, ordered_first, stage_push}
 use Rattle.rp_race.proofs.Owing.{OwedNow, heard_now, owed_scene, owed_first}
 use Rattle.rp_race.proofs.Trying.{tries_scene, no_admission, admission_leaves, tries_admission}
+use Rattle.rp_race.proofs.Turning.{try_in_turn, part_in_turn, turn_first, turn_later}
 
 -- how many nodes a reached world has
 numbers_length : (n : ℕ) → length (nodes_to n) ≡ n
@@ -148,7 +150,7 @@ part_there rules node (x ∷ xs) v w ahead l may =
 -- a race in which one node has gone on
 module _ (rules : RaceRules) (broken now : ℕ → Bool) (w after : World) (node : ℕ) (later : Node) (grows : WorldGrows w after)
     (leaves : node_of after node ≡ Some later) (others : (k : ℕ) → (k ≡ node → ⊥) → node_of after k ≡ node_of w k) (race : IsRace rules broken w)
-    (ordered : Ordered rules after) (owed : RoundsOwed rules after)
+    (ordered : Ordered rules after) (owed : RoundsOwed rules after) (turn : CameInTurn after)
     (here : (from : ℕ) (m : Node) → node_of w from ≡ Some m → (from ≡ node → ⊥) → Begins (heard_from from later.journal) (carried rules from node m.sent))
     (stage : now node ≡ false → stage_of later.journal ≡ between) (lower : (k : ℕ) → (k ≡ node → ⊥) → now k ≡ false → broken k ≡ false) where
   heard_there : (k from : ℕ) (n m : Node) → node_of after k ≡ Some n → node_of after from ≡ Some m → (from ≡ k → ⊥) → Begins (heard_from from n.journal) (carried rules from k m.sent)
@@ -177,6 +179,7 @@ module _ (rules : RaceRules) (broken now : ℕ → Bool) (w after : World) (node
         (λ (apart : k ≡ node → ⊥). race.whole k n (sym (others k apart) ∙ has) (lower k apart unbroken))
         (cases_eq k node);
     owed = owed;
+    in_turn = turn;
   }
 
 -- a node that was seen has only grown
@@ -208,6 +211,7 @@ broken_off rules broken now nodes w reached race tries each v seen node ahead al
       lawful = p.lawful;
       leaves = leaves;
       race = race_on rules broken now w (run w (all_at node xs)) node later (run_grows (all_at node xs) w) leaves p.others race s.ordered s.owed
+          (turn_later w (run w (all_at node xs)) race.in_turn (record { schedule = all_at node xs; lawful = p.lawful; reached = refl }) (part_in_turn rules node xs w p.order))
           (heard_seen rules nodes w seen node later (reached_size nodes w reached) all part.heard) (λ e. absurd (true_false (now node) off e)) lower;
       each = s.each;
     }
@@ -254,6 +258,7 @@ whole rules broken nodes w reached race tries each v seen node ahead all xs late
     (λ k ne. others_stay inside x k ne ∙ p.others k ne) race
     (ordered_scene rules nodes inside x s.reached later there end.may s.ordered)
     (owed_scene rules nodes inside x s.reached later there (inr owed_now) s.owed)
+    (turn_later inside after (turn_later w inside race.in_turn so_far (part_in_turn rules node xs w p.order)) (later_scene inside x last) (tt, tt))
     (λ from m has ne. subst (λ l. Begins l (carried rules from node m.sent)) (sym (round_heard from later)) (heard_seen rules nodes w seen node later (reached_size nodes w reached) all part.heard from m has ne))
     (λ unbroken. ap stage_of (round_journal later) ∙ stage_push later.journal (entry_of later events.Round []))
     (λ k ne unbroken. unbroken) in
@@ -312,6 +317,7 @@ admits rules broken nodes node (worlds.Admit range id request ∷ xs) w reached 
     race_on rules broken broken w after node new (scene_grows w x) leaves others race
     (ordered_scene rules nodes w x reached n has refl race.order)
     (owed_scene rules nodes w x reached n has (inl refl) race.owed)
+    (turn_later w after race.in_turn (later_scene w x l) (try_in_turn rules w once (tries id.client) range id request (each id.client) may.0.may.next, tt))
     (λ from m there ne. subst (λ l. Begins l (carried rules from node m.sent)) (sym (admission_heard from n range id request)) (race.heard node from n m has there ne))
     (λ unbroken. admission_stage n range id request (race.whole node n has unbroken))
     (λ k ne unbroken. unbroken) in
@@ -351,4 +357,5 @@ race_first rules broken nodes = record {
       subst (λ (z : Node). Begins (heard_from from z.journal) (carried rules from node m.sent)) (sym (first_at nodes node n has)) (record { more = carried rules from node m.sent; is = refl });
   whole = λ node n has unbroken. ap (λ (z : Node). stage_of z.journal) (first_at nodes node n has);
   owed = owed_first rules nodes;
+  in_turn = turn_first nodes;
 }

@@ -6,7 +6,9 @@ pub mod Owing
 pub mod Nexts
 pub mod Trying
 pub mod Told
+pub mod Turning
 pub mod Keeping
+pub mod Behind
 pub mod Going
 pub mod Waited
 pub mod Living

@@ -34,6 +34,7 @@ use Rattle.rp_journals.proofs.Ending.{found_passes}
 use Rattle.rp_journals.proofs.Waiting.{any_place, found_any, outcome_here}
 use Rattle.rp_clients.specs.Tries.{Try, MayCome, most_tries, tries_again, id_of, attempt_after, command_after, id_after, id_after_refusal, next_id}
 use Rattle.rp_race.specs.declared.rules.RaceRules.{RaceRules}
+use Rattle.rp_race.specs.InTurn.{IsEarlier}
 use Rattle.rp_race.specs.Played.{requests_of, IsEndAt, WasTried, IsNextTry, AllTried, is_admission_by, IsAmong, IsTriesOf}
 use Rattle.rp_race.specs.Gives.{Tried, MayTry}
 
@@ -92,16 +93,13 @@ by_its_client id e h =
     ap (is_admission_by id.client) x.2 ∙ equal_itself id.client
 
 -- the order of a client's attempts
-abbrev Before : CmdId → CmdId → Type 0
-Before a b = (a.seq < b.seq) ⊎ ((a.seq ≡ b.seq) × (a.attempt < b.attempt))
-
-before_trans : (a b c : CmdId) → Before a b → Before b c → Before a c
+before_trans : (a b c : CmdId) → IsEarlier a b → IsEarlier b c → IsEarlier a c
 before_trans a b c (inl h) (inl k) = inl (omega (arith, h, k))
 before_trans a b c (inl h) (inr k) = let k0 = k.0 in inl (omega (arith, h, k0))
 before_trans a b c (inr h) (inl k) = let h0 = h.0 in inl (omega (arith, h0, k))
 before_trans a b c (inr h) (inr k) = let h0 = h.0 in let h1 = h.1 in let k0 = k.0 in let k1 = k.1 in inr (omega (arith, h0, k0), omega (arith, h1, k1))
 
-not_before : (a b : CmdId) → a ≡ b → Before a b → ⊥
+pub not_before : (a b : CmdId) → a ≡ b → IsEarlier a b → ⊥
 not_before a b e (inl h) = let s : a.seq ≡ b.seq = ap (λ (i : CmdId). i.seq) e in absurd (omega (arith, h, s))
 not_before a b e (inr h) = let s : a.attempt ≡ b.attempt = ap (λ (i : CmdId). i.attempt) e in let h1 = h.1 in absurd (omega (arith, h1, s))
 
@@ -123,17 +121,17 @@ next_is id (Some (Refused why)) new e = go (tries_again why && nat_lt id.attempt
   go true is = Again why refl is
   go false is = Command is
 
-before_next : (id : CmdId) (end : Option Outcome) (new : CmdId) → NextIs id end new → Before id new
-before_next id end new (Command is) = subst (Before id) is (inl (omega arith))
-before_next id end new (Again why ended is) = subst (Before id) is (inr (refl, omega arith))
+before_next : (id : CmdId) (end : Option Outcome) (new : CmdId) → NextIs id end new → IsEarlier id new
+before_next id end new (Command is) = subst (IsEarlier id) is (inl (omega arith))
+before_next id end new (Again why ended is) = subst (IsEarlier id) is (inr (refl, omega arith))
 
 -- each try comes before the next one
-some_try : (a b : Try) → ◌≡◌ {A = Option Try} (Some a) (Some b) → a ≡ b
+pub some_try : (a b : Try) → ◌≡◌ {A = Option Try} (Some a) (Some b) → a ≡ b
 some_try a b e = cc
 
-all_before : (rules : RaceRules) (w : World) (client : ℕ) (tries : List Try) → AllTried rules w client tries → (new : CmdId) → next_id client tries ≡ Some new → (k : ℕ) (t : Try) → slice_get tries k ≡ Some t → Before t.id new
+pub all_before : (rules : RaceRules) (w : World) (client : ℕ) (tries : List Try) → AllTried rules w client tries → (new : CmdId) → next_id client tries ≡ Some new → (k : ℕ) (t : Try) → slice_get tries k ≡ Some t → IsEarlier t.id new
 all_before rules w client [] h new e k t at = absurd cc
-all_before rules w client (first ∷ older) h new e zero t at = subst (λ (z : Try). Before z.id new) (some_try first t at) (before_next first.id first.end new (next_is first.id first.end new e))
+all_before rules w client (first ∷ older) h new e zero t at = subst (λ (z : Try). IsEarlier z.id new) (some_try first t at) (before_next first.id first.end new (next_is first.id first.end new e))
 all_before rules w client (first ∷ older) h new e (suc k) t at =
     before_trans t.id first.id new (all_before rules w client older h.1 first.id h.0.may.next k t at) (before_next first.id first.end new (next_is first.id first.end new e))
 

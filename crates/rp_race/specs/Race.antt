@@ -10,6 +10,7 @@ use Rattle.rp_race.specs.declared.rules.RaceRules.{RaceRules}
 use Rattle.rp_race.specs.Rounds.{may_come, stage_of, between}
 use Rattle.rp_race.specs.Owed.{heard_from, carried, RoundsOwed}
 use Rattle.rp_race.specs.Played.{IsTriesOf}
+use Rattle.rp_race.specs.InTurn.{CameInTurn}
 
 -- the rounds of all nodes are as those of a race; of each node it is said whether its last round may have been broken off
 pub record IsRace (rules : RaceRules) (broken : ℕ → Bool) (w : World) : Type 0 where
@@ -23,6 +24,8 @@ pub record IsRace (rules : RaceRules) (broken : ℕ → Bool) (w : World) : Type
   pub whole : (node : ℕ) (n : Node) → node_of w node ≡ Some n → broken node ≡ false
       → stage_of n.journal ≡ between
   pub owed : RoundsOwed rules w
+  -- no client made a try before its earlier ones had ended
+  pub in_turn : CameInTurn w
 
 -- race play, and rounds owed: no round was broken off, and each client has made its tries as it may
 pub record IsPlayed (rules : RaceRules) (w : World) : Type 0 where

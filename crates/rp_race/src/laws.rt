@@ -9,7 +9,7 @@ ghost use Rattle.rp_events.specs.declared.node_events.Event.{Event};
 ghost use Rattle.rp_events.specs.Lawful.{Lawful, IsReached, IsLater};
 ghost use Rattle.rp_events.specs.Nodes.{Node};
 ghost use Rattle.rp_events.specs.NodeEvents.{step};
-ghost use Rattle.rp_events.specs.Worlds.{World, Happening, Tick, Collect, Flush, Round, first_world, node_of, event_of, taken_in, run};
+ghost use Rattle.rp_events.specs.Worlds.{World, Happening, Tick, Collect, Flush, Round, first_world, node_of, event_of, taken_in, run, was_asked};
 ghost use Rattle.rp_journals.specs.Asked.{all_at};
 ghost use Rattle.rp_journals.specs.Elsewhere.{IsAhead};
 ghost use Rattle.rp_journals.specs.Entries.{at_node};
@@ -19,6 +19,7 @@ ghost use Rattle.rp_race.specs.Rounds.{may_come, stage_of, stage_after};
 ghost use Rattle.rp_race.specs.Owed.{number_from, heard_from, rounds_in, IsRoundAt};
 ghost use Rattle.rp_race.specs.Played.{IsTriesOf};
 ghost use Rattle.rp_race.specs.Worked.{left_after};
+ghost use Rattle.rp_race.specs.InTurn.{IsEarlier, CameBehind};
 ghost use Rattle.rp_race.specs.Race.{IsRace};
 ghost use Rattle.rp_race.specs.Ends.{has_live, IsWaitedOut, IsWaitedOutForGood, WasPending};
 ghost use Rattle.rp_race.specs.Gives.{Tried, AllMayTry, AllMayHappen, after_admission, admitted_after, kept_as, is_within_round, IsSoFar, OnlyAdmitted, AllSeen, IsPart, MayEnd, after_round, AdmitsWell, GoesWell, WasSeen};
@@ -58,6 +59,13 @@ pub fn a_round_keeps_the_race()
         → (xs : List Happening) (later : Node) → IsPart rules node v seen xs later
         → MayEnd rules node seen later
         → GoesWell rules broken node w tries (xs ++ Round ∷ []) (after_round later) }
+{}
+
+/// Of two attempts of one client of a race the earlier had ended at a time when the later was not made yet.
+pub fn a_clients_tries_come_one_behind_another()
+    ensures { (rules : RaceRules) (broken : ℕ → Bool) (w : World) → IsRace rules broken w
+        → (earlier : CmdId) (later : CmdId) → earlier.client ≡ later.client → IsEarlier earlier later
+        → was_asked w earlier ≡ true → was_asked w later ≡ true → CameBehind w earlier later }
 {}
 
 /// Since it was some node there were admissions alone: of itself, and with one admission more.

@@ -187,6 +187,7 @@ module _ {E : Type 0} where
           heard = k.race.heard;
           whole = λ node n has e. k.race.whole node n has (whole_at t s k id v at all node n has e);
           owed = k.race.owed;
+          in_turn = k.race.in_turn;
         });
         past = subst (λ (u : Terms). AllSeen u.nodes v.seen k.world) (sym terms) full_.seen;
         heard = subst (λ (u : Terms). AllHeard u.nodes v.joined k.world) (sym terms) full_.heard;

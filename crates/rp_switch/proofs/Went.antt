@@ -129,6 +129,7 @@ mended t w broken node n race has not_off = record {
       (λ e. subst (λ (y : Node). stage_of y.journal ≡ between) (one_node w node n m has (ap (node_of w) (sym e) ∙ is)) (stands_between (stage_of n.journal) not_off))
       (λ away. race.whole k m is (put_else broken node k true away ∙ whole));
   owed = race.owed;
+  in_turn = race.in_turn;
 }
 
 true_or_false : (b : Bool) → (b ≡ true) ⊎ (b ≡ false)
