@@ -78,34 +78,36 @@ record MadeAlong (w : World) (xs : Schedule) (id : CmdId) : Type 0 where
 
 made_along : (xs : Schedule) (w : World) (id : CmdId) → AllLawful w xs → AllInTurn w xs → was_asked w id ≡ false → was_asked (run w xs) id ≡ true → MadeAlong w xs id
 made_along [] w id l t none made = absurd (true_not_false (was_asked w id) made none)
-made_along (x ∷ xs) w id l t none made = go (was_asked (happens w x) id) refl where
-  go : (b : Bool) → was_asked (happens w x) id ≡ b → MadeAlong w (x ∷ xs) id
-  go true is = record {
-    before = w;
-    x = x;
-    behind = xs;
-    came = later_refl w;
-    lawful = l.0;
-    turn = t.0;
-    not_yet = none;
-    made = is;
-    all_lawful = l.1;
-    all_turn = t.1;
-    leads = refl;
-  }
-  go false is = let m = made_along xs (happens w x) id l.1 t.1 is made in record {
-    before = m.before;
-    x = m.x;
-    behind = m.behind;
-    came = later_trans w (happens w x) m.before (later_scene w x l.0) m.came;
-    lawful = m.lawful;
-    turn = m.turn;
-    not_yet = m.not_yet;
-    made = m.made;
-    all_lawful = m.all_lawful;
-    all_turn = m.all_turn;
-    leads = m.leads;
-  }
+made_along (x ∷ xs) w id l t none made =
+    go (was_asked (happens w x) id) refl (λ is. made_along xs (happens w x) id l.1 t.1 is made)
+  where
+    go : (b : Bool) → was_asked (happens w x) id ≡ b → (was_asked (happens w x) id ≡ false → MadeAlong (happens w x) xs id) → MadeAlong w (x ∷ xs) id
+    go true is more = record {
+      before = w;
+      x = x;
+      behind = xs;
+      came = later_refl w;
+      lawful = l.0;
+      turn = t.0;
+      not_yet = none;
+      made = is;
+      all_lawful = l.1;
+      all_turn = t.1;
+      leads = refl;
+    }
+    go false is more = let m = more is in record {
+      before = m.before;
+      x = m.x;
+      behind = m.behind;
+      came = later_trans w (happens w x) m.before (later_scene w x l.0) m.came;
+      lawful = m.lawful;
+      turn = m.turn;
+      not_yet = m.not_yet;
+      made = m.made;
+      all_lawful = m.all_lawful;
+      all_turn = m.all_turn;
+      leads = m.leads;
+    }
 
 same_made : (a b : CmdId) (r s : ℕ) (p q : Request) → worlds.Admit r a p ≡ worlds.Admit s b q → a ≡ b
 same_made a b r s p q e = cc

@@ -258,7 +258,7 @@ whole rules broken nodes w reached race tries each v seen node ahead all xs late
     (λ k ne. others_stay inside x k ne ∙ p.others k ne) race
     (ordered_scene rules nodes inside x s.reached later there end.may s.ordered)
     (owed_scene rules nodes inside x s.reached later there (inr owed_now) s.owed)
-    (turn_later inside after (turn_later w inside race.in_turn so_far (part_in_turn rules node xs w p.order)) (later_scene inside x last) (tt, tt))
+    (turn_later inside after (turn_later w inside race.in_turn so_far (part_in_turn rules node xs w p.order)) (record { schedule = x ∷ []; lawful = (last, tt); reached = refl }) (tt, tt))
     (λ from m has ne. subst (λ l. Begins l (carried rules from node m.sent)) (sym (round_heard from later)) (heard_seen rules nodes w seen node later (reached_size nodes w reached) all part.heard from m has ne))
     (λ unbroken. ap stage_of (round_journal later) ∙ stage_push later.journal (entry_of later events.Round []))
     (λ k ne unbroken. unbroken) in
@@ -317,7 +317,7 @@ admits rules broken nodes node (worlds.Admit range id request ∷ xs) w reached 
     race_on rules broken broken w after node new (scene_grows w x) leaves others race
     (ordered_scene rules nodes w x reached n has refl race.order)
     (owed_scene rules nodes w x reached n has (inl refl) race.owed)
-    (turn_later w after race.in_turn (later_scene w x l) (try_in_turn rules w once (tries id.client) range id request (each id.client) may.0.may.next, tt))
+    (turn_later w after race.in_turn (record { schedule = x ∷ []; lawful = (l, tt); reached = refl }) (try_in_turn rules w once (tries id.client) range id request (each id.client) may.0.may.next, tt))
     (λ from m there ne. subst (λ l. Begins l (carried rules from node m.sent)) (sym (admission_heard from n range id request)) (race.heard node from n m has there ne))
     (λ unbroken. admission_stage n range id request (race.whole node n has unbroken))
     (λ k ne unbroken. unbroken) in

@@ -93,7 +93,7 @@ by_its_client id e h =
     ap (is_admission_by id.client) x.2 ∙ equal_itself id.client
 
 -- the order of a client's attempts
-before_trans : (a b c : CmdId) → IsEarlier a b → IsEarlier b c → IsEarlier a c
+pub before_trans : (a b c : CmdId) → IsEarlier a b → IsEarlier b c → IsEarlier a c
 before_trans a b c (inl h) (inl k) = inl (omega (arith, h, k))
 before_trans a b c (inl h) (inr k) = let k0 = k.0 in inl (omega (arith, h, k0))
 before_trans a b c (inr h) (inl k) = let h0 = h.0 in inl (omega (arith, h0, k))
