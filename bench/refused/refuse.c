@@ -1,5 +1,5 @@
 /* A malloc that fails its Nth call: built as a library and loaded before the program, with REFUSE=N in the environment.
- * At the end it tells on standard error how many calls there were. */
+ * At the end it tells on standard error how many calls there were, once: where main returns, and at exit, _exit and _Exit. */
 #define _GNU_SOURCE
 #include <dlfcn.h>
 #include <errno.h>
@@ -48,7 +48,19 @@ void *aligned_alloc(size_t alignment, size_t size) {
 }
 
 __attribute__((destructor)) static void tell(void) {
+  static int told;
+  if (told) return;
+  told = 1;
   char text[32];
   int length = snprintf(text, sizeof text, "%lu\n", calls);
   if (write(2, text, (size_t)length) < 0) _exit(1);
 }
+
+void _exit(int status) {
+  static void (*next)(int) __attribute__((noreturn));
+  tell();
+  if (!next) next = dlsym(RTLD_NEXT, "_exit");
+  next(status);
+}
+
+void _Exit(int status) { _exit(status); }
