@@ -28,7 +28,7 @@ use Rattle.rp_serving.specs.declared.lanes.Lane.{Lane}
 use Rattle.rp_serving.specs.declared.mails.Mail.{Mail}
 use Rattle.rp_serving.specs.Inside.{IsUnderWay}
 use Rattle.rp_serving.specs.Letters.{letters_of, AreLeft}
-use Rattle.rp_serving.specs.Mails.{lane_in, IsLaneOf, IsUpToDate, IsMailOf, IsWhole, IsEmptiedLane, IsEmptied}
+use Rattle.rp_serving.specs.Mails.{lane_in, IsLaneOf, IsUpToDate, IsMailOf, IsWhole, LagsIn, IsEmptiedLane, IsEmptied}
 use Rattle.rp_serving.specs.Playing.{HandsWithin, HasIt, taken_from}
 use Rattle.rp_serving.specs.Turns.{HearsSame, HearsNothing, PlaysWhole}
 use Rattle.rp_serving.proofs.Halfway.{mail_heard, under_way_first, there_in}
@@ -227,3 +227,15 @@ none_behind mail nodes rounds seen n size few five whole same each (suc place) m
       short [] i x e = absurd cc
       short (y ∷ xs) zero x e = omega arith
       short (y ∷ xs) (suc i) x e = let s = short xs i x e in omega (arith, s)
+
+-- another node is behind by its lane
+pub lags_in : (mail : Mail) (place rounds : ℕ) (lane : Lane) → (place + 1 ≡ mail.node → ⊥) → slice_get mail.lanes place ≡ Some lane → lane.rounds < rounds - 2 → LagsIn mail (place + 1) rounds
+lags_in mail place rounds lane other there low =
+    let at : place + 1 - 1 ≡ place = omega arith in
+    record {
+      numbered = omega arith;
+      other = other;
+      lane = lane;
+      there = ap (slice_get mail.lanes) at ∙ there;
+      lags = omega (arith, low);
+    }

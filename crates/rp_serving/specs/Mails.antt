@@ -1,5 +1,5 @@
 -- What a mail keeps for a node (this project): of each other node the messages that were copied and are not delivered.
-use Rattle.std.specs.Prelude.{◌≡◌, ◌≢◌, ℕ, ◌+◌, ◌-◌, ◌≤◌, List, [], ◌++◌, length, take, drop, slice_get, slice_set, Option, Some, Result, Ok, Err}
+use Rattle.std.specs.Prelude.{◌≡◌, ◌≢◌, ℕ, ◌+◌, ◌-◌, ◌<◌, ◌≤◌, List, [], ◌++◌, length, take, drop, slice_get, slice_set, Option, Some, Result, Ok, Err}
 use Rattle.rp_events.specs.Nodes.{Node}
 use Rattle.rp_events.specs.Worlds.{World, node_of}
 use Rattle.rp_race.specs.declared.rules.RaceRules.{RaceRules}
@@ -34,6 +34,14 @@ pub record IsMailOf (rules : RaceRules) (to : ℕ) (seen : World) (n : Node) (ma
 abbrev pub IsWhole : (to : ℕ) → World → Mail → Type 0
 IsWhole to seen mail = (from : ℕ) (m : Node) (lane : Lane) → node_of seen from ≡ Some m → from ≢ to
     → lane_in mail from ≡ Some lane → IsUpToDate m lane
+
+-- another node than the mail's own, when it was copied from, had more than two rounds less than so many
+pub record LagsIn (mail : Mail) (from rounds : ℕ) : Type 0 where
+  pub numbered : 1 ≤ from
+  pub other : from ≢ mail.node
+  pub lane : Lane
+  pub there : lane_in mail from ≡ Some lane
+  pub lags : lane.rounds + 2 < rounds
 
 -- so much of the sender's list was copied since
 pub record IsCopiedTo (rules : RaceRules) (from to : ℕ) (m : Node) (old new : Lane) : Type 0 where

@@ -1,11 +1,11 @@
 //! What is copied for a node, until a round of it delivers it.
-ghost use Rattle.std.specs.Prelude.{◌≡◌, ◌≢◌, ℕ, ◌-◌, ◌≤◌, [], length, slice_get, Some, false};
+ghost use Rattle.std.specs.Prelude.{◌≡◌, ◌≢◌, ℕ, ◌-◌, ◌≤◌, [], length, slice_get, Some, true, false};
 ghost use Rattle.rp_events.specs.Nodes as events;
 ghost use Rattle.rp_events.specs.Worlds.{World};
 ghost use Rattle.rp_race.specs.declared.rules.RaceRules as race;
 ghost use Rattle.rp_race.specs.Gives.{NoneBehind};
 ghost use Rattle.rp_serving.specs.declared.lanes.Lane.{Lane};
-ghost use Rattle.rp_serving.specs.Mails.{lane_in, IsMailOf, IsWhole, IsCopied, IsEmptiedLane};
+ghost use Rattle.rp_serving.specs.Mails.{lane_in, IsMailOf, IsWhole, LagsIn, IsCopied, IsEmptiedLane};
 
 use crate::lanes::Lane;
 use crate::letters::Letter;
@@ -97,8 +97,9 @@ impl Mail {
     /// than this.
     pub fn is_behind(&self, nodes: u8, rounds: u64) -> bool
         requires { nodes ≤ 5 }
-        ensures { (seen : World) → length seen ≡ nodes → IsWhole self.now.node seen self.now → (n : events.Node)
+        ensures none { (seen : World) → length seen ≡ nodes → IsWhole self.now.node seen self.now → (n : events.Node)
             → n.rounds ≡ rounds → result ≡ false → NoneBehind self.now.node seen n }
+        ensures some { result ≡ true → (from : ℕ) × (from ≤ nodes) × LagsIn self.now from rounds }
     {
         self.five();
         for place in 0..nodes {
