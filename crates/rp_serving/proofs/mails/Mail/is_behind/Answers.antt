@@ -9,10 +9,12 @@ returns-then-self-from-clause-some c = λ due.
     let place = c.loop-place.place in
     let lane = c.index-self-from.result in
     let low = c.loop-place-test.true in
-    let few = c.requires in
-    (place + 1, omega (arith, low),
-    lags_in mail place c.args.rounds lane (search rules)
-    (slice_get_read mail.lanes 5 place lane (sym c.five.ensures) (omega (arith, low, few)) (search rules)) (search rules))
+    let few = c.requires in (
+      place + 1,
+      omega (arith, low),
+      lags_in mail place c.args.rounds lane (search rules)
+          (slice_get_read mail.lanes 5 place lane (sym c.five.ensures) (omega (arith, low, few)) (search rules)) (search rules),
+    )
 
 pub returns-clause-none : goal.returns-clause-none
 returns-clause-none c = λ seen size whole n same ended.
