@@ -8,3 +8,4 @@ pub mod Coming
 pub mod Ticking
 pub mod Happening
 pub mod Briefly
+pub mod Journaling

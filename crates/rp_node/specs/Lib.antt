@@ -7,3 +7,4 @@ pub mod Several
 pub mod Ticks
 pub mod Asked
 pub mod Briefs
+pub mod Journals

@@ -8,7 +8,8 @@ ghost use Rattle.rp_events.specs.MaySteps.{SeatAllows};
 ghost use Rattle.rp_node.specs.Plans.{IsPrepared, TurnReady, answered, turned};
 ghost use Rattle.rp_node.specs.Ticks.{TurnedAt};
 
-use crate::logs::{Journal, Logs, Outcomes, Requests, Sent};
+use crate::journals::Journal;
+use crate::logs::{Logs, Outcomes, Requests, Sent};
 use crate::seats::Seat;
 use rp_base::{NoMemory, NodeId, RangeId, Tick};
 use rp_events::{Effects, EventAnswer, ReplicaEvent};

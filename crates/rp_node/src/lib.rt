@@ -33,6 +33,7 @@ mod collects;
 mod cores;
 mod deliveries;
 mod events;
+mod journals;
 mod logs;
 mod nodes;
 mod producers;
@@ -42,7 +43,8 @@ mod steps;
 mod ticks;
 mod worlds;
 
-pub use logs::{Journal, Outcomes, Requests, Sent};
+pub use journals::Journal;
+pub use logs::{Outcomes, Requests, Sent};
 pub use nodes::Node;
 pub use seats::Seen;
 pub use worlds::Nodes;
