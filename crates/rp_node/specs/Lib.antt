@@ -6,5 +6,6 @@ pub mod Waits
 pub mod Several
 pub mod Ticks
 pub mod Asked
+pub mod Idles
 pub mod Briefs
 pub mod Journals

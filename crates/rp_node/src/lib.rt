@@ -33,6 +33,7 @@ mod collects;
 mod cores;
 mod deliveries;
 mod events;
+mod flushes;
 mod journals;
 mod logs;
 mod nodes;
