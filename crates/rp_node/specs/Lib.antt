@@ -6,4 +6,5 @@ pub mod Waits
 pub mod Several
 pub mod Ticks
 pub mod Asked
+pub mod Reserves
 pub mod Briefs

@@ -36,6 +36,7 @@ mod events;
 mod logs;
 mod nodes;
 mod producers;
+mod reserves;
 mod rounds;
 mod seats;
 mod steps;
