@@ -1,25 +1,22 @@
 -- A flush of an empty inbox, at a replica that does not lead, leaves its node as it is.
-use Rattle.std.proofs.Common.{◌≡◌, ℕ, Bool, false, List, [], ◌++◌, map, Option, None, refl, sym, ap, ◌∙◌}
-use Rattle.std.proofs.lemmas.List.{set-get_or, append-nil}
+use Rattle.std.proofs.Common.{◌≡◌, ℕ, max, Bool, false, cond, List, [], None, refl, sym, ap, ◌∙◌}
 use Rattle.rp_base.specs.declared.items.Item.{Item}
 use Rattle.rp_raftstep.specs.RaftState.{RaftState, is_leader}
 use Rattle.rp_raftstep.specs.Step as steps
-use Rattle.rp_raftstep.specs.Step.{advanced, quiet, step_then}
+use Rattle.rp_raftstep.specs.Step.{advanced, committable, quiet, step_then}
 use Rattle.rp_raftstep.proofs.Steps.{step_then-nil}
 use Rattle.rp_request.specs.Applied.{AppliedState}
 use Rattle.rp_flush.specs.Assigns.{assigned_of}
 use Rattle.rp_pending.specs.Refreshes.{waiting_of}
 use Rattle.rp_events.specs.Flushes.{flushed, flushed_by}
 use Rattle.rp_events.specs.Replicas.{Replica, Done, lease_of, leaves}
-use Rattle.rp_events.specs.declared.answers.EventAnswer.{EventAnswer}
 use Rattle.rp_events.specs.declared.answers.EventAnswer.TheVariants as answers
-use Rattle.rp_events.specs.declared.journals.PastEvent.{PastEvent}
-use Rattle.rp_events.specs.declared.journals.PastEvent.TheVariants as past
 use Rattle.rp_events.specs.declared.replica_events.ReplicaEvent.TheVariants as at_replica
-use Rattle.rp_events.specs.Nodes.{Node, NodeDone, Status, Absent, Live, Removed, seat, after_turn, written}
+use Rattle.rp_events.specs.Nodes.{Node, Status, Absent, Live, Removed, seat}
 use Rattle.rp_events.specs.NodeEvents.{after_replica, by_status, by_replica}
 use Rattle.rp_node.specs.Idles.{IsIdle}
 use Rattle.rp_node.specs.Plans.{answered}
+use Rattle.rp_node.proofs.Idling.{stays_so}
 
 -- Raft, where it does not lead, stays as it is behind a Propose of nothing, and sends nothing
 stays_put : (st : RaftState) → is_leader st.head.role ≡ false → advanced st ≡ st
@@ -49,13 +46,6 @@ idle_flush r ticks round empty e =
     ∙ ap (λ (inbox : List Item). leaves (record r { inbox = inbox }) answers.Done) (sym empty)
 
 -- and its node
-stays_so : (n : Node) (range : ℕ) (r : Replica) → seat n range ≡ Live r → after_turn n range (Live r) (leaves r answers.Done) ≡ n
-stays_so n range r here =
-    ap (λ (s : Status). after_turn n range s (leaves r answers.Done)) (sym here)
-    ∙ ap (λ (l : List Status). record n { seats = l; sent = n.sent ++ []; outcomes = n.outcomes ++ [] }) (set-get_or n.seats range Absent)
-    ∙ ap (λ l. record n { sent = l; outcomes = n.outcomes ++ [] }) (append-nil n.sent)
-    ∙ ap (λ l. record n { outcomes = l }) (append-nil n.outcomes)
-
 by_idle : (n : Node) (range : ℕ) (s : Status) → seat n range ≡ s → IsIdle s → by_status n range at_replica.Flush [] s ≡ answered n answers.Done
 by_idle n range Absent here idle = absurd idle
 by_idle n range (Live r) here idle =

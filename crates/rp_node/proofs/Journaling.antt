@@ -1,9 +1,8 @@
 -- A journal grows by an event, and is read.
-use Rattle.std.proofs.Common.{◌≡◌, ℕ, zero, suc, ◌+◌, ◌<◌, ◌≤◌, Bool, true, false, cond, map, length, get_or, List, [], ◌∷◌, ◌++◌, Option, None, Some, arith, refl, sym, ap, ◌∙◌, IsFalse, is_some, nat_eq}
+use Rattle.std.proofs.Common.{◌≡◌, ℕ, zero, suc, ◌+◌, ◌<◌, ◌≤◌, Bool, true, false, cond, map, length, get_or, List, [], ◌∷◌, ◌++◌, Option, None, Some, arith, refl, ap, ◌∙◌, IsFalse, is_some, nat_eq}
 use Rattle.std.specs.Map.{lookup}
 use Rattle.std.specs.Option.{option_map_or}
 use Rattle.std.proofs.lemmas.Bool.{eq-eqb, ne_eqb}
-use Rattle.std.proofs.lemmas.List.{length-append}
 use Rattle.rp_events.specs.declared.answers.EventAnswer.{EventAnswer}
 use Rattle.rp_events.specs.declared.answers.EventAnswer.TheVariants as answers
 use Rattle.rp_events.specs.declared.journals.JournalEntry.{JournalEntry}

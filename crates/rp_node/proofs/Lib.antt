@@ -3,6 +3,7 @@ pub mod Turning
 pub mod Stepping
 pub mod Waiting
 pub mod Choosing
+pub mod Idling
 pub mod Flushing
 pub mod Collecting
 pub mod Coming

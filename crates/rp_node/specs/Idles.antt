@@ -1,5 +1,5 @@
 -- Replicas at which a flush has nothing to do.
-use Rattle.std.specs.Prelude.{◌≡◌, Bool, false, []}
+use Rattle.std.specs.Prelude.{◌≡◌, false, []}
 use Rattle.rp_raftstep.specs.RaftState.{is_leader}
 use Rattle.rp_events.specs.Nodes.{Status, Absent, Live, Removed}
 

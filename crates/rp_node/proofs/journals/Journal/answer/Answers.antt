@@ -1,4 +1,4 @@
-use Rattle.std.proofs.Common.{◌≡◌, ◌∙◌, ◌+◌, ◌<◌, ap, arith, get_or, length, subst, sym}
+use Rattle.std.proofs.Common.{◌≡◌, ◌∙◌, ◌+◌, ap, arith, get_or, length}
 use Rattle.rp_node.specs.Journals.{answer_at}
 use Rattle.rp_node.proofs.Journaling.{answer_of, count_of}
 use Rattle.rp_node.proofs.journals.Journal.answer.Goals as goal

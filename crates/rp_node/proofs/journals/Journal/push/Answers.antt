@@ -1,4 +1,4 @@
-use Rattle.std.proofs.Common.{◌≡◌, ℕ, ◌+◌, ◌≤◌, IsFalse, is_some, nat_eq, length, [], ◌∷◌, ◌++◌, ◌∙◌, ap, arith, subst, sym}
+use Rattle.std.proofs.Common.{◌≡◌, ◌+◌, IsFalse, is_some, nat_eq, length, [], ◌∷◌, ◌++◌, ◌∙◌, ap, arith, subst, sym}
 use Rattle.std.specs.Map.{lookup}
 use Rattle.std.proofs.lemmas.List.{length-append}
 use Rattle.rp_node.specs.Journals.{entries_from, told_more}
