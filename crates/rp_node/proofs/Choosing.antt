@@ -1,5 +1,5 @@
 -- An event at one of several nodes.
-use Rattle.std.proofs.Common.{◌≡◌, ℕ, zero, suc, ◌-◌, Option, None, Some, Result, Ok, Err, IfOk, List, [], ◌∷◌, set, get_or, slice_get, refl, sym, ap, subst, ◌∙◌, arith}
+use Rattle.std.proofs.Common.{◌≡◌, ℕ, zero, suc, ◌-◌, Option, None, Some, Result, Ok, Err, IfOk, List, [], ◌∷◌, set, get_or, slice_get, sym, ap, ◌∙◌, arith}
 use Rattle.rp_base.specs.declared.items.Item.{Item}
 use Rattle.rp_base.specs.declared.memory.NoMemory.{NoMemory}
 use Rattle.rp_request.specs.Applied.{AppliedState}

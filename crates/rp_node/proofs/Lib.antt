@@ -3,8 +3,11 @@ pub mod Turning
 pub mod Stepping
 pub mod Waiting
 pub mod Choosing
+pub mod Idling
+pub mod Flushing
 pub mod Collecting
 pub mod Coming
 pub mod Ticking
 pub mod Happening
 pub mod Briefly
+pub mod Journaling

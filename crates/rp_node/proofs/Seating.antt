@@ -1,9 +1,9 @@
 -- What a node is once one of its seats or its lists has changed.
-use Rattle.std.proofs.Common.{◌≡◌, ◌<◌, ℕ, Bool, true, false, List, ◌∷◌, [], ◌++◌, length, map, get_or, slice_index_or, slice_set, Option, None, Some, refl, sym, ap, subst, ◌∙◌}
+use Rattle.std.proofs.Common.{◌≡◌, ◌<◌, ℕ, true, false, List, length, map, get_or, slice_index_or, slice_set, Some, refl, sym, ap, subst, ◌∙◌}
 use Rattle.std.proofs.lemmas.List.{map-set, get_or-map, get_or_default}
 use Rattle.std.proofs.Math.Seq.{map-set_same}
 use Rattle.rp_request.specs.Applied.{AppliedState}
-use Rattle.rp_events.specs.Nodes.{Node, Status, Absent, Live, Removed, seat, with_seat, opened, opened_by, right_base, right_base_term}
+use Rattle.rp_events.specs.Nodes.{Node, Status, Absent, Live, seat, with_seat, opened, opened_by, right_base, right_base_term}
 use Rattle.rp_events.specs.Replicas.{started}
 use Rattle.rp_replica.specs.Rooms as rooms
 use Rattle.rp_node.specs.declared.cores.Core.{Core}

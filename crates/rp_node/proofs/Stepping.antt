@@ -1,5 +1,5 @@
 -- Each event of a node is the definition's.
-use Rattle.std.proofs.Common.{◌≡◌, ◌<◌, ℕ, zero, suc, ◌+◌, max, List, ◌∷◌, [], ◌++◌, length, map, get_or, slice_index_or, slice_set, Option, None, Some, refl, sym, ap, subst, ◌∙◌}
+use Rattle.std.proofs.Common.{◌≡◌, ◌<◌, ℕ, zero, suc, ◌+◌, max, List, ◌∷◌, [], ◌++◌, length, map, slice_index_or, slice_set, Option, None, Some, refl, sym, ap, subst, ◌∙◌}
 use Rattle.std.proofs.Math.ListN.{get_or-map}
 use Rattle.std.proofs.lemmas.List.{set-get_or, get_or-set_same, length-map}
 use Rattle.rp_request.specs.Applied.{AppliedState}
@@ -10,7 +10,6 @@ use Rattle.rp_events.specs.Replicas.{Done}
 use Rattle.rp_events.specs.ReplicaEvents.{event}
 use Rattle.rp_events.specs.declared.answers.EventAnswer.{EventAnswer}
 use Rattle.rp_events.specs.declared.answers.EventAnswer.TheVariants as answers
-use Rattle.rp_events.specs.declared.journals.JournalEntry.{JournalEntry}
 use Rattle.rp_events.specs.declared.journals.PastEvent.{PastEvent}
 use Rattle.rp_events.specs.declared.journals.PastEvent.TheVariants as past
 use Rattle.rp_events.specs.declared.replica_events.ReplicaEvent.{ReplicaEvent}

@@ -1,5 +1,5 @@
 -- An event of every live replica: its plans, one turn after another, make what the event makes.
-use Rattle.std.proofs.Common.{◌≡◌, ◌<◌, ◌≤◌, ◌≢◌, ℕ, zero, suc, ◌+◌, List, ◌∷◌, [], ◌++◌, length, map, drop, take, get_or, slice_index_or, slice_set, sum_by, Option, None, Some, MatchOption, refl, sym, ap, subst, ◌∙◌, arith, below_more, length-append, get_or-set_other}
+use Rattle.std.proofs.Common.{◌≡◌, ◌<◌, ◌≤◌, ℕ, zero, suc, ◌+◌, List, ◌∷◌, [], ◌++◌, length, map, drop, take, get_or, slice_index_or, slice_set, sum_by, Option, None, Some, MatchOption, refl, sym, ap, subst, ◌∙◌, arith, below_more, length-append, get_or-set_other}
 use Rattle.std.proofs.Math.ListN.{get_or-append}
 use Rattle.std.proofs.Math.Seq.{get_or-append_seam, map-set_same}
 use Rattle.std.proofs.lemmas.List.{get_or-set_same}
@@ -16,9 +16,9 @@ use Rattle.rp_events.specs.declared.answers.EventAnswer.TheVariants as answers
 use Rattle.rp_events.specs.declared.journals.PastEvent.{PastEvent}
 use Rattle.rp_events.specs.declared.replica_events.ReplicaEvent.{ReplicaEvent}
 use Rattle.rp_events.specs.declared.replica_events.ReplicaEvent.TheVariants as at_replica
-use Rattle.rp_events.specs.Nodes.{Node, NodeDone, Status, Absent, Live, Removed, seat, with_seat, opened, opened_by, range_numbers, written}
-use Rattle.rp_events.specs.NodeEvents.{by_status, live_turn, all_turns, after_replica, done}
-use Rattle.rp_replica.specs.Plans.{Left, planned, right_in}
+use Rattle.rp_events.specs.Nodes.{Node, NodeDone, Status, Absent, Live, Removed, seat, opened, opened_by, range_numbers, written}
+use Rattle.rp_events.specs.NodeEvents.{by_status, live_turn, all_turns, done}
+use Rattle.rp_replica.specs.Plans.{planned, right_in}
 use Rattle.rp_replica.specs.declared.plans.ReplicaPlan.{ReplicaPlan}
 use Rattle.rp_replica.specs.declared.plans.ReplicaPlan.TheVariants.{Answers, Admits, Asks, Collects, Applies, HandsOver, Cuts, Removes, Restarts}
 use Rattle.rp_node.specs.declared.cores.Core.{Core}
@@ -28,7 +28,7 @@ use Rattle.rp_node.specs.declared.seats.Seat.TheVariants as seats
 use Rattle.rp_node.specs.declared.ticks.NodeWide.{NodeWide}
 use Rattle.rp_node.specs.declared.ticks.NodeWide.TheVariants.{Tick, Restart}
 use Rattle.rp_node.specs.Cores.{AreAlike, node_of, seat_in, status_of}
-use Rattle.rp_node.specs.Plans.{SeatReady, StaysLive, TurnReady, PlanReady, answered, effects_by, handed_out, refused, turned, turned_by, with_left}
+use Rattle.rp_node.specs.Plans.{SeatReady, StaysLive, TurnReady, answered, effects_by, handed_out, turned, with_left}
 use Rattle.rp_node.specs.Ticks.{AllReady, ArePrepared, OpensNothing, TurnedAt, ends_of, event_of, plan_in, seat_ends, seat_sends, sends_of, with_ticks}
 use Rattle.rp_node.proofs.Seating.{alike_node, seat_is}
 use Rattle.rp_node.proofs.Stepping.{seat_at}

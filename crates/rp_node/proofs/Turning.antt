@@ -1,5 +1,5 @@
 -- What a committed plan leaves of a node is what the event leaves.
-use Rattle.std.proofs.Common.{◌≡◌, ◌<◌, ◌≤◌, ℕ, List, ◌∷◌, [], ◌++◌, length, get_or, slice_index_or, slice_set, Option, None, Some, refl, sym, ap, subst, ◌∙◌}
+use Rattle.std.proofs.Common.{◌≡◌, ◌<◌, ◌≤◌, ℕ, List, ◌∷◌, [], ◌++◌, length, get_or, slice_set, Option, None, Some, refl, sym, ap, subst, ◌∙◌}
 use Rattle.rp_request.specs.Applied.{AppliedState}
 use Rattle.rp_request.specs.declared.outcomes.Refusal.TheVariants.{NoReplica}
 use Rattle.rp_events.specs.Replicas as replicas
@@ -8,12 +8,11 @@ use Rattle.rp_events.specs.ReplicaEvents.{event}
 use Rattle.rp_events.specs.declared.answers.Effects.{Effects}
 use Rattle.rp_events.specs.declared.answers.EventAnswer.{EventAnswer}
 use Rattle.rp_events.specs.declared.answers.EventAnswer.TheVariants as answers
-use Rattle.rp_events.specs.declared.journals.JournalEntry.{JournalEntry}
 use Rattle.rp_events.specs.declared.journals.PastEvent.{PastEvent}
 use Rattle.rp_events.specs.declared.replica_events.ReplicaEvent.{ReplicaEvent}
 use Rattle.rp_events.specs.declared.replica_events.ReplicaEvent.TheVariants as at_replica
-use Rattle.rp_events.specs.Nodes.{Node, NodeDone, Status, Absent, Live, Removed, seat, with_seat, after_turn, parcels, opened, written}
-use Rattle.rp_events.specs.NodeEvents.{status_after, after_replica, by_status, by_replica}
+use Rattle.rp_events.specs.Nodes.{Node, Status, Live, with_seat, after_turn, parcels, opened, written}
+use Rattle.rp_events.specs.NodeEvents.{status_after, after_replica, by_status}
 use Rattle.rp_replica.specs.Plans.{Left, left_of, planned, right_in}
 use Rattle.rp_replica.specs.declared.plans.ReplicaPlan.{ReplicaPlan}
 use Rattle.rp_node.specs.declared.cores.Core.{Core}
@@ -21,8 +20,8 @@ use Rattle.rp_node.specs.declared.logs.Logs.{Logs}
 use Rattle.rp_node.specs.declared.seats.Seat.{Seat}
 use Rattle.rp_node.specs.declared.seats.Seat.TheVariants as seats
 use Rattle.rp_node.specs.Cores.{status_of, seat_in, node_of}
-use Rattle.rp_node.specs.Plans.{SeatReady, TurnReady, StaysLive, IsPrepared, with_left, turned_by, turned, refused, handed_out, status_by, effects_by, answered}
-use Rattle.rp_node.proofs.Seating.{kept_node, seat_is, seat_of, with_status}
+use Rattle.rp_node.specs.Plans.{SeatReady, TurnReady, StaysLive, turned_by, turned, refused, handed_out, status_by, effects_by, answered}
+use Rattle.rp_node.proofs.Seating.{kept_node, seat_is, with_status}
 
 pub some_same : (a b : Effects AppliedState) → ◌≡◌ {A = Option (Effects AppliedState)} (Some a) (Some b) → a ≡ b
 some_same a b e = cc

@@ -1,7 +1,6 @@
 -- What a collect asks of the buffer end.
-use Rattle.std.specs.Prelude.{◌≡◌, ℕ, ◌≤◌, List, length, Option, None, Some}
+use Rattle.std.specs.Prelude.{ℕ, List, Option, None, Some}
 use Rattle.rp_base.specs.Kept.{Kept}
-use Rattle.rp_base.specs.Limits.{buffer_capacity}
 use Rattle.rp_base.specs.declared.items.Item.{Item}
 use Rattle.rp_replica.specs.declared.plans.ReplicaPlan.{ReplicaPlan}
 use Rattle.rp_replica.specs.declared.plans.ReplicaPlan.TheVariants.{Collects}
@@ -13,24 +12,13 @@ use Rattle.rp_node.specs.Steps.{Held, IsLeft}
 abbrev pub held : {B : Type 0} → Core → B → Held B
 held c end = record { node = node_of c; end = end }
 
--- the end gave these items, and they stand in the plan
-pub record IsFilled {B : Type 0} (gives : B → ℕ → List Item → B → Type 0)
-    (old : B) (range : ℕ) (plan : Option ReplicaPlan) (taken : List Item) (new : B) : Type 0 where
-  pub items : Kept Item
-  pub list : items.list ≡ taken
-  pub few : length items.list ≤ buffer_capacity
-  pub stands : plan ≡ Some (Collects items)
-  pub gave : gives old range taken new
+-- the end is asked for what a plan takes; without a plan nothing is asked
+abbrev pub Asked : {B : Type 0} → (gives : B → ℕ → List Item → B → Type 0)
+    → Option ReplicaPlan → (old : B) → (range : ℕ) → (taken : List Item) → (new : B) → Type 0
+Asked gives None old range taken new = IsLeft old taken new
+Asked gives (Some p) old range taken new = gives old range taken new
 
--- without a plan nothing is asked
-pub record IsUnasked {B : Type 0}
-    (old : B) (plan : Option ReplicaPlan) (taken : List Item) (new : B) : Type 0 where
-  pub planned : plan ≡ None
-  pub left : IsLeft old taken new
-
--- the plan of a collect, before and after the end was asked for what it takes
-abbrev pub Filled : {B : Type 0} → (gives : B → ℕ → List Item → B → Type 0)
-    → (before : Option ReplicaPlan) → (old : B) → (range : ℕ)
-    → (after : Option ReplicaPlan) → (taken : List Item) → (new : B) → Type 0
-Filled gives None old range plan taken new = IsUnasked old plan taken new
-Filled gives (Some p) old range plan taken new = IsFilled gives old range plan taken new
+-- the plan of a collect with what the end gave
+abbrev pub filled : Option ReplicaPlan → Kept Item → Option ReplicaPlan
+filled None taken = None
+filled (Some p) taken = Some (Collects taken)

@@ -6,13 +6,12 @@ use Rattle.rp_events.specs.declared.journals.PastEvent.TheVariants as past
 use Rattle.rp_events.specs.declared.replica_events.ReplicaEvent.{ReplicaEvent}
 use Rattle.rp_events.specs.declared.replica_events.ReplicaEvent.TheVariants as at_replica
 use Rattle.rp_node.specs.declared.briefs.Brief.{Brief}
-use Rattle.rp_node.specs.declared.briefs.Brief.TheVariants.{Ask, Transfer, Flush, Apply, Cut, Peek}
+use Rattle.rp_node.specs.declared.briefs.Brief.TheVariants.{Ask, Transfer, Apply, Cut, Peek}
 
 -- the replica's event
 abbrev pub event_in_full : Brief → ReplicaEvent AppliedState
 event_in_full Ask = at_replica.Ask
 event_in_full (Transfer to) = at_replica.Transfer to
-event_in_full Flush = at_replica.Flush
 event_in_full Apply = at_replica.Apply
 event_in_full Cut = at_replica.Cut
 event_in_full (Peek key) = at_replica.Peek key
@@ -21,7 +20,6 @@ event_in_full (Peek key) = at_replica.Peek key
 abbrev pub past_in_full : (range : ℕ) → Brief → PastEvent
 past_in_full range Ask = past.Ask range
 past_in_full range (Transfer to) = past.Transfer range to
-past_in_full range Flush = past.Flush range
 past_in_full range Apply = past.Apply range
 past_in_full range Cut = past.Cut range
 past_in_full range (Peek key) = past.Peek range key

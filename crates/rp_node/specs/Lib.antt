@@ -6,4 +6,7 @@ pub mod Waits
 pub mod Several
 pub mod Ticks
 pub mod Asked
+pub mod Reserves
+pub mod Idles
 pub mod Briefs
+pub mod Journals

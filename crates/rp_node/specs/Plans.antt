@@ -128,3 +128,8 @@ taken_down (Removed applied) = Removed applied
 
 abbrev pub taken_down_in : Node → (range : ℕ) → Node
 taken_down_in n range = with_seat n range (taken_down (seat n range))
+
+-- where there is a plan it was done, and without a replica it is refused
+abbrev pub idle_answer : Option ReplicaPlan → EventAnswer
+idle_answer None = answers.Refused NoReplica
+idle_answer (Some p) = answers.Done

@@ -19,7 +19,6 @@ use rp_snapshot::Snapshot;
 pub(crate) enum Brief {
     Ask,
     Transfer { to: NodeId },
-    Flush,
     Apply,
     Cut,
     Peek { key: Key },
@@ -33,7 +32,6 @@ impl Brief {
         match *self {
             Brief::Ask => ReplicaEvent::Ask,
             Brief::Transfer { to } => ReplicaEvent::Transfer { to },
-            Brief::Flush => ReplicaEvent::Flush,
             Brief::Apply => ReplicaEvent::Apply,
             Brief::Cut => ReplicaEvent::Cut,
             Brief::Peek { key } => ReplicaEvent::Peek { key },
@@ -47,7 +45,6 @@ impl Brief {
         match *self {
             Brief::Ask => PastEvent::Ask { range },
             Brief::Transfer { to } => PastEvent::Transfer { range, to },
-            Brief::Flush => PastEvent::Flush { range },
             Brief::Apply => PastEvent::Apply { range },
             Brief::Cut => PastEvent::Cut { range },
             Brief::Peek { key } => PastEvent::Peek { range, key },

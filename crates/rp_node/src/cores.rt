@@ -8,7 +8,9 @@ ghost use Rattle.rp_events.specs.MaySteps.{SeatAllows};
 ghost use Rattle.rp_node.specs.Plans.{IsPrepared, TurnReady, answered, turned};
 ghost use Rattle.rp_node.specs.Ticks.{TurnedAt};
 
-use crate::logs::{Journal, Logs, Outcomes, Requests, Sent};
+use crate::journals::Journal;
+use crate::logs::{Logs, Outcomes, Requests, Sent};
+use crate::reserves::Reserves;
 use crate::seats::Seat;
 use rp_base::{NoMemory, NodeId, RangeId, Tick};
 use rp_events::{Effects, EventAnswer, ReplicaEvent};
@@ -32,6 +34,7 @@ pub struct Core {
     pub(crate) rounds: u64,
     pub(crate) waited: u64,
     pub(crate) logs: Logs,
+    pub(crate) reserves: Reserves,
 }
 
 /// How many messages and outcomes a plan will hand out.
@@ -76,6 +79,7 @@ impl Core {
                 requests: Requests::new(alloc),
                 outcomes: Outcomes::new(alloc),
             },
+            reserves: Reserves::new(alloc),
         }
     }
 
@@ -93,6 +97,7 @@ impl Core {
             happens self.new.ticks self.new.rounds p) }
         ensures seat { range < length self.new.seats }
         ensures nodes { self.new.nodes ≡ self.old.nodes }
+        ensures reserves { self.new.reserves ≡ self.old.reserves }
     {
         let (ticks, rounds) = (self.ticks, self.rounds);
         let plan = self.seats[usize::from(range.get())].plan(happens, ticks, rounds)?;

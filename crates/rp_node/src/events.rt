@@ -25,7 +25,7 @@ impl<B: BufferEnd + Drop> Node<B> {
             Event::Ask { range } => core.happen_briefly(range, Brief::Ask),
             Event::Transfer { range, to } => core.happen_briefly(range, Brief::Transfer { to }),
             Event::Collect { range } => core.collect(&mut self.end, range),
-            Event::Flush { range } => core.happen_briefly(range, Brief::Flush),
+            Event::Flush { range } => core.flush(range),
             Event::Tick => core.tick(),
             Event::Deliver {
                 from,

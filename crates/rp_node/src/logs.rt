@@ -3,17 +3,15 @@ ghost use Rattle.std.specs.Prelude.{◌≡◌, ◌+◌, ◌≤◌, ◌++◌, ◌
 ghost use Rattle.rp_events.specs.Nodes.{parcels};
 ghost use Rattle.rp_node.specs.Cores.{AreAlike, HasSpare};
 
+use crate::journals::Journal;
 use rp_base::{Grown, NoMemory, NodeId, RangeId, Seq};
-use rp_events::{Ended, EventAnswer, JournalEntry, Parcel, PastEvent};
+use rp_events::{Ended, EventAnswer, Parcel, PastEvent};
 use rp_raftstep::Message;
 use rp_request::Request;
 use rp_snapshot::Snapshot;
 
 /// All that a node has sent, in order; the first one has the number 1.
 pub type Sent = Grown<Parcel<Snapshot>>;
-
-/// All events of a node with their answers, in order.
-pub type Journal = Grown<JournalEntry>;
 
 /// The requests that were to be admitted, in order.
 pub type Requests = Grown<Request>;
@@ -83,9 +81,6 @@ impl Logs {
         ensures outcomes { self.new.outcomes ≡ self.old.outcomes }
         ensures requests { self.new.requests ≡ self.old.requests }
     {
-        self.journal.push(JournalEntry {
-            event,
-            answer: *answer,
-        });
+        self.journal.push(event, answer);
     }
 }

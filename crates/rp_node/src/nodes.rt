@@ -4,7 +4,8 @@ ghost use Rattle.rp_events.specs.Nodes.{first_node, is_full, seat};
 ghost use Rattle.rp_node.specs.Seen.{Shows};
 
 use crate::cores::Core;
-use crate::logs::{Journal, Outcomes, Requests, Sent};
+use crate::journals::Journal;
+use crate::logs::{Outcomes, Requests, Sent};
 use crate::seats::Seen;
 use rp_base::{NodeId, RangeId};
 use rp_bufcore::BufferEnd;

@@ -5,7 +5,7 @@ use crate::samples::{alone, ask_of, first, one};
 use crate::steps::happens;
 use rp_base::{BUFFER_CAPACITY, Item, Items};
 use rp_bufcore::{BufferEnd, PlainEnd};
-use rp_events::{Event, EventAnswer, JournalEntry, PastEvent};
+use rp_events::{Event, EventAnswer, PastEvent};
 use rp_node::{Node, Seen};
 use std::test::Fail;
 
@@ -18,14 +18,9 @@ fn puts(node: &mut Node<PlainEnd>) -> bool
 }
 
 /// Whether the journal has this item as what a collect took.
-fn is_taken(journal: &[JournalEntry], item: &Item) -> bool {
-    match journal {
-        [
-            JournalEntry {
-                event: PastEvent::Collect { taken, .. },
-                ..
-            },
-        ] => is_alone(taken.as_slice(), item),
+fn is_taken(events: &[PastEvent], item: &Item) -> bool {
+    match events {
+        [PastEvent::Collect { taken, .. }] => is_alone(taken.as_slice(), item),
         _ => false,
     }
 }
@@ -43,7 +38,7 @@ fn collects(node: &mut Node<PlainEnd>) -> bool
 {
     let item = Item::Lease(ask_of(one()));
     happens(node, Event::Collect { range: first() }, &EventAnswer::Done)
-        && is_taken(node.journal().as_slice(), &item)
+        && is_taken(node.journal().events(), &item)
 }
 
 #[test]

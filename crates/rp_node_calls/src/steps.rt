@@ -5,8 +5,8 @@ ghost use Rattle.rp_events.specs.MaySteps.{MayDo};
 use crate::samples::{alone, attempt, first, key, put};
 use rp_base::Key;
 use rp_bufcore::PlainEnd;
-use rp_events::{Ended, Event, EventAnswer, JournalEntry, PastEvent};
-use rp_node::{Node, Seen};
+use rp_events::{Ended, Event, EventAnswer, PastEvent};
+use rp_node::{Journal, Node, Seen};
 use rp_request::{Outcome, Refusal, Request};
 use rp_snapshot::Snapshot;
 use std::test::Fail;
@@ -38,21 +38,27 @@ fn removes(node: &mut Node<PlainEnd>) -> bool
     happens(node, Event::Remove { range: first() }, &EventAnswer::Done)
 }
 
-/// Whether the first two events stand in the journal, with their answers.
-fn are_written(journal: &[JournalEntry]) -> bool {
-    match journal {
+/// Whether the first two events stand in the journal.
+fn have_happened(events: &[PastEvent]) -> bool {
+    match events {
         [
-            JournalEntry {
-                event: PastEvent::Admit { id, place: 0, .. },
-                answer: EventAnswer::Admitted,
-            },
-            JournalEntry {
-                event: PastEvent::Remove { .. },
-                answer: EventAnswer::Done,
-            },
+            PastEvent::Admit { id, place: 0, .. },
+            PastEvent::Remove { .. },
         ] => *id == attempt(),
         _ => false,
     }
+}
+
+/// Whether the event at a place was answered so.
+fn was_answered(journal: &Journal, place: usize, answer: &EventAnswer) -> bool {
+    place < journal.len() && journal.answer(place) == *answer
+}
+
+/// Whether the first two events stand in the journal, with their answers.
+fn are_written(journal: &Journal) -> bool {
+    have_happened(journal.events())
+        && was_answered(journal, 0, &EventAnswer::Admitted)
+        && was_answered(journal, 1, &EventAnswer::Done)
 }
 
 /// Whether the attempt alone ended, and was refused.
@@ -81,7 +87,7 @@ fn has_tombstone(node: &Node<PlainEnd>) -> bool {
 
 /// Whether the admission and the removal are kept, and a tombstone stands in the seat.
 fn keeps_both(node: &Node<PlainEnd>, key: Key) -> bool {
-    are_written(node.journal().as_slice())
+    are_written(node.journal())
         && is_refused(node.outcomes().as_slice())
         && is_asked(node.requests().as_slice(), key)
         && has_tombstone(node)

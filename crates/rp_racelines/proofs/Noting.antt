@@ -1,5 +1,5 @@
 -- The latest attempt of each command, entry by entry.
-use Rattle.std.proofs.Common.{◌≡◌, ℕ, ◌+◌, ◌<◌, ◌≤◌, Bool, true, false, cond, ⊎_elim, max, Option, None, Some, List, [], ◌∷◌, ◌++◌, length, get_or, take, refl, sym, ap, subst, ◌∙◌, arith}
+use Rattle.std.proofs.Common.{◌≡◌, ℕ, zero, suc, ◌+◌, ◌<◌, ◌≤◌, Bool, true, false, cond, ⊎_elim, max, Option, None, Some, List, [], ◌∷◌, ◌++◌, length, get_or, map, take, refl, sym, ap, subst, ◌∙◌, arith}
 use Rattle.std.specs.Prelude.{◌==◌, ◌&&◌, ◌||◌}
 use Rattle.std.specs.List.{find, list_any}
 use Rattle.std.specs.Map.{lookup}
@@ -305,7 +305,7 @@ no_entries w n known h client seq =
     (lookup (is_command client seq) known) (h client seq)
 
 -- an entry more
-pub entry_more : (w : World) (n : Node) (i : ℕ) (e : JournalEntry) (told : CmdId → Option Outcome) (known new : Entries) → i < length n.journal → e ≡ get_or n.journal i e
+entry_more : (w : World) (n : Node) (i : ℕ) (e : JournalEntry) (told : CmdId → Option Outcome) (known new : Entries) → i < length n.journal → e ≡ get_or n.journal i e
     → ((id : CmdId) → told id ≡ ended_of id n.outcomes)
     → ((client seq : ℕ) → lookup (is_command client seq) new ≡ noted_entry e told client seq (lookup (is_command client seq) known))
     → AreLatest (w ++ with_journal n (take i n.journal) ∷ []) known → AreLatest (w ++ with_journal n (take (i + 1) n.journal) ∷ []) new
@@ -314,6 +314,31 @@ entry_more w n i e told known new lt is ends notes h client seq =
     (subst (IsLatest (w ++ with_journal n (take i n.journal ++ e ∷ []) ∷ []) client seq)
     (sym (notes client seq ∙ noted_alike told (λ id. ended_of id n.outcomes) ends e.answer client seq (lookup (is_command client seq) known) e.event))
     (noted_by w n (take i n.journal) e.answer client seq e.event (lookup (is_command client seq) known) (h client seq)))
+
+-- what stands at a place
+event_at : (es : List JournalEntry) (i : ℕ) (d : JournalEntry) → get_or (map (λ (e : JournalEntry). e.event) es) i d.event ≡ (get_or es i d).event
+event_at [] i d = refl
+event_at (e ∷ es) zero d = refl
+event_at (e ∷ es) (suc i) d = event_at es i d
+
+any_default : (es : List JournalEntry) (i : ℕ) (d e : JournalEntry) → i < length es → get_or es i d ≡ get_or es i e
+any_default [] i d e lt = absurd (omega (arith, lt))
+any_default (x ∷ es) zero d e lt = refl
+any_default (x ∷ es) (suc i) d e lt = any_default es i d e (omega (arith, lt))
+
+-- an event more, with its answer
+pub event_more : (w : World) (n : Node) (i : ℕ) (event : PastEvent) (told : CmdId → Option Outcome) (known new : Entries) → i < length n.journal
+    → event ≡ get_or (map (λ (e : JournalEntry). e.event) n.journal) i event
+    → ((id : CmdId) → told id ≡ ended_of id n.outcomes)
+    → ((client seq : ℕ) (e : JournalEntry) → lookup (is_command client seq) new
+    ≡ noted_event (get_or n.journal i e).answer told client seq (lookup (is_command client seq) known) event)
+    → AreLatest (w ++ with_journal n (take i n.journal) ∷ []) known → AreLatest (w ++ with_journal n (take (i + 1) n.journal) ∷ []) new
+event_more w n i event told known new lt is ends notes h =
+    let d : JournalEntry = record { event = event; answer = answers.Done } in
+    let e = get_or n.journal i d in
+    entry_more w n i e told known new lt (any_default n.journal i d e lt) ends
+    (λ client seq. notes client seq d
+    ∙ ap (noted_event e.answer told client seq (lookup (is_command client seq) known)) (is ∙ event_at n.journal i d)) h
 
 -- all of them
 pub all_entries : (w : World) (n : Node) (i : ℕ) (known : Entries) → length n.journal ≤ i → AreLatest (w ++ with_journal n (take i n.journal) ∷ []) known → AreLatest (w ++ n ∷ []) known

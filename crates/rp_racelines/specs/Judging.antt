@@ -28,5 +28,9 @@ whole_after whole (Admit range id place) = whole
 whole_after whole (Round sent) = true
 whole_after whole _ = false
 
+-- and it is between two rounds behind these events
+abbrev pub whole_behind : List PastEvent → Bool
+whole_behind events = fold whole_after true events
+
 abbrev pub ends_whole : List JournalEntry → Bool
 ends_whole journal = fold (λ whole e. whole_after whole e.event) true journal

@@ -1,19 +1,20 @@
 //! The latest attempt of each command that the journals name, and its outcome.
-ghost use Rattle.std.specs.Prelude.{◌≡◌, ℕ, ◌≤◌, ◌==◌, ◌&&◌, if◌then◌else◌, ◌++◌, ◌∷◌, [], map, None, Some, IfOk, OnOk};
+ghost use Rattle.std.specs.Prelude.{◌≡◌, ℕ, ◌<◌, ◌≤◌, ◌==◌, ◌&&◌, if◌then◌else◌, ◌++◌, ◌∷◌, [], length, map, slice_index_or, None, Some, IfOk, OnOk};
 ghost use Rattle.std.specs.Map.{lookup};
 ghost use Rattle.indexmap.specs.IndexMap.{spare};
 ghost use Rattle.rp_base.specs.Ids.{same_id};
 ghost use Rattle.rp_base.specs.declared.ids.CmdId.{CmdId};
+ghost use Rattle.rp_events.specs.declared.journals.JournalEntry.{JournalEntry};
 ghost use Rattle.rp_events.specs.Worlds.{World, ended_of};
 ghost use Rattle.rp_racelines.specs.declared.attempts.Latest.TheVariants.{Attempt};
 ghost use Rattle.rp_racelines.specs.declared.attempts.Told.TheVariants.{End};
-ghost use Rattle.rp_racelines.specs.Latest.{is_command, is_later, noted, ended_by, told_first, told_in, AreLatest, noted_entry};
+ghost use Rattle.rp_racelines.specs.Latest.{is_command, is_later, noted, ended_by, told_first, told_in, AreLatest, noted_event};
 
 use indexmap::IndexMap;
 use rp_base::{CmdId, NoMemory};
 use rp_bufcore::BufferEnd;
-use rp_events::{Ended, EventAnswer, JournalEntry, PastEvent};
-use rp_node::Node;
+use rp_events::{Ended, EventAnswer, PastEvent};
+use rp_node::{Journal, Node};
 use rp_request::Outcome;
 use std::alloc::Global;
 
@@ -135,17 +136,25 @@ fn note_attempt(attempts: &mut Attempts, id: CmdId, outcome: Outcome) -> Result<
     Ok(())
 }
 
-/// The attempt that an entry of a journal names is noted, with its outcome by the ends that its node
-/// tells.
-fn note_entry(attempts: &mut Attempts, ends: &Ends, entry: &JournalEntry) -> Result<(), NoMemory>
-    ensures { OnOk result ((client seq : ℕ) → lookup (is_command client seq) attempts.new.entries
-        ≡ noted_entry entry.now (told_in ends.now.entries) client seq
-        (lookup (is_command client seq) attempts.old.entries)) }
+/// The attempt that an event names is noted, with its outcome by its answer in the journal, or by the
+/// ends that its node tells.
+fn note_event(
+    attempts: &mut Attempts,
+    ends: &Ends,
+    journal: &Journal,
+    place: usize,
+    event: &PastEvent,
+) -> Result<(), NoMemory>
+    requires { place < length journal.now.list }
+    ensures { OnOk result ((client seq : ℕ) (e : JournalEntry)
+        → lookup (is_command client seq) attempts.new.entries
+        ≡ noted_event (slice_index_or journal.now.list place e).answer (told_in ends.now.entries)
+        client seq (lookup (is_command client seq) attempts.old.entries) event.now) }
 {
-    match entry.event {
+    match event {
         PastEvent::Admit { id, .. } => {
-            let outcome = ended_by(&entry.answer, told_of(ends, id));
-            note_attempt(attempts, id, outcome)
+            let outcome = ended_by(&journal.answer(place), told_of(ends, *id));
+            note_attempt(attempts, *id, outcome)
         }
         _ => Ok(()),
     }
@@ -161,8 +170,9 @@ fn note_node<B: BufferEnd + Drop>(
         → AreLatest (w ++ node.now.node ∷ []) attempts.new.entries) }
 {
     let ends = ends_of(alloc, node.outcomes().as_slice())?;
-    for entry in node.journal().as_slice() {
-        note_entry(attempts, &ends, entry)?;
+    let journal = node.journal();
+    for (place, event) in journal.events().iter().enumerate() {
+        note_event(attempts, &ends, journal, place, event)?;
     }
     Ok(())
 }

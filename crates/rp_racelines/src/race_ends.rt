@@ -6,7 +6,7 @@ ghost use Rattle.rp_events.specs.Buffered.{is_live};
 ghost use Rattle.rp_events.specs.Lawful.{IsReached};
 ghost use Rattle.rp_events.specs.Nodes.{is_full, seat};
 ghost use Rattle.rp_race.specs.Ends.{has_live, patience, IsWaitedOut};
-ghost use Rattle.rp_racelines.specs.Judging.{is_open_line, has_rounds, whole_after, ends_whole};
+ghost use Rattle.rp_racelines.specs.Judging.{is_open_line, has_rounds, whole_after, whole_behind, ends_whole};
 ghost use Rattle.rp_racelines.specs.Replies.{race_replies};
 ghost use Rattle.rp_racelines.specs.Verdicts.{command_count, AreWhole, EndsBy};
 
@@ -14,8 +14,8 @@ use crate::reply_lines::MOST_TRIES;
 use crate::verdicts::Verdict;
 use rp_base::RangeId;
 use rp_bufcore::BufferEnd;
-use rp_events::{JournalEntry, PastEvent};
-use rp_node::{Node, Nodes, Seen};
+use rp_events::PastEvent;
+use rp_node::{Journal, Node, Nodes, Seen};
 use rp_race::RaceRules;
 use rp_request::{End, Outcome, Refusal, Replies, ReplyLine};
 
@@ -180,15 +180,22 @@ fn whole_after(whole: bool, event: &PastEvent) -> bool
     }
 }
 
-/// Whether the last round of a journal has ended.
-fn ends_whole(journal: &[JournalEntry]) -> bool
-    ensures { result ≡ ends_whole journal.now }
+/// Whether the last round of these events has ended.
+fn whole_behind(events: &[PastEvent]) -> bool
+    ensures { result ≡ whole_behind events.now }
 {
     let mut whole = true;
-    for entry in journal {
-        whole = whole_after(whole, &entry.event);
+    for event in events {
+        whole = whole_after(whole, event);
     }
     whole
+}
+
+/// Whether the last round of a journal has ended.
+fn ends_whole(journal: &Journal) -> bool
+    ensures { result ≡ ends_whole journal.now.list }
+{
+    whole_behind(journal.events())
 }
 
 /// Whether no round of these nodes was broken off.
@@ -196,7 +203,7 @@ fn are_whole<B: BufferEnd + Drop>(nodes: &[Node<B>]) -> bool
     ensures { result ≡ list_all (λ n. ends_whole n.journal) (map (λ h. h.node) nodes.now) }
 {
     for node in nodes {
-        if !ends_whole(node.journal().as_slice()) {
+        if !ends_whole(node.journal()) {
             return false;
         }
     }

@@ -9,7 +9,7 @@ use crate::samples::{key, opened};
 use crate::visits::{Aim, begins, first_id, passes};
 use rp_base::{Key, NodeId};
 use rp_bufcore::PlainEnd;
-use rp_events::{JournalEntry, PastEvent};
+use rp_events::PastEvent;
 use rp_node::{Node, Nodes};
 use rp_router::Hints;
 use rp_switch::{Seat, Switch};
@@ -207,16 +207,16 @@ fn aimed(key: Key) -> Aim
 
 /// How often a node was asked for a client's first try.
 fn times(node: &Node<PlainEnd>, client: u16) -> usize {
-    let is_it = |entry: &JournalEntry| -> bool {
-        match &entry.event {
+    let is_it = |event: &PastEvent| -> bool {
+        match event {
             PastEvent::Admit { id, .. } => *id == first_id(client),
             _ => false,
         }
     };
     node.journal()
-        .as_slice()
+        .events()
         .iter()
-        .filter(|entry| is_it(entry))
+        .filter(|event| is_it(event))
         .count()
 }
 

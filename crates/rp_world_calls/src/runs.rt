@@ -5,8 +5,8 @@ ghost use Rattle.rp_events.specs.Lawful.{IsReached};
 use crate::samples::{admit, attempt, draw, first, key, one, publish, world_of_one};
 use rp_base::{Key, Value};
 use rp_bufcore::PlainEnd;
-use rp_events::{EventAnswer, JournalEntry, WorldEvent};
-use rp_node::Nodes;
+use rp_events::{EventAnswer, WorldEvent};
+use rp_node::{Journal, Nodes};
 use rp_request::{End, Outcome, Reply, ReplyLine};
 use rp_world::World;
 use std::test::Fail;
@@ -45,21 +45,18 @@ fn goes_on(world: &mut World, key: Key) -> bool
 }
 
 /// Whether the fifth event read this value as of index 1.
-fn reads(journal: &[JournalEntry], value: Value) -> bool {
+fn reads(journal: &Journal, value: Value) -> bool {
     let answer = EventAnswer::Value {
         value: Some(value),
         applied: 1,
     };
-    match journal {
-        [_, _, _, _, last] => last.answer == answer,
-        _ => false,
-    }
+    journal.len() == 5 && journal.answer(4) == answer
 }
 
 /// Whether this is so in the journal of node 1.
 fn node_reads(nodes: &Nodes<PlainEnd>, value: Value) -> bool {
     match nodes.get(one()) {
-        Some(node) => reads(node.journal().as_slice(), value),
+        Some(node) => reads(node.journal(), value),
         None => false,
     }
 }

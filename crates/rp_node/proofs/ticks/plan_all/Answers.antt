@@ -1,4 +1,4 @@
-use Rattle.std.proofs.Common.{List, ◌∷◌, [], ◌++◌, ◌+◌, Option, arith, get_or, slice_set, sym, ap, subst}
+use Rattle.std.proofs.Common.{List, ◌+◌, Option, arith, get_or, slice_set, sym, ap, subst}
 use Rattle.rp_request.specs.Applied.{AppliedState}
 use Rattle.rp_events.specs.MaySteps.{SeatAllows}
 use Rattle.rp_events.specs.declared.replica_events.ReplicaEvent.{ReplicaEvent}

@@ -1,4 +1,3 @@
-use Rattle.std.proofs.Common.{rules}
 use Rattle.rp_node.specs.Ticks.{seat_ends, seat_sends}
 use Rattle.rp_node.proofs.Ticking.{sizes_fit, sum_more}
 use Rattle.rp_node.proofs.ticks.sum_sizes.Goals as goal

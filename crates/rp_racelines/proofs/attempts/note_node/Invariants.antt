@@ -5,6 +5,6 @@ use Rattle.rp_racelines.proofs.Noting.{with_journal}
 use Rattle.rp_racelines.proofs.attempts.note_node.Given as goal
 
 -- the latest attempts by the entries so far
-abbrev pub invariant-loop-entry : goal.invariant-loop-entry
-invariant-loop-entry g l = (w : World) → AreLatest w l.fn.attempts.entries
-    → AreLatest (w ++ with_journal l.node.node (take l.entry-index l.node.node.journal) ∷ []) l.attempts.entries
+abbrev pub invariant-loop-place : goal.invariant-loop-place
+invariant-loop-place g l = (w : World) → AreLatest w l.fn.attempts.entries
+    → AreLatest (w ++ with_journal l.node.node (take l.place l.node.node.journal) ∷ []) l.attempts.entries

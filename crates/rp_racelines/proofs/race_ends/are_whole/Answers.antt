@@ -8,4 +8,4 @@ returns-then-not-ends_whole g c =
     let nodes = c.args.nodes.now in
     sym (all_but_one (λ n. ends_whole n.journal) (map (λ h. h.node) nodes) (suc c.loop-node.node-index) c.node-item.result.node
     (node_in nodes c.loop-node.node-index c.node-item.result c.loop-node-test.true c.node-item.is)
-    (sym (c.ends_whole.ensures ∙ ap ends_whole (c.as_slice.ensures ∙ c.journal.ensures)) ∙ c.if-not-ends_whole.true))
+    (sym (c.ends_whole.ensures ∙ ap ends_whole c.journal.ensures) ∙ c.if-not-ends_whole.true))

@@ -1,4 +1,4 @@
-use Rattle.std.proofs.Common.{[], refl, sym, ap, ◌∙◌}
+use Rattle.std.proofs.Common.{[], refl, ap, ◌∙◌}
 use Rattle.rp_events.specs.Nodes.{Node}
 use Rattle.rp_events.specs.NodeEvents.{by_replica, with_request}
 use Rattle.rp_events.specs.declared.journals.PastEvent.TheVariants as past

@@ -1,5 +1,5 @@
-use Rattle.std.proofs.Common.{rules, refl}
-use Rattle.rp_node.proofs.Seating.{opened_node, kept_closed}
+use Rattle.std.proofs.Common.{rules}
+use Rattle.rp_node.proofs.Seating.{opened_node}
 use Rattle.rp_node.proofs.cores.Core.open.Goals as goal
 
 pub returns-then-is_absent-clause-node : goal.returns-then-is_absent-clause-node

@@ -1,4 +1,3 @@
-use Rattle.std.proofs.Common.{rules}
 use Rattle.rp_node.specs.Cores.{node_of}
 use Rattle.rp_node.proofs.Stepping.{removed_node}
 use Rattle.rp_node.proofs.cores.Core.remove.Goals as goal

@@ -1,6 +1,4 @@
-use Rattle.std.proofs.Common.{rules, sym, ap, ◌∙◌, get_or}
-use Rattle.rp_node.specs.Cores.{status_of}
-use Rattle.rp_node.specs.Plans.{taken_down}
+use Rattle.std.proofs.Common.{rules, ap, get_or}
 use Rattle.rp_node.proofs.Seating.{down_node}
 use Rattle.rp_node.proofs.cores.Core.take_down.Goals as goal
 

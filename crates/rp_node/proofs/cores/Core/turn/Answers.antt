@@ -1,10 +1,6 @@
-use Rattle.std.proofs.Common.{rules, sym, ap, ◌∙◌, get_or, Some, None}
+use Rattle.std.proofs.Common.{rules, ap, ◌∙◌, get_or, Some, None}
 use Rattle.rp_events.specs.Nodes.{Node}
-use Rattle.rp_events.specs.declared.answers.EventAnswer.TheVariants.{Refused}
-use Rattle.rp_replica.specs.declared.plans.ReplicaPlan.{ReplicaPlan}
-use Rattle.std.specs.Prelude.{Option}
-use Rattle.rp_node.specs.Cores.{node_of, seat_in}
-use Rattle.rp_node.specs.Plans.{answered, turned}
+use Rattle.rp_node.specs.Plans.{answered}
 use Rattle.rp_node.proofs.Ticking.{turn_stays}
 use Rattle.rp_node.proofs.Turning.{nothing_turned, hands_fit, turn_done}
 use Rattle.rp_node.proofs.cores.Core.turn.Goals as goal
