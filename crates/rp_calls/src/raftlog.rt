@@ -3,7 +3,7 @@ ghost use Rattle.std.specs.Prelude.{◌≡◌, IfOk};
 
 use crate::samples::passed;
 use rp_base::Seq;
-use rp_raftlog::{Entries, Entry, Log, Mismatch, copies};
+use rp_raftlog::{Entries, Entry, Log, Mismatch, SharedBytes, copies};
 use std::alloc::Global;
 use std::test::Fail;
 
@@ -11,6 +11,7 @@ use std::test::Fail;
 fn entry(alloc: Global, term: u64, byte: u8) -> Result<Entry, Fail> {
     let mut payload = Seq::new(alloc);
     payload.push(byte)?;
+    let payload = SharedBytes::new(payload)?;
     Ok(Entry { term, payload })
 }
 

@@ -6,7 +6,7 @@ ghost use Rattle.rp_raft.specs.Plans.{quiet_draft, with_message};
 
 use crate::plans::{LogEdit, RaftDraft};
 use rp_base::{Bytes, NoMemory, NodeId, Seq};
-use rp_raftlog::{Entries, Entry};
+use rp_raftlog::{Entries, Entry, SharedBytes};
 use rp_raftstep::{Due, Head, Message};
 use std::alloc::Global;
 
@@ -39,6 +39,7 @@ pub(crate) fn one_entry(alloc: Global, term: u64, payload: Bytes) -> Result<Entr
     ensures { IfOk result (λ entries. entries ≡ record { term = term; payload = payload } ∷ []) }
 {
     let mut entries = Seq::new(alloc);
+    let payload = SharedBytes::new(payload)?;
     entries.push(Entry { term, payload })?;
     Ok(entries)
 }

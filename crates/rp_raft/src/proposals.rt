@@ -11,7 +11,7 @@ ghost use Rattle.rp_raft.specs.Plans.{DraftFits, Drafts, draft_of, edit_behind, 
 use crate::plans::{LogEdit, Messages, RaftDraft};
 use crate::rafts::Raft;
 use rp_base::{NoMemory, NodeId, Seq};
-use rp_raftlog::{Entries, Entry};
+use rp_raftlog::{Entries, Entry, SharedBytes};
 use rp_raftstep::{Due, Message, Payloads, Role};
 use std::alloc::Global;
 
@@ -22,6 +22,7 @@ fn entries_of(alloc: Global, term: u64, payloads: Payloads) -> Result<Entries, N
 {
     let mut entries = Vec::with_capacity(alloc, payloads.len())?;
     for payload in payloads.into_vec() {
+        let payload = SharedBytes::new(payload)?;
         entries.push(Entry { term, payload })?;
     }
     Ok(Seq::from_vec(entries))

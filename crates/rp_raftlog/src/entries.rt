@@ -1,22 +1,23 @@
 //! Entries of a log.
 ghost use Rattle.std.specs.Prelude.{◌≡◌, IfOk};
 
-use rp_base::{Bytes, NoMemory, Seq};
+use crate::payloads::SharedBytes;
+use rp_base::{NoMemory, Seq};
 use std::alloc::Global;
 
 /// An entry of a log: a payload, and the term of the leader that appended it (Raft 2014, section 5.3).
 #[derive(Drop)]
 pub struct Entry {
     pub term: u64,
-    pub payload: Bytes,
+    pub payload: SharedBytes,
 }
 
 impl Entry {
-    /// An equal entry.
+    /// An equal entry, which shares the payload.
     pub fn copy(&self) -> Result<Entry, NoMemory>
         ensures { IfOk result (λ copy. copy ≡ self.now) }
     {
-        let payload = self.payload.copy()?;
+        let payload = self.payload.share()?;
         Ok(Entry {
             term: self.term,
             payload,

@@ -4,7 +4,9 @@
 mod entries;
 mod logs;
 mod overlay;
+mod payloads;
 mod segments;
 
 pub use entries::{Entries, Entry, copies};
 pub use logs::{Log, Mismatch};
+pub use payloads::SharedBytes;
