@@ -17,3 +17,4 @@ pub use clients::drive;
 pub use desks::Desk;
 pub use finals::{CommandEnd, Final, Finals};
 pub use gates::{Gate, PlainGate};
+pub use requests::tries_again;

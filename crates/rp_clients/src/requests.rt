@@ -42,7 +42,7 @@ pub(crate) fn units_of(capacity: u64, request: &Request) -> u64
 }
 
 /// Whether a command is tried again after this refusal.
-pub(crate) fn tries_again(refusal: &Refusal) -> bool
+pub fn tries_again(refusal: &Refusal) -> bool
     ensures { result ≡ tries_again refusal.now }
 {
     match *refusal {

@@ -1,4 +1,5 @@
 pub mod Lists
+pub mod Itself
 pub mod Growing
 pub mod Reading
 pub mod Writing
@@ -12,6 +13,7 @@ pub mod Causing
 pub mod Ending
 pub mod Telling
 pub mod Waiting
+pub mod Places
 pub mod Elsewhere
 pub mod Alike
 pub mod Sizes

@@ -15,7 +15,7 @@ use Rattle.rp_events.specs.declared.world_events.WorldEvent.TheVariants as event
 use Rattle.rp_events.specs.Nodes.{Node}
 use Rattle.rp_events.specs.NodeEvents.{step}
 use Rattle.rp_events.specs.Worlds as worlds
-use Rattle.rp_events.specs.Worlds.{World, Happening, Scene, node_of, with_node, happens, is_admission_of, asked_at, was_asked, asked_request, asked_request_at, request_of}
+use Rattle.rp_events.specs.Worlds.{Happening, Scene, node_of, with_node, happens, was_asked}
 use Rattle.rp_events.specs.Lawful.{Lawful, IsLater}
 use Rattle.rp_events.specs.Buffered.{Buffered, buffered_step}
 use Rattle.rp_journals.proofs.Lists.{get_end}
@@ -31,7 +31,7 @@ use Rattle.rp_lines.specs.Commands.{asks}
 use Rattle.rp_lawful.specs.Sound.{Sound, IsSoundBooking, IsAskedAs, FollowsRefused, HasLatest}
 use Rattle.rp_lawful.specs.Comings.{scene_at}
 use Rattle.rp_lawful.specs.Onward.{IsBookedAs}
-use Rattle.rp_lawful.proofs.Worlds.{equal_itself}
+use Rattle.rp_journals.proofs.Itself.{equal_itself}
 use Rattle.rp_lawful.proofs.Books.{booked_here, booked_other, booked_apart, latest_new, latest_other}
 use Rattle.rp_lawful.proofs.Coming.{event_leaves}
 use Rattle.rp_lawful.proofs.Events.{Counted, counted_is, after_event, BookGrows, booking_on, booked_itself, handling_on, NodesOn, nodes_on}

@@ -13,16 +13,17 @@ use Rattle.rp_events.specs.declared.world_events.WorldEvent.{WorldEvent}
 use Rattle.rp_events.specs.declared.world_events.WorldEvent.TheVariants as events
 use Rattle.rp_events.specs.Nodes.{Node, is_full, parcel_of}
 use Rattle.rp_events.specs.Worlds as worlds
-use Rattle.rp_events.specs.Worlds.{World, Happening, Scene, node_of, sent_by, event_of, happens}
+use Rattle.rp_events.specs.Worlds.{World, Happening, Scene, node_of, sent_by, happens}
 use Rattle.rp_events.specs.Lawful.{Lawful, HasWidths, IsReached, is_lawful, is_allowed, happens_if}
 use Rattle.rp_events.specs.Buffered.{Buffered, buffers_at, has_live, at_node, changed, collects, collected, buffered_step}
 use Rattle.rp_allowed.proofs.Firm.{reached_firm}
 use Rattle.rp_allowed.proofs.Stepping.{may_step}
 use Rattle.rp_journals.proofs.Elsewhere.{event_some, lawful_node}
+use Rattle.rp_journals.proofs.Itself.{equal_itself}
 use Rattle.rp_lawful.specs.Sound.{AreSoundBuffers}
 use Rattle.rp_lawful.specs.Comings.{ComesAs, ComesBy, Comes, IsPlain, scene_at, node_in, happening_of, taken_at}
 use Rattle.rp_lawful.proofs.Buffers.{given_few, changed_sound, collected_run, beside_sound}
-use Rattle.rp_lawful.proofs.Worlds.{equal_itself, all_events, not_full}
+use Rattle.rp_lawful.proofs.Worlds.{all_events, not_full}
 
 -- a place of a list
 pub get_there : {X : Type 0} (xs : List X) (i : ℕ) → i < length xs → (x : X) × (slice_get xs i ≡ Some x)

@@ -1,20 +1,16 @@
 -- What a sound player may ask next.
 use Rattle.std.proofs.Common.{◌≡◌, ◌⊎◌, inl, inr, ℕ, zero, suc, ◌+◌, ◌-◌, ◌<◌, ◌≤◌, ◌^◌, Bool, true, false, Option, None, Some, length, get_or, refl, sym, ap, subst, ◌∙◌, arith}
-use Rattle.std.specs.Prelude.{slice_get, nat_lt, not, ◌==◌, ◌&&◌, ◌||◌, option_and_then}
-use Rattle.std.specs.Option.{option_map_or, option_eq}
+use Rattle.std.specs.Prelude.{slice_get, nat_lt, not, ◌||◌, option_and_then}
+use Rattle.std.specs.Option.{option_map_or}
 use Rattle.std.proofs.lemmas.Bool.{cases_eq}
 use Rattle.rp_base.specs.ClientCounts.{count_of, one_more_of}
-use Rattle.rp_base.specs.Values.{value_eq}
 use Rattle.rp_base.specs.declared.ids.CmdId.{CmdId}
-use Rattle.rp_base.specs.declared.values.Value.{Value}
 use Rattle.rp_base.proofs.ClientCountLaws.{one_more_length, client_within, one_more_counted, others_counted, counts_grow, counts_bounded}
 use Rattle.rp_base.proofs.IdLaws.{id_by_parts, same_itself}
-use Rattle.rp_base.proofs.ValueLaws.{value_eq-Decides}
 use Rattle.rp_request.specs.Attempts.{previous}
 use Rattle.rp_request.specs.Fits.{FitsId, FitsRequest}
 use Rattle.rp_request.specs.Requests.{same_request}
 use Rattle.rp_request.specs.declared.requests.Request.{Request}
-use Rattle.rp_request.specs.declared.requests.Request.TheVariants.{Put, Add, CPut, Del, Wipe, Move, Split}
 use Rattle.rp_script.specs.Bounds.{IsNode, IsClient, IsCommand}
 use Rattle.rp_events.specs.declared.journals.JournalEntry.{JournalEntry}
 use Rattle.rp_events.specs.declared.journals.PastEvent.TheVariants as past
@@ -28,6 +24,7 @@ use Rattle.rp_journals.proofs.Asking.{written_asked, asked_once, any_at}
 use Rattle.rp_journals.proofs.Telling.{found_place}
 use Rattle.rp_journals.proofs.Waiting.{any_place, found_any}
 use Rattle.rp_journals.proofs.Ending.{found_passes}
+use Rattle.rp_journals.proofs.Itself.{both, request_itself}
 use Rattle.rp_book.specs.declared.bookings.Booked.{Booked}
 use Rattle.rp_book.specs.Books.{booking_of, latest_of}
 use Rattle.rp_lines.specs.Players.{Player, next_command}
@@ -35,31 +32,10 @@ use Rattle.rp_lines.specs.Commands.{booking, following}
 use Rattle.rp_lawful.specs.Sound.{Sound, IsSoundBooking, IsAskedAs, HasLatest}
 use Rattle.rp_events.specs.declared.world_events.WorldEvent.TheVariants as events
 use Rattle.rp_lawful.specs.Comings.{Comes, scene_at}
-use Rattle.rp_lawful.proofs.Worlds.{equal_itself, all_events}
+use Rattle.rp_lawful.proofs.Worlds.{all_events}
 use Rattle.rp_lawful.proofs.Books.{IsHad, latest_had}
 use Rattle.rp_lawful.proofs.Coming.{lawful_at, comes_as}
 use Rattle.rp_lawful.proofs.Asks.{IsNext}
-
--- a request is itself
-option_itself : {A : Type 0} (eq : A → A → Bool) → ((x : A) → eq x x ≡ true) → (o : Option A) → option_eq eq o o ≡ true
-option_itself eq h None = refl
-option_itself eq h (Some x) = h x
-
-value_itself : (v : Value) → value_eq v v ≡ true
-value_itself v = (value_eq-Decides v v).1 refl
-
-both : (a b : Bool) → a ≡ true → b ≡ true → (a && b) ≡ true
-both true b e f = f
-both false b e f = absurd cc
-
-pub request_itself : (r : Request) → same_request r r ≡ true
-request_itself (Put key value) = both _ _ (equal_itself key) (value_itself value)
-request_itself (Add key by) = both _ _ (equal_itself key) (equal_itself by)
-request_itself (CPut key expect value) = both _ _ (both _ _ (equal_itself key) (option_itself value_eq value_itself expect)) (value_itself value)
-request_itself (Del key) = equal_itself key
-request_itself (Wipe span) = both _ _ (equal_itself span.start) (option_itself (λ a b. a == b) equal_itself span.end)
-request_itself (Move from to by) = both _ _ (both _ _ (equal_itself from) (equal_itself to)) (equal_itself by)
-request_itself (Split key) = equal_itself key
 
 pub asked_so_at : (w : World) (id : CmdId) (b : Booked) → IsAskedAs w id b → (n : Node) → node_of w b.node ≡ Some n → asked_at id n ≡ true
 asked_so_at w id b a n has = subst (λ (m : Node). asked_at id m ≡ true) (one_node w b.node a.n n a.has has) (any_at (is_admission_of id) a.n.journal a.place _ a.here (same_itself id))

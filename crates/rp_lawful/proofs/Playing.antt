@@ -45,7 +45,7 @@ use Rattle.rp_lawful.specs.Onward.{IsBookedAs, LeadsOn, LineLeadsOn, sent_after}
 use Rattle.rp_lawful.specs.Playable.{cluster_at, IsFront, CanPlay}
 use Rattle.rp_lawful.proofs.Buffers.{get_same, first_sound}
 use Rattle.rp_lawful.proofs.Books.{latest_had}
-use Rattle.rp_lawful.proofs.Worlds.{AskedThere, asked_there}
+use Rattle.rp_journals.proofs.Places.{AskedThere, asked_there}
 use Rattle.rp_lawful.proofs.Keeping.{Keeps, leads_refl, kept_ok, then_keeps, split_then, if_keeps, repeated_keeps}
 use Rattle.rp_lawful.proofs.Asks.{IsNext, AskLeads, asks_lead}
 use Rattle.rp_lawful.proofs.Coming.{message_comes}

@@ -1,20 +1,17 @@
 -- What a lawful scene does to what a player's soundness speaks of.
-use Rattle.std.proofs.Common.{◌≡◌, ◌⊎◌, inl, inr, ⊎_elim, ℕ, suc, ◌+◌, ◌<◌, ◌≤◌, true, false, Option, None, Some, [], ◌∷◌, length, refl, sym, ap, subst, ◌∙◌, arith}
-use Rattle.std.specs.Prelude.{nat_le, ◌==◌}
+use Rattle.std.proofs.Common.{◌≡◌, ◌⊎◌, inl, inr, ⊎_elim, ℕ, ◌+◌, ◌<◌, ◌≤◌, true, false, Option, None, Some, [], ◌∷◌, length, refl, sym, ap, subst, ◌∙◌, arith}
+use Rattle.std.specs.Prelude.{nat_le}
 use Rattle.std.specs.List.{sum_by}
 use Rattle.std.specs.Option.{option_map_or}
-use Rattle.std.proofs.lemmas.Bool.Decides.{Decides-eqb}
 use Rattle.std.proofs.lemmas.List.{length-append}
 use Rattle.rp_base.specs.declared.ids.CmdId.{CmdId}
 use Rattle.rp_request.specs.declared.outcomes.Outcome.{Outcome}
 use Rattle.rp_request.specs.declared.outcomes.Outcome.TheVariants as outcomes
 use Rattle.rp_request.specs.declared.outcomes.Refusal.{Refusal}
-use Rattle.rp_events.specs.declared.journals.JournalEntry.{JournalEntry}
 use Rattle.rp_events.specs.Nodes.{Node, is_full, journal_end}
 use Rattle.rp_events.specs.NodeEvents.{step}
-use Rattle.rp_events.specs.Worlds.{World, Scene, node_of, with_node, taken_in, happens, is_admission_of, asked_at, was_asked, outcome_of}
+use Rattle.rp_events.specs.Worlds.{World, Scene, node_of, with_node, taken_in, happens, is_admission_of, was_asked, outcome_of}
 use Rattle.rp_events.specs.Lawful.{IsReached, IsLater, is_refusal, was_refused}
-use Rattle.rp_events.specs.Lists.{IsWritten}
 use Rattle.rp_journals.specs.Growth.{WorldGrows}
 use Rattle.rp_journals.proofs.Growing.{Happened, happened, reached_later, later_grows}
 use Rattle.rp_journals.proofs.Reading.{entry_of, step_journal}
@@ -22,14 +19,11 @@ use Rattle.rp_journals.proofs.Writing.{EntryCases, Old, New, entry_cases}
 use Rattle.rp_journals.proofs.Staying.{asked_stays, outcome_stays, entries_stay, requests_stay}
 use Rattle.rp_journals.proofs.Asking.{admits, Admitting, written_asked, asked_once, sum_with, any_at}
 use Rattle.rp_journals.proofs.Telling.{OutcomeFrom, outcome_from, ToldBy, told_by}
-use Rattle.rp_journals.proofs.Waiting.{any_place, outcome_here}
+use Rattle.rp_journals.proofs.Waiting.{outcome_here}
+use Rattle.rp_journals.proofs.Places.{AskedThere, asked_there}
 use Rattle.rp_bound.proofs.Work.{sum_within}
 use Rattle.rp_book.specs.declared.bookings.Booked.{Booked}
 use Rattle.rp_lawful.specs.Sound.{IsAskedAs}
-
--- a number is itself
-pub equal_itself : (n : ℕ) → (n == n) ≡ true
-equal_itself n = (Decides-eqb n n).1 refl
 
 -- how many events the journals have
 abbrev pub all_events : World → ℕ
@@ -54,20 +48,6 @@ pub not_full : (w : World) (node : ℕ) (n : Node) → node_of w node ≡ Some n
 not_full w node n has few =
     let here : length n.journal ≤ all_events w = sum_within (λ (m : Node). length m.journal) w node n has in
     not_le (length n.journal) journal_end (omega (arith, here, few))
-
--- where an attempt was asked
-pub record AskedThere (w : World) (id : CmdId) : Type 0 where
-  pub node : ℕ
-  pub place : ℕ
-  pub e : JournalEntry
-  pub is : IsWritten w node place e
-  pub asks : is_admission_of id e ≡ true
-
-pub asked_there : (w : World) (id : CmdId) → was_asked w id ≡ true → AskedThere w id
-asked_there w id e =
-    let k = any_place (asked_at id) w e in
-    let j = any_place (is_admission_of id) (k.1).journal k.3 in
-    record { node = suc k.0; place = j.0; e = j.1; is = record { n = k.1; has = k.2; here = j.2 }; asks = j.3 }
 
 -- what was asked behind a scene was asked before, or is asked in it
 pub asked_scene : (w : World) (x : Scene) (id : CmdId) → was_asked (happens w x) id ≡ true → (was_asked w id ≡ true) ⊎ Admitting id x.what

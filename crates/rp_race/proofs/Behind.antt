@@ -1,41 +1,25 @@
 -- Of two tries of a client the earlier had ended before the later was made.
-use Rattle.std.proofs.Common.{◌≡◌, ℕ, suc, Bool, true, false, ◌⊎◌, inl, inr, ⊎_elim, List, [], ◌∷◌, refl, sym, ap, subst, ◌∙◌, arith}
+use Rattle.std.proofs.Common.{◌≡◌, ℕ, Bool, true, false, ◌⊎◌, ⊎_elim, List, [], ◌∷◌, refl, sym, subst, ◌∙◌, arith}
 use Rattle.std.specs.Prelude.{map}
 use Rattle.std.specs.List.{list_any}
 use Rattle.std.proofs.lemmas.Option.{slice_get_within}
 use Rattle.rp_base.specs.declared.ids.CmdId.{CmdId}
 use Rattle.rp_raftstep.specs.RaftState.{nodes_to}
 use Rattle.rp_request.specs.declared.requests.Request.{Request}
-use Rattle.rp_events.specs.declared.journals.JournalEntry.{JournalEntry}
-use Rattle.rp_events.specs.Lawful.{Lawful, AllLawful, IsReached, IsLater}
-use Rattle.rp_events.specs.Lists.{IsWritten}
+use Rattle.rp_events.specs.Lawful.{Lawful, AllLawful, IsLater}
 use Rattle.rp_events.specs.Nodes.{first_node}
 use Rattle.rp_events.specs.Worlds as worlds
 use Rattle.rp_events.specs.Worlds.{World, Scene, Schedule, taken_in, first_world, happens, run, is_admission_of, asked_at, was_asked}
 use Rattle.rp_journals.specs.Growth.{WorldGrows}
 use Rattle.rp_journals.proofs.Asking.{Admitting, admits, written_asked, true_not_false}
-use Rattle.rp_journals.proofs.Growing.{Happened, happened, scene_grows, later_grows, later_refl, later_trans}
-use Rattle.rp_journals.proofs.Waiting.{any_place}
+use Rattle.rp_journals.proofs.Growing.{Happened, happened, later_grows, later_refl, later_trans}
+use Rattle.rp_journals.proofs.Places.{AskedThere, asked_there}
 use Rattle.rp_journals.proofs.Writing.{EntryCases, Old, New, entry_cases, later_scene}
 use Rattle.rp_race.specs.declared.rules.RaceRules.{RaceRules}
 use Rattle.rp_race.specs.InTurn.{IsEarlier, IsInTurn, AllInTurn, CameInTurn, CameBehind}
 use Rattle.rp_race.specs.Race.{IsRace}
 use Rattle.rp_race.proofs.Ahead.{begun_back}
 use Rattle.rp_race.proofs.Nexts.{not_before, before_trans}
-
--- where an attempt is written
-record AskedThere (w : World) (id : CmdId) : Type 0 where
-  node : ℕ
-  place : ℕ
-  e : JournalEntry
-  is : IsWritten w node place e
-  asks : is_admission_of id e ≡ true
-
-asked_there : (w : World) (id : CmdId) → was_asked w id ≡ true → AskedThere w id
-asked_there w id e =
-    let k = any_place (asked_at id) w e in
-    let j = any_place (is_admission_of id) k.1.journal k.3 in
-    record { node = suc k.0; place = j.0; e = j.1; is = record { n = k.1; has = k.2; here = j.2 }; asks = j.3 }
 
 -- an attempt that was made in a scene is what the scene admits
 made_by : (w : World) (x : Scene) (id : CmdId) → was_asked w id ≡ false → was_asked (happens w x) id ≡ true → Admitting id x.what

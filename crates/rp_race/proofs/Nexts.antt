@@ -1,66 +1,38 @@
 -- The next try of a client is one that no journal has, behind a refusal of the try before it, and so is lawful.
-use Rattle.std.proofs.Common.{◌≡◌, ℕ, zero, suc, ◌+◌, ◌-◌, ◌<◌, ◌≤◌, Bool, true, false, cond, ◌⊎◌, inl, inr, ⊎_elim, eqb, eqb-true, eq-eqb, Option, None, Some, List, [], ◌∷◌, refl, sym, ap, subst, ◌∙◌, arith}
+use Rattle.std.proofs.Common.{◌≡◌, ℕ, zero, suc, ◌+◌, ◌-◌, ◌<◌, ◌≤◌, Bool, true, false, cond, inl, inr, eq-eqb, Option, None, Some, List, [], ◌∷◌, refl, sym, ap, subst, ◌∙◌, arith}
 use Rattle.std.specs.Prelude.{slice_get, nat_lt, not, ◌==◌, ◌&&◌, ◌||◌, option_and_then}
-use Rattle.std.specs.List.{find, list_any}
-use Rattle.std.specs.Option.{option_map_or, option_eq}
-use Rattle.std.proofs.lemmas.Bool.{cases_eq, cases_lt, and_from}
-use Rattle.rp_base.specs.Values.{value_eq}
+use Rattle.std.specs.List.{find}
+use Rattle.std.specs.Option.{option_map_or}
+use Rattle.std.proofs.lemmas.Bool.{and_from}
 use Rattle.rp_base.specs.declared.ids.CmdId.{CmdId}
-use Rattle.rp_base.specs.declared.values.Value.{Value}
 use Rattle.rp_base.proofs.IdLaws.{same_is, same_itself, id_by_parts}
-use Rattle.rp_base.proofs.ValueLaws.{value_eq-Decides}
 use Rattle.rp_request.specs.Attempts.{previous}
 use Rattle.rp_request.specs.Requests.{same_request}
 use Rattle.rp_request.specs.declared.outcomes.Outcome.{Outcome}
 use Rattle.rp_request.specs.declared.outcomes.Outcome.TheVariants.{Success, Refused, Ambiguous, Pending}
 use Rattle.rp_request.specs.declared.outcomes.Refusal.{Refusal}
 use Rattle.rp_request.specs.declared.requests.Request.{Request}
-use Rattle.rp_request.specs.declared.requests.Request.TheVariants.{Put, Add, CPut, Del, Wipe, Move, Split}
 use Rattle.rp_events.specs.declared.answers.EventAnswer.{EventAnswer}
 use Rattle.rp_events.specs.declared.journals.JournalEntry.{JournalEntry}
 use Rattle.rp_events.specs.declared.journals.PastEvent.{PastEvent}
 use Rattle.rp_events.specs.declared.journals.PastEvent.TheVariants as past
-use Rattle.rp_events.specs.Lawful.{is_refusal, was_refused, may_begin, is_lawful, is_allowed, Lawful, IsReached}
-use Rattle.rp_events.specs.Lists.{IsWritten}
+use Rattle.rp_events.specs.Lawful.{is_refusal, was_refused, may_begin, Lawful}
 use Rattle.rp_events.specs.Nodes.{Node, is_full}
 use Rattle.rp_events.specs.Worlds as worlds
-use Rattle.rp_events.specs.Worlds.{World, node_of, is_admission_of, asked_at, was_asked, request_of, outcome_at, outcome_of, asked_request_at, asked_request}
+use Rattle.rp_events.specs.Worlds.{World, node_of, is_admission_of, asked_at, was_asked, request_of, asked_request_at, asked_request}
 use Rattle.rp_journals.specs.Asked.{AskedOnce}
 use Rattle.rp_journals.specs.Entries.{at_node}
 use Rattle.rp_journals.proofs.Growing.{one_node}
-use Rattle.rp_journals.proofs.Asking.{any_at, asked_once}
+use Rattle.rp_journals.proofs.Asking.{any_at}
 use Rattle.rp_journals.proofs.Telling.{found_place}
 use Rattle.rp_journals.proofs.Ending.{found_passes}
 use Rattle.rp_journals.proofs.Waiting.{any_place, found_any, outcome_here}
-use Rattle.rp_clients.specs.Tries.{Try, MayCome, most_tries, tries_again, id_of, attempt_after, command_after, id_after, id_after_refusal, next_id}
+use Rattle.rp_journals.proofs.Itself.{equal_itself, request_itself}
+use Rattle.rp_clients.specs.Tries.{Try, most_tries, tries_again, id_of, attempt_after, command_after, id_after, id_after_refusal, next_id}
 use Rattle.rp_race.specs.declared.rules.RaceRules.{RaceRules}
 use Rattle.rp_race.specs.InTurn.{IsEarlier}
 use Rattle.rp_race.specs.Played.{requests_of, IsEndAt, WasTried, IsNextTry, AllTried, is_admission_by, IsAmong, IsTriesOf}
 use Rattle.rp_race.specs.Gives.{Tried, MayTry}
-
--- a request is itself
-equal_itself : (k : ℕ) → (k == k) ≡ true
-equal_itself k = eq-eqb k k refl
-
-option_itself : {A : Type 0} (eq : A → A → Bool) → ((x : A) → eq x x ≡ true) → (o : Option A) → option_eq eq o o ≡ true
-option_itself eq h None = refl
-option_itself eq h (Some x) = h x
-
-value_itself : (v : Value) → value_eq v v ≡ true
-value_itself v = (value_eq-Decides v v).1 refl
-
-both : (a b : Bool) → a ≡ true → b ≡ true → (a && b) ≡ true
-both true b e f = f
-both false b e f = absurd cc
-
-request_itself : (r : Request) → same_request r r ≡ true
-request_itself (Put key value) = both _ _ (equal_itself key) (value_itself value)
-request_itself (Add key by) = both _ _ (equal_itself key) (equal_itself by)
-request_itself (CPut key expect value) = both _ _ (both _ _ (equal_itself key) (option_itself value_eq value_itself expect)) (value_itself value)
-request_itself (Del key) = equal_itself key
-request_itself (Wipe span) = both _ _ (equal_itself span.start) (option_itself (λ a b. a == b) equal_itself span.end)
-request_itself (Move from to by) = both _ _ (both _ _ (equal_itself from) (equal_itself to)) (equal_itself by)
-request_itself (Split key) = equal_itself key
 
 -- an entry that admits an attempt
 pub admission_is : (id : CmdId) (ev : PastEvent) (answer : EventAnswer) → is_admission_of id (record { event = ev; answer = answer }) ≡ true → (range : ℕ) × (place : ℕ) × (ev ≡ past.Admit range id place)

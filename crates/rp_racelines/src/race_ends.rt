@@ -1,7 +1,6 @@
 //! How a race ended, by its nodes at the close.
 ghost use Rattle.std.specs.Prelude.{◌≡◌, ◌↔◌, ℕ, ◌*◌, ◌+◌, ◌<◌, ◌≤◌, ◌^◌, IsTrue, nat_le, length, map, count_by};
 ghost use Rattle.std.specs.List.{list_all, list_any};
-ghost use Rattle.rp_clients.specs.Tries.{tries_again};
 ghost use Rattle.rp_events.specs.Buffered.{is_live};
 ghost use Rattle.rp_events.specs.Lawful.{IsReached};
 ghost use Rattle.rp_events.specs.Nodes.{is_full, seat};
@@ -14,29 +13,11 @@ use crate::reply_lines::MOST_TRIES;
 use crate::verdicts::Verdict;
 use rp_base::RangeId;
 use rp_bufcore::BufferEnd;
+use rp_clients::tries_again;
 use rp_events::PastEvent;
 use rp_node::{Journal, Node, Nodes, Seen};
 use rp_race::RaceRules;
-use rp_request::{End, Outcome, Refusal, Replies, ReplyLine};
-
-/// Whether a command is tried again after this refusal.
-fn tries_again(refusal: &Refusal) -> bool
-    ensures { result ≡ tries_again refusal.now }
-{
-    match *refusal {
-        Refusal::NoReplica
-        | Refusal::NotLeaseHolder { .. }
-        | Refusal::RangeMismatch { .. }
-        | Refusal::Latched { .. } => true,
-        Refusal::ConditionFailed { .. }
-        | Refusal::IsText { .. }
-        | Refusal::Overflow { .. }
-        | Refusal::Short { .. }
-        | Refusal::TooWide { .. }
-        | Refusal::NotInside
-        | Refusal::SplitLimit { .. } => false,
-    }
-}
+use rp_request::{End, Outcome, Replies, ReplyLine};
 
 /// Whether the command of a reply line is open.
 fn is_open(line: &ReplyLine) -> bool
