@@ -13,6 +13,9 @@
 //! }
 //! ```
 //!
+//! Two kinds of events mostly send nothing, and then need no plan and no memory: a tick that is
+//! only counted (`only_counts`, `count_tick`), and the answer of a peer (`hear`).
+//!
 //! The caller ticks it (`Tick`: a silent follower stands for election, a leader beats), hands in
 //! each message that came (`Receive`), proposes payloads where it leads (`Propose`), and cuts the
 //! log at most at the applied index (`Cut`). Between `plan` and `commit` no other event comes; a
@@ -38,6 +41,7 @@ mod leaders;
 mod messages;
 mod plans;
 mod proposals;
+mod quiet;
 mod rafts;
 mod sends;
 mod steps;
