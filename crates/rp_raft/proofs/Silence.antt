@@ -19,7 +19,7 @@ pub moves_on : (log : LogState) (head : Head) (commit : ℕ) → ahead (with_com
 moves_on log head commit e = subst (λ (z : LogState). ◌≡◌ {A = RaftState} (record { head = with_commit head commit; log = z }) (advanced (record { head = head; log = z }))) (nothing_behind log) e
 
 -- a tick that is only counted
-tick_is : {S : Type 0} (st : RaftState) → IsTrue (only_counts st.head) → tick {S = S} st ≡ quiet (with_head st (counted st.head))
+pub tick_is : {S : Type 0} (st : RaftState) → IsTrue (only_counts st.head) → tick {S = S} st ≡ quiet (with_head st (counted st.head))
 tick_is {S} st only = go (is_leader st.head.role) (st.head.beat + 1 == 2) (st.head.silent + 1 == patience st.head.node) only where
   go : (leads beats stands : Bool) → cond leads (not beats) (not stands) ≡ true
       → ◌≡◌ {A = Draft S}

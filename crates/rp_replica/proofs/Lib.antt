@@ -9,3 +9,4 @@ pub mod Assigning
 pub mod Refreshing
 pub mod Ticking
 pub mod Reading
+pub mod Silence

@@ -5,3 +5,4 @@ pub mod Waits
 pub mod Turns
 pub mod Ends
 pub mod Refreshing
+pub mod Quiet

@@ -13,6 +13,9 @@
 //! let effects = replica.commit(plan);                // takes no memory: the event has happened
 //! ```
 //!
+//! Ticks that are only counted (`only_counts`, `count_tick`) and answers of peers behind which nothing
+//! is sent (`hear`) happen at once, without a plan.
+//!
 //! The caller (rp_node) keeps what `effects` hands out: the answer, messages with their receivers,
 //! and the attempts that ended with their outcomes. Between `plan` and `commit` no other event
 //! comes. An `Ask` or `Transfer` answers with an ask, which the caller puts into the buffer, as it
@@ -30,6 +33,7 @@ mod messages;
 mod moves;
 mod payloads;
 mod plans;
+mod quiet;
 mod rafts;
 mod refreshes;
 mod replicas;
