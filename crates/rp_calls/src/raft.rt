@@ -191,3 +191,39 @@ fn begins_from_a_snapshot_and_restarts(rt: HostRuntime) -> Result<(), Fail> {
     assert!(rt; raft.last() == (10, 3) && !raft.is_leader() && raft.leader().is_none());
     Ok(())
 }
+
+/// A leader's first tick is counted and no more, its second beats; a follower's are counted.
+#[test]
+fn counts_ticks(rt: HostRuntime) -> Result<(), Fail> {
+    let mut leader = started(rt.alloc(), 1, 3)?;
+    let mut follower = started(rt.alloc(), 2, 3)?;
+    assert!(rt; leader.only_counts() && follower.only_counts());
+    if leader.only_counts() {
+        leader.count_tick();
+    }
+    if follower.only_counts() {
+        follower.count_tick();
+    }
+    assert!(rt; !leader.only_counts() && follower.only_counts());
+    let out = tick(&mut leader, Seq::new(rt.alloc()))?;
+    assert!(rt; out.messages.len() == 2);
+    Ok(())
+}
+
+/// An answer to all that a leader has is heard, and moves its commit index; one that leaves entries to
+/// be sent is not.
+#[test]
+fn hears_an_answer(rt: HostRuntime) -> Result<(), Fail> {
+    let mut leader = started(rt.alloc(), 1, 3)?;
+    let _ = tick(&mut leader, payloads(rt.alloc(), 7)?)?;
+    let _ = tick(&mut leader, payloads(rt.alloc(), 8)?)?;
+    if !can_rise(&leader) {
+        return Err("no index is left".into());
+    }
+    assert!(rt; !leader.hear(node(2)?, 1, true, 1) && leader.commit_index() == 0);
+    if !can_rise(&leader) {
+        return Err("no index is left".into());
+    }
+    assert!(rt; leader.hear(node(2)?, 1, true, 2) && leader.commit_index() == 2);
+    Ok(())
+}

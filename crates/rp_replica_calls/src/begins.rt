@@ -1,7 +1,7 @@
 //! How a replica begins, and a copy of a message.
 use crate::samples::node;
 use rp_apply::ApplyState;
-use rp_base::{Bytes, LeaseIndex, LeaseSeq, NodeId, Seq};
+use rp_base::{Bytes, LeaseIndex, LeaseSeq, NodeId, Seq, Tick};
 use rp_raft::Raft;
 use rp_raftstep::Message;
 use rp_range::{first_desc, first_lease};
@@ -51,6 +51,23 @@ fn is_revived(rt: HostRuntime) -> Result<(), Fail> {
             && replica.first_round().is_none()
             && replica.into_applied().index() == 10
     );
+    Ok(())
+}
+
+/// A follower that has proposed nothing counts its ticks, and no more, until it stands.
+#[test]
+fn counts_ticks(rt: HostRuntime) -> Result<(), Fail> {
+    let (one, two) = (node(1)?, node(2)?);
+    let mut replica = kept(rt.alloc(), two, one);
+    let mut counted = 0;
+    for number in 1..20 {
+        let tick = Tick::new(number);
+        if replica.only_counts(tick)? {
+            replica.count_tick(tick);
+            counted += 1;
+        }
+    }
+    assert!(rt; counted == 15 && replica.term() == 4);
     Ok(())
 }
 
