@@ -8,6 +8,7 @@ pub mod Flushing
 pub mod Collecting
 pub mod Coming
 pub mod Ticking
+pub mod Silence
 pub mod Happening
 pub mod Briefly
 pub mod Journaling

@@ -195,7 +195,7 @@ pub within_eight : (w : NodeWide) (start : Node) (number : ℕ) (now : Core) (p 
 within_eight w start number now p left t = omega (arith, t.many)
 
 -- the next range
-next_number : (number : ℕ) → number < 8 → drop number range_numbers ≡ number ∷ drop (number + 1) range_numbers
+pub next_number : (number : ℕ) → number < 8 → drop number range_numbers ≡ number ∷ drop (number + 1) range_numbers
 next_number zero within = refl
 next_number (suc zero) within = refl
 next_number (suc (suc zero)) within = refl

@@ -1,5 +1,6 @@
 pub mod Cores
 pub mod Plans
+pub mod Quiet
 pub mod Steps
 pub mod Seen
 pub mod Waits

@@ -107,6 +107,27 @@ impl Core {
         Ok(())
     }
 
+    /// A message comes at the seat of its range: an answer behind which nothing is sent at once, and
+    /// any other by a plan. At want of memory nothing happens.
+    fn take_message(
+        &mut self,
+        from: NodeId,
+        range: RangeId,
+        message: Message<Snapshot>,
+    ) -> Result<(), NoMemory>
+        requires nodes { self.old.nodes ≤ 5 }
+        requires may { MayCome (node_of self.old) from range message }
+        ensures ok { OnOk result (node_of self.new
+            ≡ delivered (node_of self.old) from range message (seat (node_of self.old) range)) }
+        ensures room { OnOk result (1 ≤ self.new.logs.journal.spare) }
+        ensures err { OnErr result (node_of self.new ≡ node_of self.old) }
+    {
+        if self.hears(from, range, &message)? {
+            return Ok(());
+        }
+        self.receive(from, range, message)
+    }
+
     /// The message that the sender sent under this number comes. At want of memory nothing happens.
     #[inline(never)]
     pub(crate) fn deliver(
@@ -123,7 +144,7 @@ impl Core {
             message (seat (node_of self.old) range)))) }
         ensures err { OnErr result (node_of self.new ≡ node_of self.old) }
     {
-        self.receive(from, range, message)?;
+        self.take_message(from, range, message)?;
         let answer = EventAnswer::Done;
         self.logs
             .write(PastEvent::Deliver { from, number }, &answer);

@@ -38,6 +38,7 @@ mod journals;
 mod logs;
 mod nodes;
 mod producers;
+mod quiet;
 mod reserves;
 mod rounds;
 mod seats;

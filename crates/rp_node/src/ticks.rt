@@ -135,6 +135,9 @@ impl Core {
         ensures err { OnErr result (node_of self.new ≡ node_of self.old) }
     {
         let ticks = Tick::new(self.ticks.get() + 1);
+        if self.only_counts(ticks)? {
+            return self.count_tick(ticks);
+        }
         self.happen_all(NodeWide::Tick, ticks, PastEvent::Tick)
     }
 

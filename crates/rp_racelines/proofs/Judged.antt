@@ -276,15 +276,9 @@ whole_step s (past.Flush range) = by s where
   by s = refl
 whole_step s e = refl
 
-whole_fold : (s : Stage) (es : List JournalEntry) → is_between (fold (λ s e. stage_after s e.event) s es) ≡ fold (λ whole e. whole_after whole e.event) (is_between s) es
+whole_fold : (s : Stage) (es : List JournalEntry) → is_between (fold (λ s e. stage_after s e.event) s es) ≡ fold whole_after (is_between s) (map (λ e. e.event) es)
 whole_fold s [] = refl
-whole_fold s (e ∷ es) = whole_fold (stage_after s e.event) es ∙ ap (λ b. fold (λ (whole : Bool) (e : JournalEntry). whole_after whole e.event) b es) (whole_step s e.event)
-
--- a fold over the events alone
-pub events_whole : (whole : Bool) (es : List JournalEntry)
-    → fold whole_after whole (map (λ (e : JournalEntry). e.event) es) ≡ fold (λ (whole : Bool) (e : JournalEntry). whole_after whole e.event) whole es
-events_whole whole [] = refl
-events_whole whole (e ∷ es) = events_whole (whole_after whole e.event) es
+whole_fold s (e ∷ es) = whole_fold (stage_after s e.event) es ∙ ap (λ b. fold whole_after b (map (λ (e : JournalEntry). e.event) es)) (whole_step s e.event)
 
 whole_is : (es : List JournalEntry) → ends_whole es ≡ true → stage_of es ≡ between
 whole_is es h = by (stage_of es) refl (whole_fold between es ∙ h) where

@@ -1,5 +1,5 @@
 -- How a race is judged, step by step (this project).
-use Rattle.std.specs.Prelude.{ℕ, Bool, true, false, not, ◌||◌, nat_le, List, fold}
+use Rattle.std.specs.Prelude.{ℕ, Bool, true, false, not, ◌||◌, nat_le, List, fold, map}
 use Rattle.rp_request.specs.declared.notes.ReplyLine.{ReplyLine}
 use Rattle.rp_request.specs.declared.outcomes.End.{End}
 use Rattle.rp_request.specs.declared.outcomes.End.TheVariants.{Outcome, Tries, Unsent}
@@ -33,4 +33,4 @@ abbrev pub whole_behind : List PastEvent → Bool
 whole_behind events = fold whole_after true events
 
 abbrev pub ends_whole : List JournalEntry → Bool
-ends_whole journal = fold (λ whole e. whole_after whole e.event) true journal
+ends_whole journal = whole_behind (map (λ e. e.event) journal)

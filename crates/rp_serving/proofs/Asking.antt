@@ -1,6 +1,5 @@
 -- That an event by which a round may go on may be asked of the node, and the end of the round too.
-use Rattle.std.proofs.Common.{◌≡◌, ℕ, ◌≤◌, Bool, true, false, Option, None, Some, List, [], refl, arith}
-use Rattle.rp_base.specs.declared.items.Item.{Item}
+use Rattle.std.proofs.Common.{◌≡◌, ℕ, false, Some, [], refl, arith}
 use Rattle.rp_request.specs.Applied.{AppliedState}
 use Rattle.rp_events.specs.declared.node_events.Event.{Event}
 use Rattle.rp_events.specs.declared.node_events.Event.TheVariants as events

@@ -1,6 +1,6 @@
 -- Deliveries half way: letters of one sender, and sender after sender.
-use Rattle.std.proofs.Common.{◌≡◌, ℕ, zero, suc, ◌+◌, ◌-◌, ◌<◌, ◌≤◌, Bool, true, false, ⊎_elim, Option, None, Some, Result, Ok, Err, List, [], ◌∷◌, ◌++◌, length, take, refl, sym, ap, subst, ◌∙◌, arith}
-use Rattle.std.specs.Prelude.{slice_get, OnOk}
+use Rattle.std.proofs.Common.{◌≡◌, ℕ, zero, suc, ◌+◌, ◌-◌, ◌<◌, ◌≤◌, true, ⊎_elim, Option, Some, List, [], ◌∷◌, length, take, refl, sym, ap, subst, ◌∙◌, arith}
+use Rattle.std.specs.Prelude.{slice_get}
 use Rattle.std.proofs.lemmas.Bool.{cases_eq}
 use Rattle.rp_events.specs.Nodes.{Node}
 use Rattle.rp_events.specs.Worlds.{World, node_of}
@@ -8,7 +8,7 @@ use Rattle.rp_journals.proofs.Lists.{take_whole}
 use Rattle.rp_race.specs.declared.rules.RaceRules.{RaceRules}
 use Rattle.rp_race.specs.Rounds.{between, stage_of, handed_over, may_deliver, may_tick}
 use Rattle.rp_race.specs.Owed.{heard_from, carried}
-use Rattle.rp_race.specs.Gives.{AllSeen, HeardAll, HeardSome, IsPart}
+use Rattle.rp_race.specs.Gives.{HeardAll, HeardSome}
 use Rattle.rp_switch.specs.Views.{Knowledge}
 use Rattle.rp_serving.specs.declared.lanes.Lane.{Lane}
 use Rattle.rp_serving.specs.declared.letters.Letter.{Letter}

@@ -1,19 +1,16 @@
 -- The inside of a round goes on by an event that may come.
-use Rattle.std.proofs.Common.{◌≡◌, ℕ, eqb, eq-eqb, zero, suc, ◌+◌, ◌<◌, ◌≤◌, Bool, true, false, cond, ⊎_elim, Option, None, Some, List, [], ◌∷◌, ◌++◌, append-nil, append_assoc, length, refl, sym, ap, subst, ◌∙◌, arith}
-use Rattle.std.specs.Prelude.{not, ◌&&◌, ◌==◌, nat_le, nat_lt, IsTrue, option_to_list}
+use Rattle.std.proofs.Common.{◌≡◌, ℕ, eq-eqb, ◌+◌, ◌≤◌, Bool, true, false, cond, Option, None, Some, List, [], ◌∷◌, ◌++◌, append-nil, length, refl, sym, ap, subst, ◌∙◌, arith}
+use Rattle.std.specs.Prelude.{not, ◌&&◌, ◌==◌, nat_le, nat_lt, option_to_list}
 use Rattle.std.specs.Option.{option_map, option_map_or}
 use Rattle.std.proofs.lemmas.Bool.{and_from, le-leb, eqb-true}
 use Rattle.rp_base.specs.Limits.{buffer_capacity}
 use Rattle.rp_base.specs.declared.items.Item.{Item}
 use Rattle.rp_request.specs.Applied.{AppliedState}
-use Rattle.rp_raftstep.specs.declared.messages.Message.{Message}
 use Rattle.rp_events.specs.declared.answers.EventAnswer.{EventAnswer}
-use Rattle.rp_events.specs.declared.journals.JournalEntry.{JournalEntry}
-use Rattle.rp_events.specs.declared.journals.PastEvent.{PastEvent}
 use Rattle.rp_events.specs.declared.node_events.Event.{Event}
 use Rattle.rp_events.specs.declared.node_events.Event.TheVariants as events
 use Rattle.rp_events.specs.declared.parcels.Parcel.{Parcel}
-use Rattle.rp_events.specs.Lawful.{Lawful, HasWidths, IsReached, IsLater, is_lawful, is_allowed, is_sent_to}
+use Rattle.rp_events.specs.Lawful.{Lawful, HasWidths, IsReached, is_allowed}
 use Rattle.rp_events.specs.Nodes.{Node, NodeDone, is_full, parcel_of}
 use Rattle.rp_events.specs.NodeEvents.{past_of, step}
 use Rattle.rp_events.specs.Worlds as worlds
@@ -22,7 +19,6 @@ use Rattle.rp_journals.specs.Asked.{all_at}
 use Rattle.rp_journals.specs.Entries.{at_node}
 use Rattle.rp_journals.specs.Growth.{Begins, WorldGrows}
 use Rattle.rp_journals.proofs.Growing.{run_grows, later_grows, world_trans}
-use Rattle.rp_journals.proofs.Lists.{begins_refl}
 use Rattle.rp_journals.proofs.Reading.{step_journal}
 use Rattle.rp_journals.proofs.Staying.{parcels_stay}
 use Rattle.rp_race.specs.declared.rules.RaceRules.{RaceRules}
@@ -31,7 +27,7 @@ use Rattle.rp_race.specs.Owed.{number_from, heard_from, carried}
 use Rattle.rp_race.specs.Gives.{kept_as, is_within_round, AllSeen, WasSeen, HeardSome, IsPart, IsSoFar}
 use Rattle.rp_race.proofs.Going.{so_far_further, so_far_reached, heard_by}
 use Rattle.rp_race.proofs.Keeping.{reached_size}
-use Rattle.rp_serving.specs.Inside.{happening_of, IsUnderWay, IsNextFrom, IsDue, MayGoOn, WentOn}
+use Rattle.rp_serving.specs.Inside.{happening_of, IsUnderWay, IsDue, MayGoOn, WentOn}
 
 -- a scene is lawful at a node that the world has and that is not full
 pub lawful_there : (w : World) (node : ℕ) (x : Happening) (n : Node) → node_of w node ≡ Some n → is_full n ≡ false → is_allowed w node x ≡ true → HasWidths x → Lawful w (at_node node x)

@@ -1,12 +1,10 @@
 -- A node keeps its number, and within a round its count of rounds.
-use Rattle.std.proofs.Common.{◌≡◌, ℕ, zero, suc, ◌+◌, Bool, true, false, cond, ⊎_elim, Option, None, Some, List, [], ◌∷◌, ◌++◌, length, map, length-append, refl, sym, ap, subst, ◌∙◌, arith}
-use Rattle.std.specs.Prelude.{count_by, slice_get}
+use Rattle.std.proofs.Common.{◌≡◌, ℕ, zero, suc, ◌+◌, true, false, cond, ⊎_elim, Some, List, [], ◌∷◌, length, map, length-append, refl, sym, ap, subst, ◌∙◌, arith}
+use Rattle.std.specs.Prelude.{slice_get}
 use Rattle.std.proofs.lemmas.List.{length-map, map-append}
 use Rattle.rp_base.proofs.Counts.{count_push}
 use Rattle.rp_raftstep.specs.RaftState.{nodes_to}
-use Rattle.rp_request.specs.Applied.{AppliedState}
 use Rattle.rp_events.specs.declared.journals.JournalEntry.{JournalEntry}
-use Rattle.rp_events.specs.declared.node_events.Event.{Event}
 use Rattle.rp_events.specs.Lawful.{IsReached}
 use Rattle.rp_events.specs.Nodes.{Node, first_node}
 use Rattle.rp_events.specs.NodeEvents.{past_of, step}
@@ -14,7 +12,7 @@ use Rattle.rp_events.specs.Worlds as worlds
 use Rattle.rp_events.specs.Worlds.{World, Happening, node_of, taken_in, happens, run, first_world}
 use Rattle.rp_journals.specs.Asked.{all_at}
 use Rattle.rp_journals.specs.Entries.{at_node}
-use Rattle.rp_journals.specs.Growth.{Grows, WorldGrows}
+use Rattle.rp_journals.specs.Growth.{WorldGrows}
 use Rattle.rp_journals.proofs.Growing.{Happened, happened, one_node, run_grows, with_same}
 use Rattle.rp_journals.proofs.Lists.{PushCases, Before, Last, get_push}
 use Rattle.rp_journals.proofs.Reading.{step_journal, entry_of}

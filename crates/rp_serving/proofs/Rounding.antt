@@ -10,15 +10,14 @@ use Rattle.rp_events.specs.declared.journals.PastEvent.TheVariants as past
 use Rattle.rp_events.specs.declared.node_events.Event.TheVariants as events
 use Rattle.rp_events.specs.Lawful.{IsReached}
 use Rattle.rp_events.specs.Nodes.{Node, is_full}
-use Rattle.rp_events.specs.NodeEvents.{step}
 use Rattle.rp_events.specs.Worlds.{World, node_of, run}
 use Rattle.rp_journals.specs.Asked.{all_at}
 use Rattle.rp_journals.proofs.Reading.{step_journal, entry_of}
 use Rattle.rp_race.specs.declared.rules.Handover.{Handover}
 use Rattle.rp_race.specs.declared.rules.RaceRules.{RaceRules}
-use Rattle.rp_race.specs.Rounds.{between, stage_of, handed_over, is_transfer, handovers_of, due_handover, first_waiting, may_apply, may_come}
-use Rattle.rp_race.specs.Owed.{heard_from, carried}
-use Rattle.rp_race.specs.Gives.{AllSeen, HeardAll, HeardSome, IsPart, MayEnd, NoneBehind, after_round}
+use Rattle.rp_race.specs.Rounds.{stage_of, handed_over, is_transfer, handovers_of, due_handover, first_waiting, may_apply, may_come}
+use Rattle.rp_race.specs.Owed.{heard_from}
+use Rattle.rp_race.specs.Gives.{AllSeen, HeardAll, IsPart, MayEnd, NoneBehind, after_round}
 use Rattle.rp_race.proofs.Going.{so_far_reached}
 use Rattle.rp_race.proofs.Hearing.{heard_further}
 use Rattle.rp_switch.specs.Gifts.{IsRound, IsBrokenRound}
@@ -28,9 +27,9 @@ use Rattle.rp_serving.specs.declared.lanes.Lane.{Lane}
 use Rattle.rp_serving.specs.declared.mails.Mail.{Mail}
 use Rattle.rp_serving.specs.Inside.{IsUnderWay}
 use Rattle.rp_serving.specs.Letters.{letters_of, AreLeft}
-use Rattle.rp_serving.specs.Mails.{lane_in, IsLaneOf, IsUpToDate, IsMailOf, IsWhole, LagsIn, IsEmptiedLane, IsEmptied}
+use Rattle.rp_serving.specs.Mails.{lane_in, IsUpToDate, IsMailOf, IsWhole, LagsIn, IsEmptiedLane, IsEmptied}
 use Rattle.rp_serving.specs.Playing.{HandsWithin, HasIt, taken_from}
-use Rattle.rp_serving.specs.Turns.{HearsSame, HearsNothing, PlaysWhole}
+use Rattle.rp_serving.specs.Turns.{HearsSame, PlaysWhole}
 use Rattle.rp_serving.proofs.Halfway.{mail_heard, under_way_first, there_in}
 use Rattle.rp_serving.proofs.Lettered.{none_left, are_left}
 use Rattle.rp_serving.proofs.Onward.{so_far_of}

@@ -1,22 +1,21 @@
 -- One event of each kind: why it may come, and what it leaves.
-use Rattle.std.proofs.Common.{◌≡◌, ℕ, eqb, eq-eqb, zero, suc, ◌+◌, ◌-◌, ◌<◌, ◌≤◌, Bool, true, false, cond, Option, None, Some, List, [], ◌∷◌, ◌++◌, length, refl, sym, ap, subst, ◌∙◌, arith}
-use Rattle.std.specs.Prelude.{not, ◌&&◌, ◌==◌, option_to_list, slice_get, is_some}
+use Rattle.std.proofs.Common.{◌≡◌, ℕ, eq-eqb, ◌+◌, ◌-◌, ◌≤◌, Bool, true, false, cond, Option, None, Some, List, [], ◌∷◌, ◌++◌, refl, sym, ap, ◌∙◌, arith}
+use Rattle.std.specs.Prelude.{not, ◌==◌, option_to_list, slice_get, is_some}
 use Rattle.std.proofs.lemmas.Bool.{and_from, le-leb, eqb-true}
 use Rattle.rp_request.specs.Applied.{AppliedState}
 use Rattle.rp_raftstep.specs.declared.messages.Message.{Message}
-use Rattle.rp_events.specs.declared.node_events.Event.{Event}
 use Rattle.rp_events.specs.declared.node_events.Event.TheVariants as events
 use Rattle.rp_events.specs.Nodes.{Node}
 use Rattle.rp_events.specs.Worlds.{World, node_of}
 use Rattle.rp_race.specs.declared.rules.Handover.{Handover}
 use Rattle.rp_race.specs.declared.rules.RaceRules.{RaceRules}
-use Rattle.rp_race.specs.Rounds.{Stage, stage_of, stage_after, handed_over, flushing, collected, applying, live_ranges, first_waiting, is_number, is_handover, due_handover, all_flushed, may_apply, may_deliver, may_tick, may_collect, may_flush, may_transfer, may_follow, may_come}
-use Rattle.rp_race.specs.Owed.{heard_from, carried}
+use Rattle.rp_race.specs.Rounds.{stage_of, handed_over, flushing, collected, live_ranges, first_waiting, is_number, is_handover, due_handover, all_flushed, may_apply, may_deliver, may_tick, may_collect, may_flush, may_transfer}
+use Rattle.rp_race.specs.Owed.{heard_from}
 use Rattle.rp_serving.specs.declared.letters.Letter.{Letter}
-use Rattle.rp_serving.specs.Inside.{IsUnderWay, IsNextFrom, MayGoOn, WentOn}
+use Rattle.rp_serving.specs.Inside.{MayGoOn, WentOn}
 use Rattle.rp_serving.specs.Letters.{letters_of, AreLeft}
 use Rattle.rp_serving.proofs.Lettered.{Stands, left_stands, stands_of, goes_to, left_next}
-use Rattle.rp_serving.proofs.Went.{went_stage, went_heard, went_unheard, went_handed, went_unhanded}
+use Rattle.rp_serving.proofs.Went.{went_stage, went_heard, went_unheard, went_unhanded}
 
 -- a delivery
 pub may_deliver_next : (rules : RaceRules) (nodes node : ℕ) (seen : World) (n : Node) (from : ℕ) (l : Letter) (rest : List Letter) (m : Node) → node_of seen from ≡ Some m → (from ≡ node → ⊥)

@@ -1,5 +1,5 @@
 -- A step of the code is an event by which the round goes on.
-use Rattle.std.proofs.Common.{◌≡◌, ℕ, ◌≤◌, ◌-◌, ◌<◌, ◌+◌, Bool, true, false, Option, None, Some, Result, Ok, Err, List, [], ◌∷◌, ◌++◌, length, refl, sym, ap, subst, ◌∙◌, arith}
+use Rattle.std.proofs.Common.{◌≡◌, ℕ, ◌≤◌, ◌-◌, ◌<◌, ◌+◌, true, false, Result, Ok, Err, List, [], length, refl, sym, ap, subst, ◌∙◌, arith}
 use Rattle.std.specs.Prelude.{OnOk, OnErr, nat_le}
 use Rattle.std.proofs.lemmas.Bool.{leb-false}
 use Rattle.rp_base.specs.Limits.{buffer_capacity}
@@ -10,11 +10,10 @@ use Rattle.rp_events.specs.declared.node_events.Event.{Event}
 use Rattle.rp_events.specs.declared.node_events.Event.TheVariants as events
 use Rattle.rp_events.specs.Lawful.{IsReached}
 use Rattle.rp_events.specs.Nodes.{Node, Status, Absent, Live, Removed, seat, is_full, journal_end}
-use Rattle.rp_events.specs.Worlds.{World, node_of, taken_in}
-use Rattle.rp_node.specs.Steps.{Held, IsLeft, Collected, Taken, Steps}
-use Rattle.rp_race.specs.declared.rules.Handover.{Handover}
+use Rattle.rp_events.specs.Worlds.{World, taken_in}
+use Rattle.rp_node.specs.Steps.{Held, Collected, Taken, Steps}
 use Rattle.rp_race.specs.declared.rules.RaceRules.{RaceRules}
-use Rattle.rp_race.specs.Rounds.{Stage, stage_of, handed_over, flushing, live_ranges, may_deliver, may_apply}
+use Rattle.rp_race.specs.Rounds.{stage_of, handed_over, may_apply}
 use Rattle.rp_race.specs.Gives.{AllSeen}
 use Rattle.rp_serving.specs.declared.letters.Letter.{Letter}
 use Rattle.rp_serving.specs.declared.faults.BrokenOff.{BrokenOff}

@@ -1,6 +1,6 @@
 -- What an event of a round's inside leaves: how far the round has come, what was heard, what was handed over.
-use Rattle.std.proofs.Common.{◌≡◌, ℕ, zero, suc, ◌+◌, ◌<◌, ◌≤◌, Bool, true, false, cond, Option, None, Some, List, [], ◌∷◌, ◌++◌, append-nil, length, length-append, refl, sym, ap, subst, ◌∙◌, arith}
-use Rattle.std.specs.Prelude.{option_to_list, count_by, nat_le}
+use Rattle.std.proofs.Common.{◌≡◌, ℕ, ◌+◌, ◌≤◌, true, false, cond, Option, None, Some, [], ◌∷◌, ◌++◌, append-nil, length, length-append, refl, ap, ◌∙◌, arith}
+use Rattle.std.specs.Prelude.{option_to_list}
 use Rattle.std.specs.List.{cons_option}
 use Rattle.std.proofs.lemmas.Bool.{le-leb, leb-true}
 use Rattle.rp_base.proofs.Counts.{count_push}
@@ -8,14 +8,13 @@ use Rattle.rp_request.specs.Applied.{AppliedState}
 use Rattle.rp_events.specs.declared.journals.JournalEntry.{JournalEntry}
 use Rattle.rp_events.specs.declared.node_events.Event.{Event}
 use Rattle.rp_events.specs.declared.node_events.Event.TheVariants as events
-use Rattle.rp_events.specs.Lawful.{IsReached}
 use Rattle.rp_events.specs.Nodes.{Node}
 use Rattle.rp_events.specs.NodeEvents.{past_of}
-use Rattle.rp_events.specs.Worlds.{World, node_of}
+use Rattle.rp_events.specs.Worlds.{World}
 use Rattle.rp_race.specs.declared.rules.RaceRules.{RaceRules}
 use Rattle.rp_race.specs.Rounds.{Stage, stage_of, stage_after, is_transfer, handed_over, may_deliver, may_tick}
 use Rattle.rp_race.specs.Rounds as rounds
-use Rattle.rp_race.specs.Owed.{number_from, heard_from, is_round, rounds_in}
+use Rattle.rp_race.specs.Owed.{number_from, heard_from}
 use Rattle.rp_race.proofs.Hearing.{heard_further}
 use Rattle.rp_race.proofs.Ordered.{stage_push}
 use Rattle.rp_serving.specs.Inside.{WentOn}

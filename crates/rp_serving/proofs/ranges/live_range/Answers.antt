@@ -1,4 +1,4 @@
-use Rattle.std.proofs.Common.{rules, ◌≡◌, ap, sym, ◌∙◌, suc, true, false}
+use Rattle.std.proofs.Common.{rules, ◌≡◌, ap, sym, ◌∙◌, true, false}
 use Rattle.rp_events.specs.Buffered.{is_live}
 use Rattle.rp_events.specs.Nodes.{seat}
 use Rattle.rp_serving.proofs.Ranging.{place_passed, place_later}

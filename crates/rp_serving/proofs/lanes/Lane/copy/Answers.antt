@@ -1,4 +1,4 @@
-use Rattle.std.proofs.Common.{rules, ◌≡◌, ◌+◌, arith}
+use Rattle.std.proofs.Common.{rules, ◌+◌, arith}
 use Rattle.rp_serving.proofs.Copying.{copy_more}
 use Rattle.rp_serving.proofs.lanes.Lane.copy.Goals as goal
 

@@ -1,4 +1,4 @@
-use Rattle.std.proofs.Common.{◌≡◌, false, sym, ◌∙◌}
+use Rattle.std.proofs.Common.{false, sym, ◌∙◌}
 use Rattle.rp_events.specs.Nodes.{is_full}
 use Rattle.rp_serving.proofs.Asking.{may_ask}
 use Rattle.rp_serving.proofs.Stepping.{steps_on}

@@ -1,6 +1,5 @@
 use Rattle.std.proofs.Common.{rules}
-use Rattle.rp_serving.specs.Turns.{known_of}
-use Rattle.rp_serving.proofs.Halfway.{FromLeft, from_first, from_is, from_next, from_more, from_all}
+use Rattle.rp_serving.proofs.Halfway.{from_first, from_is, from_next, from_more, from_all}
 use Rattle.rp_serving.proofs.turns.Turn.deliver_from.Goals as goal
 
 pub loop-letter-init : goal.loop-letter-init

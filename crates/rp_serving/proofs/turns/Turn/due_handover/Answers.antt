@@ -1,5 +1,5 @@
-use Rattle.std.proofs.Common.{rules, arith, ◌≡◌, ◌∙◌, ap, subst}
-use Rattle.std.specs.Prelude.{◌%◌, slice_get}
+use Rattle.std.proofs.Common.{arith, ◌∙◌, ap}
+use Rattle.std.specs.Prelude.{slice_get}
 use Rattle.rp_race.specs.Rounds.{handovers_of}
 use Rattle.rp_serving.proofs.Rounding.{due_is}
 use Rattle.rp_serving.proofs.turns.Turn.due_handover.Goals as goal

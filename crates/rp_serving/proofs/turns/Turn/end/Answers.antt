@@ -1,4 +1,4 @@
-use Rattle.std.proofs.Common.{◌≡◌, false, sym, ◌∙◌}
+use Rattle.std.proofs.Common.{false, sym, ◌∙◌}
 use Rattle.rp_serving.proofs.Asking.{may_end}
 use Rattle.rp_serving.proofs.turns.Turn.end.Goals as goal
 

@@ -1,4 +1,4 @@
-use Rattle.std.proofs.Common.{rules, ◌≡◌, ◌∙◌, sym, subst}
+use Rattle.std.proofs.Common.{rules, ◌∙◌, sym, subst}
 use Rattle.rp_serving.specs.Playing.{HandsWithin}
 use Rattle.rp_serving.specs.Turns.{known_of}
 use Rattle.rp_serving.proofs.Rounding.{hand_within}

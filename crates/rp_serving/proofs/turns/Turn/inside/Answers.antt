@@ -1,4 +1,4 @@
-use Rattle.std.proofs.Common.{◌≡◌, ◌∙◌, sym, arith}
+use Rattle.std.proofs.Common.{◌∙◌, sym, arith}
 use Rattle.rp_serving.specs.Turns.{known_of}
 use Rattle.rp_serving.proofs.Rounding.{heard_on, same_again, may_end_now}
 use Rattle.rp_serving.proofs.Stepping.{ticked_heard}

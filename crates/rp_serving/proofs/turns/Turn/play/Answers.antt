@@ -1,4 +1,4 @@
-use Rattle.std.proofs.Common.{◌≡◌, ◌∙◌, sym, subst}
+use Rattle.std.proofs.Common.{sym, subst}
 use Rattle.rp_events.specs.Nodes.{Node}
 use Rattle.rp_serving.specs.Mails.{IsMailOf, IsEmptied}
 use Rattle.rp_serving.specs.Turns.{known_of}
