@@ -4,28 +4,17 @@ use Rattle.std.specs.Prelude.{slice_get, is_some}
 use Rattle.std.specs.List.{filter, find}
 use Rattle.std.proofs.lemmas.List.{drop_all}
 use Rattle.rp_events.specs.Nodes.{range_numbers}
-
--- eight numbers
-pub numbers_at : (k : ℕ) → k < 8 → drop k range_numbers ≡ k ∷ drop (k + 1) range_numbers
-numbers_at zero low = refl
-numbers_at (suc zero) low = refl
-numbers_at (suc (suc zero)) low = refl
-numbers_at (suc (suc (suc zero))) low = refl
-numbers_at (suc (suc (suc (suc zero)))) low = refl
-numbers_at (suc (suc (suc (suc (suc zero))))) low = refl
-numbers_at (suc (suc (suc (suc (suc (suc zero)))))) low = refl
-numbers_at (suc (suc (suc (suc (suc (suc (suc zero))))))) low = refl
-numbers_at (suc (suc (suc (suc (suc (suc (suc (suc k)))))))) low = absurd (omega (arith, low))
+use Rattle.rp_node.proofs.Ticking.{next_number}
 
 -- what is found from a number on
 pub find_here : (p : ℕ → Bool) (k : ℕ) → k < 8 → p k ≡ true → find p (drop k range_numbers) ≡ Some k
-find_here p k low is = ap (find p) (numbers_at k low) ∙ go (p k) is where
+find_here p k low is = ap (find p) (next_number k low) ∙ go (p k) is where
   go : (b : Bool) → b ≡ true → cond b (Some k) (find p (drop (k + 1) range_numbers)) ≡ Some k
   go true e = refl
   go false e = absurd cc
 
 pub find_later : (p : ℕ → Bool) (k : ℕ) → k < 8 → p k ≡ false → find p (drop k range_numbers) ≡ find p (drop (k + 1) range_numbers)
-find_later p k low is = ap (find p) (numbers_at k low) ∙ go (p k) is where
+find_later p k low is = ap (find p) (next_number k low) ∙ go (p k) is where
   go : (b : Bool) → b ≡ false → cond b (Some k) (find p (drop (k + 1) range_numbers)) ≡ find p (drop (k + 1) range_numbers)
   go true e = absurd cc
   go false e = refl
@@ -46,17 +35,17 @@ filter_later p x xs is = go (p x) is where
 -- the place among those that pass a test, from a number on
 pub place_here : (p : ℕ → Bool) (k left : ℕ) → k < 8 → p k ≡ true → left ≡ 0 → slice_get (filter p (drop k range_numbers)) left ≡ Some k
 place_here p k left low is none =
-    ap (slice_get (filter p (drop k range_numbers))) none ∙ ap (λ l. slice_get (filter p l) 0) (numbers_at k low)
+    ap (slice_get (filter p (drop k range_numbers))) none ∙ ap (λ l. slice_get (filter p l) 0) (next_number k low)
     ∙ ap (λ l. slice_get l 0) (filter_here p k (drop (k + 1) range_numbers) is)
 
 pub place_passed : (p : ℕ → Bool) (k left less : ℕ) → k < 8 → p k ≡ true → left ≡ suc less → slice_get (filter p (drop k range_numbers)) left ≡ slice_get (filter p (drop (k + 1) range_numbers)) less
 place_passed p k left less low is more =
-    ap (slice_get (filter p (drop k range_numbers))) more ∙ ap (λ l. slice_get (filter p l) (suc less)) (numbers_at k low)
+    ap (slice_get (filter p (drop k range_numbers))) more ∙ ap (λ l. slice_get (filter p l) (suc less)) (next_number k low)
     ∙ ap (λ l. slice_get l (suc less)) (filter_here p k (drop (k + 1) range_numbers) is)
 
 pub place_later : (p : ℕ → Bool) (k left : ℕ) → k < 8 → p k ≡ false → slice_get (filter p (drop k range_numbers)) left ≡ slice_get (filter p (drop (k + 1) range_numbers)) left
 place_later p k left low is =
-    ap (λ l. slice_get (filter p l) left) (numbers_at k low) ∙ ap (λ l. slice_get l left) (filter_later p k (drop (k + 1) range_numbers) is)
+    ap (λ l. slice_get (filter p l) left) (next_number k low) ∙ ap (λ l. slice_get l left) (filter_later p k (drop (k + 1) range_numbers) is)
 
 pub numbers_end : (k : ℕ) → 8 ≤ k → drop k range_numbers ≡ []
 numbers_end k high = drop_all k range_numbers high
